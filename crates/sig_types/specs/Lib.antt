@@ -1,0 +1,5 @@
+pub mod Arity
+pub mod Number
+pub mod Pass
+pub mod Turns
+pub mod Words
