@@ -1,7 +1,9 @@
 pub mod Arity
+pub mod Counts
 pub mod FirstRefused
 pub mod Number
 pub mod Pass
+pub mod Recorded
 pub mod Text
 pub mod Turns
 pub mod Words

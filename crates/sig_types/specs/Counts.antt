@@ -1,0 +1,31 @@
+-- The counts of detectors, second by second.
+use Rattle.std.specs.Prelude.{◌≡◌, ℕ, ◌+◌, ◌-◌, ◌<◌, ◌≤◌, List, [], ◌∷◌, ◌++◌, length, take, sum_by, slice_index_or}
+
+-- one frame: the fronts and the rears of detectors 1 to 64 in a second; place p is detector p + 1
+abbrev pub Counts : Type 0
+Counts = List (ℕ × ℕ)
+
+pub data Kind : Type 0 where
+  fronts : Kind
+  rears : Kind
+
+abbrev pub count_of : Kind → ℕ × ℕ → ℕ
+count_of fronts c = c.0
+count_of rears c = c.1
+
+-- a detector's fronts or rears in one frame
+abbrev pub count_in : Kind → ℕ → Counts → ℕ
+count_in kind d frame = count_of kind (slice_index_or frame (d - 1) (0, 0))
+
+-- a detector's fronts or rears in seconds 1 to j; place j of a list of frames is second j + 1
+abbrev pub count_to : Kind → List Counts → ℕ → ℕ → ℕ
+count_to kind frames d j = sum_by (count_in kind d) (take j frames)
+
+-- A further frame can be taken: fewer than 604,801 seconds were made, and with it each detector's rears so far are at most
+-- its fronts so far, and these at most 2,147,483,647.
+pub record Takes (frames : List Counts) (frame : Counts) : Type 0 where
+  pub few : length frames < 604801
+  pub size : length frame ≡ 64
+  pub counts : (d : ℕ) → 1 ≤ d → d ≤ 64 →
+      (count_to rears (frames ++ frame ∷ []) d (length frames + 1) ≤ count_to fronts (frames ++ frame ∷ []) d (length frames + 1))
+      × (count_to fronts (frames ++ frame ∷ []) d (length frames + 1) ≤ 2147483647)
