@@ -1,0 +1,12 @@
+pub mod Name
+pub mod Bytes
+pub mod Syntax
+pub mod Tree
+pub mod Names
+pub mod Value
+pub mod Rest
+pub mod Mean
+pub mod Shape
+pub mod Sizes
+pub mod Sound
+pub mod Parsed

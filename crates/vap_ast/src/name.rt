@@ -1,0 +1,132 @@
+// Names of a program, and what they are.
+ghost use Rattle.std.specs.Prelude.{◌≡◌, IfOk};
+ghost use Rattle.vap_ast.specs.Name.{lowered, IsWord};
+ghost use Rattle.vap_ast.specs.Bytes.{same_name};
+
+use sig_types::Memory;
+use std::alloc::Global;
+use std::hash::{Hash, Hasher};
+use std::marker::Model;
+
+/// A word of a program's text, whatever the case of its letters. Contracts see it as its bytes in lower case. Two
+/// names are equal exactly where these bytes are, and they hash by them.
+#[derive(Debug, Drop)]
+pub struct Name {
+    bytes: Vec<u8>,
+}
+
+impl Model for Name {
+    ghost use Rattle.std.specs.Prelude.{List, ℕ};
+    ghost use Rattle.std.specs.Coded.{coded_list, coded_ℕ};
+
+    ghost Value = { List ℕ };
+
+    ghost coded = { coded_list coded_ℕ };
+
+    ghost view = { λ n. n.bytes.items };
+}
+
+impl Name {
+    /// The name of a word, which is a letter or `_` and then letters, digits and `_`.
+    pub fn make(alloc: Global, bytes: &[u8]) -> Result<Name, Memory>
+        requires { IsWord bytes.now }
+        ensures { IfOk result (λ name. name ≡ lowered bytes.now) }
+    {
+        match bytes.iter().map(|b| b.to_ascii_lowercase()).collect(alloc) {
+            Ok(bytes) => Ok(Name { bytes }),
+            Err(_) => Err(Memory),
+        }
+    }
+
+    /// An equal name, with memory of its own.
+    pub fn copy(&self, alloc: Global) -> Result<Name, Memory>
+        ensures { IfOk result (λ name. name ≡ self.now) }
+    {
+        match Vec::from_slice(alloc, self.bytes.as_slice()) {
+            Ok(bytes) => Ok(Name { bytes }),
+            Err(_) => Err(Memory),
+        }
+    }
+
+    /// The bytes of the name, in lower case.
+    pub fn bytes(&self) -> &[u8]
+        ensures { result.now ≡ self.now }
+    {
+        self.bytes.as_slice()
+    }
+
+    /// Whether two names are the same.
+    pub fn same(&self, other: &Name) -> bool
+        ensures { result ≡ same_name self.now other.now }
+    {
+        self.bytes() == other.bytes()
+    }
+}
+
+impl PartialEq for Name {
+    ghost use Rattle.std.specs.Str.{bytes_eq};
+    ghost use Rattle.std.proofs.Common.{rules};
+    ghost use Rattle.std.specs.Cmp.Rules.{comparing};
+
+    ghost eq = { λ a b. bytes_eq a b };
+
+    ghost laws = { Prim.search (comparing, rules) };
+
+    fn eq(&self, other: &Name) -> bool {
+        self.bytes() == other.bytes()
+    }
+}
+
+impl Eq for Name {
+    ghost use Rattle.std.proofs.Common.{rules};
+    ghost use Rattle.std.specs.Cmp.Rules.{comparing};
+
+    ghost laws = { Prim.search (comparing, rules) };
+}
+
+impl Hash for Name {
+    ghost use Rattle.std.specs.Prelude.{◌++◌};
+    ghost use Rattle.std.proofs.Common.{rules};
+    ghost use Rattle.std.specs.Hash as fed;
+    ghost use Rattle.std.specs.Cmp.Rules.{comparing, hashing};
+
+    ghost hash_input = { λ a. fed.slice fed.u8 a };
+
+    ghost respects_eq = { Prim.search (hashing, rules) };
+
+    fn hash<H: Hasher>(&self, state: &mut H) {
+        self.bytes().hash(state);
+    }
+}
+
+/// What a name of a program is: a constant with its value, or an array, a subroutine, a timer or a variable with its
+/// number from 0.
+#[derive(Clone, Copy, PartialEq, Eq, Debug, Drop)]
+pub enum Meaning {
+    Constant(i32),
+    Array(u16),
+    Sub(u16),
+    Timer(u16),
+    Variable(u16),
+}
+
+/// A name of a program and what it is.
+#[derive(Drop)]
+pub struct Entry {
+    pub name: Name,
+    pub meaning: Meaning,
+}
+
+#[cfg(test)]
+mod tests {
+    use super::*;
+    use std::test::Fail;
+
+    #[test]
+    fn any_case_is_one_name(rt: HostRuntime) -> Result<(), Fail> {
+        let name = Name::make(rt.alloc(), b"Stage_2")?;
+        assert_eq!(rt; name.bytes(), b"stage_2".as_slice());
+        assert_eq!(rt; name.copy(rt.alloc())?, name);
+        Ok(())
+    }
+}

@@ -1,0 +1,153 @@
+// The trees of a program.
+use crate::name::Name;
+use sig_types::{CommandKind, ReadingKind, TimerKind};
+
+/// A program as its text writes it: the declarations in order, and the main routine, which has the program's name.
+#[derive(Debug, Drop, PartialEq)]
+pub struct Program {
+    pub consts: Vec<ConstDecl>,
+    pub arrays: Vec<ArrayDecl>,
+    pub subs: Vec<Routine>,
+    pub main: Routine,
+}
+
+/// A declared constant, with the line of its name, from 1.
+#[derive(Debug, Drop, PartialEq)]
+pub struct ConstDecl {
+    pub name: Name,
+    pub line: u32,
+    pub value: i32,
+}
+
+/// A declared array, with the line of its name, the number of cells that it declares and the values that it lists.
+#[derive(Debug, Drop, PartialEq)]
+pub struct ArrayDecl {
+    pub name: Name,
+    pub line: u32,
+    pub size: i32,
+    pub values: Vec<i32>,
+}
+
+/// A subroutine or the main routine, with the line of its name.
+#[derive(Debug, Drop, PartialEq)]
+pub struct Routine {
+    pub name: Name,
+    pub line: u32,
+    pub body: Items,
+}
+
+/// Labels and statements, one after another.
+#[cycle(tree)]
+#[derive(Debug, Drop, PartialEq)]
+pub struct Items(pub Vec<Item>);
+
+/// A label, with the line of its name, or a statement, with the line of its first token.
+#[cycle(tree)]
+#[derive(Debug, Drop, PartialEq)]
+pub enum Item {
+    Label { name: Name, line: u32 },
+    Step { line: u32, what: Stmt },
+}
+
+/// A statement. An `IF` without `ELSE` has an empty list there; `GOTO PROG_ENDE` has the label `prog_ende`.
+#[cycle(tree)]
+#[derive(Debug, Drop, PartialEq)]
+pub enum Stmt {
+    Assign {
+        target: Name,
+        value: Expr,
+    },
+    Cell {
+        array: Name,
+        index: Expr,
+        value: Expr,
+    },
+    If {
+        test: Expr,
+        yes: Items,
+        no: Items,
+    },
+    Goto {
+        label: Name,
+    },
+    Gosub {
+        sub: Name,
+    },
+    Do {
+        kind: CommandKind,
+        args: Vec<Expr>,
+    },
+    Timer {
+        kind: TimerKind,
+        timer: Name,
+    },
+    Trace,
+}
+
+/// An expression. Brackets are no part of it.
+#[derive(Debug, Drop, PartialEq)]
+pub enum Expr {
+    Literal(i32),
+    Name(Name),
+    Cell {
+        array: Name,
+        index: Box<Expr>,
+    },
+    Unary {
+        op: UnaryOp,
+        arg: Box<Expr>,
+    },
+    Binary {
+        op: BinaryOp,
+        left: Box<Expr>,
+        right: Box<Expr>,
+    },
+    Read {
+        kind: ReadingKind,
+        args: Vec<Expr>,
+    },
+}
+
+/// An operator on one number.
+#[derive(Clone, Copy, PartialEq, Eq, Debug, Drop)]
+pub enum UnaryOp {
+    Neg,
+    Not,
+}
+
+/// An operator on two numbers; both sides are always computed, the left one first.
+#[derive(Clone, Copy, PartialEq, Eq, Debug, Drop)]
+pub enum BinaryOp {
+    Or,
+    And,
+    Eq,
+    Ne,
+    Lt,
+    Le,
+    Gt,
+    Ge,
+    Add,
+    Sub,
+    Mul,
+    Div,
+}
+
+#[cfg(test)]
+mod tests {
+    use super::*;
+    use std::test::Fail;
+
+    fn negated(rt: HostRuntime, value: i32) -> Result<Expr, Fail> {
+        Ok(Expr::Unary {
+            op: UnaryOp::Neg,
+            arg: Box::new(rt.alloc(), Expr::Literal(value))?,
+        })
+    }
+
+    #[test]
+    fn trees_compare(rt: HostRuntime) -> Result<(), Fail> {
+        assert_eq!(rt; negated(rt, 1)?, negated(rt, 1)?);
+        assert_ne!(rt; negated(rt, 1)?, negated(rt, 2)?);
+        Ok(())
+    }
+}
