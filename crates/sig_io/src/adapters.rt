@@ -1,0 +1,193 @@
+// The files, the standard output and the standard error of the system.
+ghost use Rattle.std.specs.Prelude.{◌≡◌, ◌≤◌, None, IfOk, length};
+
+use crate::{Failed, Files, Sink};
+use std::io::{ErrorKind, Read, Seek, SeekFrom, Write};
+use std::{fs, io, rt};
+
+// The system takes no name of more bytes.
+const LONGEST_NAME: usize = 4096;
+
+// An open file with its name, and the place at which it stands.
+#[derive(Drop)]
+struct OpenFile<F> {
+    name: [u8; 4096],
+    len: usize,
+    file: F,
+    place: u64,
+    ghost named: { len ≤ length name },
+}
+
+impl<F: Read + Seek> OpenFile<F> {
+    fn is(&self, name: &str) -> bool {
+        &self.name[..self.len] == name.as_bytes()
+    }
+
+    // Reads at a place.
+    fn read_at(&mut self, place: u64, buf: &mut [u8]) -> io::Result<usize>
+        ensures { IfOk result (λ n. n ≤ length buf.new) }
+    {
+        if place != self.place {
+            self.file.seek(SeekFrom::Start(place))?;
+        }
+        let n = self.file.read(buf)?;
+        self.place = place.saturating_add(n as u64);
+        Ok(n)
+    }
+}
+
+// Opens a file, which then stands at its beginning.
+fn open<R: rt::Files>(runtime: &R, name: &str) -> io::Result<OpenFile<R::File>> {
+    let len = name.len();
+    if len > LONGEST_NAME {
+        return Err(io::Error::from(ErrorKind::InvalidInput));
+    }
+    let file = fs::open(runtime, name)?;
+    let mut kept = [0; 4096];
+    kept[..len].copy_from_slice(name.as_bytes());
+    Ok(OpenFile {
+        name: kept,
+        len,
+        file,
+        place: 0,
+    })
+}
+
+/// The files of the system. It tells nothing of what they hold. The file that was read last stays open, so that a file
+/// is opened once, however many pieces it is read in.
+#[derive(Drop)]
+pub struct DiskFiles<'a, R: rt::Files> {
+    runtime: &'a R,
+    last: Option<OpenFile<R::File>>,
+    faults: u64,
+}
+
+impl<'a, R: rt::Files> DiskFiles<'a, R> {
+    /// The files that this runtime reaches; no call has failed yet.
+    pub fn new(runtime: &'a R) -> DiskFiles<'a, R> {
+        DiskFiles {
+            runtime,
+            last: None,
+            faults: 0,
+        }
+    }
+}
+
+// The file that was read last, where it has that name, or else that file newly opened.
+fn reopened<R: rt::Files>(
+    runtime: &R,
+    last: Option<OpenFile<R::File>>,
+    name: &str,
+) -> io::Result<OpenFile<R::File>> {
+    if let Some(file) = last {
+        if file.is(name) {
+            return Ok(file);
+        }
+    }
+    open(runtime, name)
+}
+
+// Reads at a place, and answers with the file too.
+fn read_file<R: rt::Files>(
+    runtime: &R,
+    last: Option<OpenFile<R::File>>,
+    name: &str,
+    place: u64,
+    buf: &mut [u8],
+) -> io::Result<(OpenFile<R::File>, usize)>
+    ensures { IfOk result (λ r. r.1 ≤ length buf.new) }
+{
+    let mut file = reopened(runtime, last, name)?;
+    let n = file.read_at(place, buf)?;
+    Ok((file, n))
+}
+
+impl<R: rt::Files> Files for DiskFiles<'_, R> {
+    ghost told = { λ _. None };
+
+    ghost faults = { λ d. d.faults };
+
+    fn read_at(&mut self, name: &str, place: u64, buf: &mut [u8]) -> Result<usize, Failed> {
+        match read_file(self.runtime, self.last.take(), name, place, buf) {
+            Ok((file, n)) => {
+                self.last = Some(file);
+                Ok(n)
+            }
+            Err(_) => {
+                self.faults = self.faults.saturating_add(1);
+                Err(Failed)
+            }
+        }
+    }
+}
+
+// Gives the system a piece. A write that takes nothing has failed.
+fn write_piece<R: Print>(to: &R, piece: &[u8]) -> Result<usize, Failed>
+    ensures some { IfOk result (λ n. 1 ≤ n) }
+    ensures count { IfOk result (λ n. n ≤ length piece.now) }
+{
+    match to.write_some(piece) {
+        Ok(n) if n > 0 => Ok(n),
+        _ => Err(Failed),
+    }
+}
+
+/// The standard output. It tells nothing of the bytes that it took.
+#[derive(Drop)]
+pub struct OutSink<'a, R> {
+    output: &'a R,
+    faults: u64,
+}
+
+impl<'a, R: Print> OutSink<'a, R> {
+    /// The standard output, by its handle; no call has failed yet.
+    pub fn new(output: &'a R) -> OutSink<'a, R> {
+        OutSink { output, faults: 0 }
+    }
+}
+
+impl<R: Print> Sink for OutSink<'_, R> {
+    ghost taken = { λ _. None };
+
+    ghost faults = { λ s. s.faults };
+
+    fn write_some(&mut self, piece: &[u8]) -> Result<usize, Failed> {
+        match write_piece(self.output, piece) {
+            Ok(n) => Ok(n),
+            Err(failed) => {
+                self.faults = self.faults.saturating_add(1);
+                Err(failed)
+            }
+        }
+    }
+}
+
+/// The standard error. It tells nothing of the bytes that it took.
+#[derive(Drop)]
+pub struct ErrSink<'a, R> {
+    errors: &'a R,
+    faults: u64,
+}
+
+impl<'a, R: Print> ErrSink<'a, R> {
+    /// The standard error, by its handle; no call has failed yet.
+    pub fn new(errors: &'a R) -> ErrSink<'a, R> {
+        ErrSink { errors, faults: 0 }
+    }
+}
+
+impl<R: Print> Sink for ErrSink<'_, R> {
+    ghost taken = { λ _. None };
+
+    ghost faults = { λ s. s.faults };
+
+    fn write_some(&mut self, piece: &[u8]) -> Result<usize, Failed> {
+        match write_piece(self.errors, piece) {
+            Ok(n) => Ok(n),
+            Err(failed) => {
+                self.faults = self.faults.saturating_add(1);
+                Err(failed)
+            }
+        }
+    }
+}

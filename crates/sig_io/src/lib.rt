@@ -1,0 +1,17 @@
+//! The outside: files, sinks, and what is read and written whole.
+#![tactic(auto)]
+
+mod adapters;
+mod draft;
+mod memory;
+mod outside;
+mod whole;
+
+pub use adapters::{DiskFiles, ErrSink, OutSink};
+pub use draft::Draft;
+pub use memory::{MemFiles, MemSink};
+pub use outside::{Failed, Files, Sink};
+pub use whole::{PutFault, ReadRefusal, put_all, read_whole};
+
+#[cfg(test)]
+mod tests;

@@ -1,0 +1,147 @@
+// Files and sinks in memory, whose calls fail where they are told to.
+ghost use Rattle.sig_io.specs.Outside.{IsRead};
+ghost use Rattle.sig_io.specs.Memory.{file_of};
+ghost use Rattle.std.specs.Prelude.{◌≡◌, ℕ, ◌+◌, ◌<◌, ◌≤◌, List, [], length, take, Some, None, IfOk, OnErr, MatchOption, vec_len, vec_capacity};
+
+use crate::{Failed, Files, Sink};
+use sig_types::Memory;
+use std::alloc::Global;
+
+// The bytes of the first file of that name.
+fn find<'a>(files: &'a [(String, Vec<u8>)], name: &str) -> Option<&'a [u8]>
+    ensures { MatchOption result (file_of files.now name.now ≡ None) (λ bytes. file_of files.now name.now ≡ Some bytes.now) }
+{
+    for (own, bytes) in files {
+        if own.as_str() == name {
+            return Some(bytes.as_slice());
+        }
+    }
+    None
+}
+
+// Copies from that place on at most `most` bytes, and as many as fit.
+fn copy_from(bytes: &[u8], place: u64, most: usize, buf: &mut [u8]) -> usize
+    requires most { 1 ≤ most }
+    requires room { 0 < length buf.old }
+    ensures count { result ≤ length buf.new }
+    ensures most { result ≤ most }
+    ensures bytes { IsRead bytes.now place result buf.new }
+{
+    if place >= bytes.len() as u64 {
+        return 0;
+    }
+    let (_, rest) = bytes.split_at(place as usize);
+    let n = rest.len().min(most).min(buf.len());
+    buf[..n].copy_from_slice(&rest[..n]);
+    n
+}
+
+/// Files in memory. A name given twice has its first bytes, and a read gives at most `most` bytes. Calls are numbered
+/// from 0: those with the numbers in `failing` fail, and so does one of a name that isn't there.
+#[derive(Drop)]
+pub struct MemFiles {
+    files: Vec<(String, Vec<u8>)>,
+    failing: Vec<u64>,
+    most: usize,
+    calls: u64,
+    faults: u64,
+    ghost some: { 1 ≤ most },
+}
+
+impl MemFiles {
+    ghost use Rattle.sig_io.specs.Memory.{contents_of};
+
+    /// Files of these names and bytes; no call has been made.
+    pub fn new(files: Vec<(String, Vec<u8>)>, failing: Vec<u64>, most: usize) -> MemFiles
+        requires { 1 ≤ most }
+        ensures told { ⟦<MemFiles as Files>⟧.told result ≡ Some (contents_of files.items) }
+        ensures faults { ⟦<MemFiles as Files>⟧.faults result ≡ 0 }
+    {
+        MemFiles {
+            files,
+            failing,
+            most,
+            calls: 0,
+            faults: 0,
+        }
+    }
+}
+
+impl Files for MemFiles {
+    ghost use Rattle.sig_io.specs.Memory.{contents_of};
+
+    ghost told = { λ m. Some (contents_of m.files.items) };
+
+    ghost faults = { λ m. m.faults };
+
+    fn read_at(&mut self, name: &str, place: u64, buf: &mut [u8]) -> Result<usize, Failed> {
+        let call = self.calls;
+        self.calls = self.calls.saturating_add(1);
+        if !self.failing.contains(&call) {
+            if let Some(bytes) = find(&self.files, name) {
+                return Ok(copy_from(bytes, place, self.most, buf));
+            }
+        }
+        self.faults = self.faults.saturating_add(1);
+        Err(Failed)
+    }
+}
+
+/// A sink in memory with room for so many bytes. Calls are numbered from 0: those with the numbers in `failing` fail,
+/// and so does one that finds no room.
+#[derive(Drop)]
+pub struct MemSink {
+    bytes: Vec<u8>,
+    room: usize,
+    failing: Vec<u64>,
+    calls: u64,
+    faults: u64,
+    ghost within: { vec_len bytes ≤ room },
+    ghost held: { room ≤ vec_capacity bytes },
+}
+
+impl MemSink {
+    /// An empty sink; the memory for all its bytes is taken here.
+    pub fn new(alloc: Global, room: usize, failing: Vec<u64>) -> Result<MemSink, Memory>
+        ensures empty { IfOk result (λ s. ⟦<MemSink as Sink>⟧.taken s ≡ Some []) }
+        ensures faults { IfOk result (λ s. ⟦<MemSink as Sink>⟧.faults s ≡ 0) }
+    {
+        match Vec::with_capacity(alloc, room) {
+            Ok(bytes) => Ok(MemSink {
+                bytes,
+                room,
+                failing,
+                calls: 0,
+                faults: 0,
+            }),
+            Err(_) => Err(Memory),
+        }
+    }
+
+    /// What was taken.
+    pub fn bytes(&self) -> &[u8]
+        ensures { ⟦<MemSink as Sink>⟧.taken self.now ≡ Some result.now }
+    {
+        self.bytes.as_slice()
+    }
+}
+
+impl Sink for MemSink {
+    ghost taken = { λ s. Some s.bytes.items };
+
+    ghost faults = { λ s. s.faults };
+
+    fn write_some(&mut self, piece: &[u8]) -> Result<usize, Failed> {
+        let call = self.calls;
+        self.calls = self.calls.saturating_add(1);
+        let n = piece.len().min(self.room - self.bytes.len());
+        if n > 0 && !self.failing.contains(&call) {
+            let (front, _) = piece.split_at(n);
+            if self.bytes.extend_from_slice(front).is_ok() {
+                return Ok(n);
+            }
+        }
+        self.faults = self.faults.saturating_add(1);
+        Err(Failed)
+    }
+}

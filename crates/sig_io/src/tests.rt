@@ -1,0 +1,92 @@
+// What no clause says: that bytes come from the files of memory and of the system as they are, and that calls fail
+// where they are to.
+use super::*;
+use std::alloc::{AllocError, Global};
+use std::fmt::Display;
+use std::fs::File;
+use std::io::{ErrorKind, Write};
+use std::test::Fail;
+use std::{fs, io, process};
+
+fn memory_file(alloc: Global, name: &str, bytes: &[u8]) -> Result<(String, Vec<u8>), AllocError> {
+    Ok((
+        String::from_str(alloc, name)?,
+        Vec::from_slice(alloc, bytes)?,
+    ))
+}
+
+#[test]
+fn a_file_is_read_in_small_pieces(rt: HostRuntime) -> Result<(), Fail> {
+    let alloc = rt.alloc();
+    let file = memory_file(alloc, "a", b"hello")?;
+    let mut files = MemFiles::new(vec![in alloc; file]?, Vec::new(alloc), 2);
+    let read = read_whole(alloc, &mut files, "a", 5)?;
+    assert_eq!(rt; read.as_slice(), b"hello".as_slice());
+    assert!(rt; read_whole(alloc, &mut files, "a", 4) == Err(ReadRefusal::TooLong(5)));
+    assert!(rt; read_whole(alloc, &mut files, "b", 4) == Err(ReadRefusal::Fault));
+    Ok(())
+}
+
+#[test]
+fn a_call_that_is_to_fail_fails(rt: HostRuntime) -> Result<(), Fail> {
+    let alloc = rt.alloc();
+    let file = memory_file(alloc, "a", b"hello")?;
+    let mut files = MemFiles::new(vec![in alloc; file]?, vec![in alloc; 1]?, 2);
+    assert!(rt; read_whole(alloc, &mut files, "a", 5) == Err(ReadRefusal::Fault));
+    assert!(rt; read_whole(alloc, &mut files, "a", 5).is_ok());
+    let mut sink = MemSink::new(alloc, 9, vec![in alloc; 0]?)?;
+    assert_eq!(rt; put_all(&mut sink, b"hello"), Err(PutFault { taken: 0 }));
+    assert_eq!(rt; put_all(&mut sink, b"hello"), Ok(()));
+    assert_eq!(rt; sink.bytes(), b"hello".as_slice());
+    Ok(())
+}
+
+#[test]
+fn a_sink_without_room_fails(rt: HostRuntime) -> Result<(), Fail> {
+    let alloc = rt.alloc();
+    let mut sink = MemSink::new(alloc, 3, Vec::new(alloc))?;
+    assert_eq!(rt; put_all(&mut sink, b"hello"), Err(PutFault { taken: 3 }));
+    assert_eq!(rt; sink.bytes(), b"hel".as_slice());
+    Ok(())
+}
+
+// A file that stands in for the standard output or the standard error.
+#[derive(Drop)]
+struct Printed(File);
+
+impl Print for Printed {
+    fn print<D: Display + Drop>(&self, _value: D) -> io::Result<()> {
+        Err(io::Error::from(ErrorKind::Unsupported))
+    }
+
+    fn println<D: Display + Drop>(&self, _value: D) -> io::Result<()> {
+        Err(io::Error::from(ErrorKind::Unsupported))
+    }
+
+    fn write_all(&self, bytes: &[u8]) -> io::Result<()> {
+        (&self.0).write_all(bytes)
+    }
+}
+
+#[test]
+fn the_system_gets_and_gives_the_bytes(rt: HostRuntime) -> Result<(), Fail> {
+    let alloc = rt.alloc();
+    let name = format!(in alloc; "/tmp/sig_io_test_{}", process::id(rt.process()))?;
+    let text = Printed(fs::create(&rt, name.as_str())?);
+    assert_eq!(rt; put_all(&mut OutSink::new(&text), b"hello"), Ok(()));
+    assert_eq!(rt; put_all(&mut ErrSink::new(&text), b", you"), Ok(()));
+    let mut files = DiskFiles::new(&rt);
+    let mut piece = [0u8; 4];
+    assert_eq!(rt; files.read_at(name.as_str(), 1, &mut piece), Ok(4));
+    assert_eq!(rt; &piece[..], b"ello".as_slice());
+    let whole = read_whole(alloc, &mut files, name.as_str(), 10)?;
+    assert_eq!(rt; whole.as_slice(), b"hello, you".as_slice());
+    fs::remove_file(&rt, name.as_str())?;
+    // The file that was read last is still open.
+    assert_eq!(rt; files.read_at(name.as_str(), 10, &mut piece), Ok(0));
+    assert_eq!(rt;
+        files.read_at("/tmp/no such file", 0, &mut piece),
+        Err(Failed)
+    );
+    Ok(())
+}
