@@ -1,0 +1,4 @@
+pub mod Kept
+pub mod Piece
+pub mod Tokens
+pub mod Refusal

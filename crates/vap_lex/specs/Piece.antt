@@ -1,0 +1,100 @@
+-- What stands at the front of a text.
+use Rattle.std.specs.Prelude.{pos, ℕ, ◌+◌, ◌-◌, ◌*◌, Bool, false, ◌||◌, ◌&&◌, if◌then◌else◌, ◌==◌, nat_le, List, [], ◌∷◌, length, take, drop, fold, slice_index, take_while, Option, Some, None, Result, Ok, Err}
+use Rattle.std.specs.Option.{option_map}
+use Rattle.vap_ast.specs.Name.{is_letter, is_digit, is_word_byte}
+use Rattle.vap_lex.specs.declared.piece.LexWhy.{LexWhy}
+use Rattle.vap_lex.specs.declared.piece.LexWhy.TheVariants.{Byte, OpenComment, Decimal, NumberRange}
+use Rattle.vap_lex.specs.declared.piece.Piece.{Piece}
+use Rattle.vap_lex.specs.declared.piece.Piece.TheVariants.{Gap, Word, Number, Sign}
+use Rattle.vap_lex.specs.declared.token.Sign.{Sign as AnySign}
+use Rattle.vap_lex.specs.declared.token.Sign.TheVariants as s
+use Rattle.vap_lex.specs.Kept.{IsNatural}
+
+abbrev pub is_blank : ℕ → Bool
+is_blank b = b == 32 || b == 9 || b == 13 || b == 10
+
+-- how many bytes from the front on pass the test
+abbrev pub run_len : (ℕ → Bool) → List ℕ → ℕ
+run_len test bytes = length (take_while test bytes)
+
+abbrev pub begins_slash : List ℕ → Bool
+begins_slash [] = false
+begins_slash (b ∷ bs) = b == 47
+
+-- the bytes up to the next end of a comment, that included
+abbrev pub comment_len : List ℕ → Option ℕ
+comment_len [] = None
+comment_len (b ∷ bs) = if b == 42 && begins_slash bs then Some 2 else option_map (λ n. n + 1) (comment_len bs)
+
+abbrev pub decimal : List ℕ → ℕ
+decimal = fold (λ n d. n * 10 + (d - 48)) 0
+
+abbrev pub number : List ℕ → Option ℕ
+number digits = if nat_le (decimal digits) 2147483647 then Some (decimal digits) else None
+
+abbrev pub byte_at : List ℕ → ℕ → ℕ
+byte_at bytes i = slice_index bytes i
+
+-- a sign of two bytes
+abbrev pub long_sign : ℕ → ℕ → Option AnySign
+long_sign a b =
+    if a == 58 && b == 61 then Some s.Assign
+    else (if a == 60 && b == 62 then Some s.Ne
+    else (if a == 60 && b == 61 then Some s.Le
+    else (if a == 62 && b == 61 then Some s.Ge else None)))
+
+-- a sign of one byte
+abbrev pub short_sign : ℕ → Option AnySign
+short_sign a =
+    if a == 58 then Some s.Colon
+    else (if a == 59 then Some s.Semi
+    else (if a == 44 then Some s.Comma
+    else (if a == 46 then Some s.Dot
+    else (if a == 40 then Some s.Open
+    else (if a == 41 then Some s.Close
+    else (if a == 91 then Some s.OpenIndex
+    else (if a == 93 then Some s.CloseIndex
+    else (if a == 61 then Some s.Eq
+    else (if a == 60 then Some s.Lt
+    else (if a == 62 then Some s.Gt
+    else (if a == 43 then Some s.Plus
+    else (if a == 45 then Some s.Minus
+    else (if a == 42 then Some s.Star
+    else (if a == 47 then Some s.Slash else None))))))))))))))
+
+abbrev pub signed : ℕ → Option AnySign → Result (Piece × ℕ) LexWhy → Result (Piece × ℕ) LexWhy
+signed len None other = other
+signed len (Some sign) other = Ok (Sign sign, len)
+
+-- the longest sign
+unfoldable pub sign : List ℕ → Result (Piece × ℕ) LexWhy
+sign bytes = signed 2 (long_sign (byte_at bytes 0) (byte_at bytes 1)) (signed 1 (short_sign (byte_at bytes 0)) (Err Byte))
+
+abbrev pub valued : ℕ → Option ℕ → Result (Piece × ℕ) LexWhy
+valued len (Some n) = Ok (Number (pos n), len)
+valued len None = Err NumberRange
+
+-- all digits in a row
+unfoldable pub digits : List ℕ → Result (Piece × ℕ) LexWhy
+digits bytes =
+    let len = run_len is_digit (drop 1 bytes) + 1 in
+    if byte_at bytes len == 46 && is_digit (byte_at bytes (len + 1)) then Err Decimal else valued len (number (take len bytes))
+
+abbrev pub closed : Option ℕ → Result (Piece × ℕ) LexWhy
+closed (Some n) = Ok (Gap, n + 2)
+closed None = Err OpenComment
+
+-- what stands at the front, and how many bytes it has
+unfoldable pub front : List ℕ → Result (Piece × ℕ) LexWhy
+front bytes =
+    if is_blank (byte_at bytes 0) then Ok (Gap, 1)
+    else (if byte_at bytes 0 == 47 && byte_at bytes 1 == 42 then closed (comment_len (drop 2 bytes))
+    else (if is_letter (byte_at bytes 0) then Ok (Word, run_len is_word_byte (drop 1 bytes) + 1)
+    else (if is_digit (byte_at bytes 0) then digits bytes else sign bytes)))
+
+-- a number has no sign
+abbrev pub IsNumbered : Piece → Type 0
+IsNumbered (Number n) = IsNatural n
+IsNumbered Gap = Unit {0}
+IsNumbered Word = Unit {0}
+IsNumbered (Sign s) = Unit {0}

@@ -1,0 +1,229 @@
+// What stands at the front of a text.
+ghost use Rattle.std.specs.Prelude.{◌≡◌, ◌<◌, ◌≤◌, ◌^◌, length, take, IfOk, IfSome};
+ghost use Rattle.vap_ast.specs.Name as name;
+ghost use Rattle.vap_ast.specs.Name.{IsWord};
+ghost use Rattle.vap_lex.specs.Piece as spec;
+ghost use Rattle.vap_lex.specs.Piece.{IsNumbered};
+ghost use Rattle.vap_lex.specs.declared.piece.Piece.TheVariants.{Word};
+
+use crate::token::Sign;
+
+/// Why a text has no token at a place.
+#[derive(Clone, Copy, Debug, PartialEq, Eq)]
+pub enum LexWhy {
+    /// A byte that begins nothing.
+    Byte = 1,
+    /// A comment that is not closed.
+    OpenComment = 2,
+    /// A number with a decimal point.
+    Decimal = 3,
+    /// A number above 2,147,483,647.
+    NumberRange = 4,
+}
+
+/// What stands at a place of a text.
+#[derive(Clone, Copy, Debug, PartialEq, Eq)]
+pub enum Piece {
+    /// A blank or a comment.
+    Gap,
+    Word,
+    Number(i32),
+    Sign(Sign),
+}
+
+const MOST: u64 = 2_147_483_647;
+
+fn is_blank(b: u8) -> bool
+    ensures { result ≡ spec.is_blank b }
+{
+    b == b' ' || b == b'\t' || b == b'\r' || b == b'\n'
+}
+
+fn is_letter(b: u8) -> bool
+    ensures { result ≡ name.is_letter b }
+{
+    (b >= b'a' && b <= b'z') || (b >= b'A' && b <= b'Z') || b == b'_'
+}
+
+fn is_digit(b: u8) -> bool
+    ensures { result ≡ name.is_digit b }
+{
+    b >= b'0' && b <= b'9'
+}
+
+fn is_word_byte(b: u8) -> bool
+    ensures { result ≡ name.is_word_byte b }
+{
+    is_letter(b) || is_digit(b)
+}
+
+fn word_len(bytes: &[u8]) -> usize
+    ensures len { result ≡ spec.run_len name.is_word_byte bytes.now }
+    ensures within { result ≤ length bytes.now }
+{
+    bytes.iter().take_while(|b| is_word_byte(**b)).count()
+}
+
+fn digits_len(bytes: &[u8]) -> usize
+    ensures len { result ≡ spec.run_len name.is_digit bytes.now }
+    ensures within { result ≤ length bytes.now }
+{
+    bytes.iter().take_while(|b| is_digit(**b)).count()
+}
+
+// The bytes up to the end of a comment, that included.
+fn comment_len(bytes: &[u8]) -> Option<usize>
+    ensures len { result ≡ spec.comment_len bytes.now }
+    ensures within { IfSome result (λ n. n ≤ length bytes.now) }
+{
+    let mut rest = bytes;
+    let mut passed = 0;
+    while let [first, after @ ..] = rest {
+        if *first == b'*' && begins_slash(after) {
+            return Some(passed + 2);
+        }
+        passed += 1;
+        rest = after;
+    }
+    None
+}
+
+fn begins_slash(bytes: &[u8]) -> bool
+    ensures { result ≡ spec.begins_slash bytes.now }
+{
+    match bytes {
+        [] => false,
+        [first, ..] => *first == b'/',
+    }
+}
+
+// The value of the digits, where it is not too large.
+fn number(digits: &[u8]) -> Option<u32>
+    ensures value { result ≡ spec.number digits.now }
+    ensures small { IfSome result (λ n. n ≤ 2147483647) }
+{
+    let mut value: u64 = 0;
+    for digit in digits {
+        value = value * 10 + u64::from(digit.saturating_sub(b'0'));
+        if value > MOST {
+            return None;
+        }
+    }
+    Some(value as u32)
+}
+
+// The byte at a place, or 0 past the end.
+fn byte_at(bytes: &[u8], place: usize) -> u8
+    ensures byte { result ≡ spec.byte_at bytes.now place }
+    ensures here { 0 < result → place < length bytes.now }
+{
+    match bytes.get(place) {
+        Some(byte) => *byte,
+        None => 0,
+    }
+}
+
+// The sign of one byte.
+fn short_sign(byte: u8) -> Option<Sign>
+    ensures sign { result ≡ spec.short_sign byte }
+    ensures some { IfSome result (λ s. 0 < byte) }
+{
+    match byte {
+        b':' => Some(Sign::Colon),
+        b';' => Some(Sign::Semi),
+        b',' => Some(Sign::Comma),
+        b'.' => Some(Sign::Dot),
+        b'(' => Some(Sign::Open),
+        b')' => Some(Sign::Close),
+        b'[' => Some(Sign::OpenIndex),
+        b']' => Some(Sign::CloseIndex),
+        b'=' => Some(Sign::Eq),
+        b'<' => Some(Sign::Lt),
+        b'>' => Some(Sign::Gt),
+        b'+' => Some(Sign::Plus),
+        b'-' => Some(Sign::Minus),
+        b'*' => Some(Sign::Star),
+        b'/' => Some(Sign::Slash),
+        _ => None,
+    }
+}
+
+// The sign of two bytes.
+fn long_sign(first: u8, second: u8) -> Option<Sign>
+    ensures sign { result ≡ spec.long_sign first second }
+    ensures some { IfSome result (λ s. 0 < second) }
+{
+    if first == b':' && second == b'=' {
+        Some(Sign::Assign)
+    } else if first == b'<' && second == b'>' {
+        Some(Sign::Ne)
+    } else if first == b'<' && second == b'=' {
+        Some(Sign::Le)
+    } else if first == b'>' && second == b'=' {
+        Some(Sign::Ge)
+    } else {
+        None
+    }
+}
+
+#[tactic(auto, unfolding(crate::specs::Piece::sign))]
+fn sign(bytes: &[u8]) -> Result<(Piece, usize), LexWhy>
+    ensures sign { result ≡ spec.sign bytes.now }
+    ensures within { IfOk result (λ r. (0 < r.1) × (r.1 ≤ length bytes.now)) }
+    ensures kind { IfOk result (λ r. IsNumbered r.0) }
+    ensures word { IfOk result (λ r. r.0 ≡ Word → IsWord (take r.1 bytes.now)) }
+{
+    if let Some(sign) = long_sign(byte_at(bytes, 0), byte_at(bytes, 1)) {
+        return Ok((Piece::Sign(sign), 2));
+    }
+    match short_sign(byte_at(bytes, 0)) {
+        Some(sign) => Ok((Piece::Sign(sign), 1)),
+        None => Err(LexWhy::Byte),
+    }
+}
+
+#[tactic(auto, unfolding(crate::specs::Piece::digits))]
+fn digits(bytes: &[u8]) -> Result<(Piece, usize), LexWhy>
+    requires some { 0 < length bytes.now }
+    requires short { length bytes.now < 2 ^ 32 }
+    ensures digits { result ≡ spec.digits bytes.now }
+    ensures within { IfOk result (λ r. (0 < r.1) × (r.1 ≤ length bytes.now)) }
+    ensures kind { IfOk result (λ r. IsNumbered r.0) }
+    ensures word { IfOk result (λ r. r.0 ≡ Word → IsWord (take r.1 bytes.now)) }
+{
+    let len = digits_len(&bytes[1..]) + 1;
+    if byte_at(bytes, len) == b'.' && is_digit(byte_at(bytes, len + 1)) {
+        return Err(LexWhy::Decimal);
+    }
+    match number(&bytes[..len]) {
+        Some(value) => Ok((Piece::Number(value as i32), len)),
+        None => Err(LexWhy::NumberRange),
+    }
+}
+
+/// What stands at the front, and how many bytes it has.
+#[tactic(auto, unfolding(crate::specs::Piece::front))]
+pub fn front(bytes: &[u8]) -> Result<(Piece, usize), LexWhy>
+    requires some { 0 < length bytes.now }
+    requires short { length bytes.now < 2 ^ 32 }
+    ensures front { result ≡ spec.front bytes.now }
+    ensures within { IfOk result (λ r. (0 < r.1) × (r.1 ≤ length bytes.now)) }
+    ensures kind { IfOk result (λ r. IsNumbered r.0) }
+    ensures word { IfOk result (λ r. r.0 ≡ Word → IsWord (take r.1 bytes.now)) }
+{
+    let first = byte_at(bytes, 0);
+    if is_blank(first) {
+        Ok((Piece::Gap, 1))
+    } else if first == b'/' && byte_at(bytes, 1) == b'*' {
+        match comment_len(&bytes[2..]) {
+            Some(len) => Ok((Piece::Gap, len + 2)),
+            None => Err(LexWhy::OpenComment),
+        }
+    } else if is_letter(first) {
+        Ok((Piece::Word, word_len(bytes.split_at(1).1) + 1))
+    } else if is_digit(first) {
+        digits(bytes)
+    } else {
+        sign(bytes)
+    }
+}
