@@ -4,6 +4,7 @@ pub mod FirstRefused
 pub mod Number
 pub mod Pass
 pub mod Recorded
+pub mod Rules
 pub mod Text
 pub mod Turns
 pub mod Words

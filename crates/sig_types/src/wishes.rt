@@ -1,7 +1,5 @@
 // The wishes of a second.
 ghost use Rattle.std.specs.Prelude.{◌≡◌, ℕ, ◌<◌, ◌≤◌, List, length, take, replicate, slice_index_or, slice_set, false};
-ghost use Rattle.std.specs.List.{slice_get};
-ghost use Rattle.std.specs.Prelude.{Some};
 
 use std::marker::Model;
 
@@ -55,7 +53,7 @@ impl Wishes {
     /// The wish of the group at that place.
     pub fn get(&self, place: u8) -> bool
         requires { place < length self.now }
-        ensures { slice_get self.now place ≡ Some result }
+        ensures { result ≡ slice_index_or self.now place false }
     {
         self.greens[place as usize]
     }
