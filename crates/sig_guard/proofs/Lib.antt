@@ -1,0 +1,14 @@
+pub mod Agree
+pub mod LastBelow
+pub mod LawProofs
+pub mod MachineLemmas
+pub mod NoConflicts
+pub mod Pictures
+pub mod RedAmberRun
+pub mod Refusals
+pub mod RefusedBreaks
+pub mod Runs
+pub mod SequenceKept
+pub mod StandsAfter
+pub mod StepKept
+pub mod TurnLemmas

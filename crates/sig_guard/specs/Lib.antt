@@ -1,0 +1,6 @@
+pub mod Laws
+pub mod Safety
+pub mod Stands
+pub mod Step
+pub mod Times
+pub mod TurnKinds
