@@ -1,7 +1,6 @@
 use Rattle.std.proofs.Common.{◌≡◌, ◌<◌, ◌-◌, length, get_or, map, [], ap, sym, arith, List, false}
 use Rattle.std.proofs.lemmas.List.{length-map}
 use Rattle.pua_model.proofs.Lists.{greens_at}
-use Rattle.std.proofs.lemmas.Option.{get_or_from_slice_get}
 use Rattle.pua_model.specs.declared.parts.Stage.{Stage}
 use Rattle.pua_model.proofs.plan.Plan.in_stage.Goals as goal
 
@@ -18,5 +17,5 @@ returns c =
     let lt : c.args.s.0 - 1 < length stages = omega (arith, c.requires.stage, ap (λ p. length p.stages) c.self.view_is, length-map stages (λ (s : Stage). s.greens)) in
     let here : get_or (map (λ (s : Stage). s.greens) stages) (c.args.s.0 - 1) [] ≡ c.index-stage.result.now.greens = greens_at stages (c.args.s.0 - 1) c.index-stage.result.now lt c.index-stage.ensures in
     let whole : get_or (get_or c.args.self.now.stages (c.args.s.0 - 1) []) c.args.g.0 false ≡ c.get.result =
-    rw (← c.self.view_is, here) (get_or_from_slice_get c.index-stage.result.now.greens c.args.g.0 c.get.result false c.get.ensures) in
+    rw (← c.self.view_is, here) (sym c.get.ensures) in
     sym whole
