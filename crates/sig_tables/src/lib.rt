@@ -1,0 +1,14 @@
+//! The tables of a site: times and intergreens, read from comma-separated text against a plan.
+//!
+//! A table is read against a plan, so each row names groups of that plan and the table is "of the plan" as far as this
+//! says: it has as many groups as the plan, and group g of the one is group g of the other.
+#![tactic(auto)]
+
+mod header;
+mod records;
+mod refusal;
+mod times;
+mod times_reader;
+
+pub use refusal::{TableRefusal, TableWhy};
+pub use times::{Times, TimesRow};
