@@ -1,5 +1,6 @@
 -- The table of times, as it is read.
-use Rattle.std.proofs.Common.{◌≡◌, ◌∙◌, ℕ, zero, suc, ◌+◌, ◌-◌, ◌<◌, ◌≤◌, Bool, true, false, List, [], ◌∷◌, ◌++◌, length, get_or, Some, None, Option, refl, sym, ap, arith, inl, inr}
+use Rattle.std.proofs.Common.{◌≡◌, ◌∙◌, ℕ, zero, suc, ◌+◌, ◌-◌, ◌<◌, ◌≤◌, Bool, true, false, List, [], ◌∷◌, ◌++◌, length, get_or, Some, None, Option, refl, sym, ap, arith, inl, inr, replicate, append_assoc, length-append}
+use Rattle.std.proofs.lemmas.List.{length-replicate}
 use Rattle.std.specs.Prelude.{is_none, is_some}
 use Rattle.sig_types.specs.declared.numbers.GroupNo.{GroupNo}
 use Rattle.sig_types.specs.FirstRefused.{or_next, first_refused}
@@ -12,11 +13,16 @@ use Rattle.sig_tables.specs.declared.refusal.TableRefusal.TheVariants.{Memory, A
 use Rattle.sig_tables.specs.declared.records.Records.{Records}
 use Rattle.sig_tables.specs.declared.header.Table.TheVariants.{Times}
 use Rattle.sig_tables.specs.declared.times.TimesRow.{TimesRow}
-use Rattle.sig_tables.specs.Records.{Row, HasRead, is_header}
+use Rattle.sig_tables.specs.Records.{Row, table_rows, HasRead, is_header}
 use Rattle.sig_tables.specs.Refusals.{Refusal, IsRefusal, at, numbered, header_refusal}
 use Rattle.sig_tables.specs.Headers.{header_of}
-use Rattle.sig_tables.specs.TimesTable.{listed_times, times_or, times_reason, missing_times, times_refused, times_below}
+use Rattle.sig_tables.specs.TimesTable.{listed_times, times_or, times_reason, missing_times, times_refused, times_below, times_of}
 use Rattle.sig_tables.specs.Held.{HoldsTimes, empties}
+use Rattle.sig_types.specs.FirstRefused.{refused_to}
+use Rattle.sig_types.proofs.Refusals.{accepted_pushed}
+use Rattle.sig_tables.proofs.Rows.{text_begins}
+use Rattle.sig_tables.proofs.Places.{all_empty}
+use Rattle.sig_tables.proofs.Judged.{refused_row}
 use Rattle.sig_tables.proofs.Least.{least_below-at, least_below-never}
 
 -- what the reader keeps between two records
@@ -71,3 +77,73 @@ unfolding times_below
 times_more plan rows held g times holds lt is =
     let e : g + 1 ≡ suc g = omega arith in
     rw (e, sym (holds.times g lt), is) refl
+
+pub times_counted : (plan : PlanOf) (rows : List Row) (n : ℕ) → length (times_below plan rows n) ≡ n
+unfolding times_below
+times_counted plan rows zero = refl
+times_counted plan rows (suc n) = omega (arith, length-append (times_below plan rows n) (times_or (listed_times plan rows n) ∷ []), times_counted plan rows n)
+
+-- nothing is held before the first record
+held_none : (n k : ℕ) → get_or (replicate {A = Option TimesRow} n None) k None ≡ None
+held_none zero k = refl
+held_none (suc n) zero = refl
+held_none (suc n) (suc k) = held_none n k
+
+pub holds_none : (plan : PlanOf) → HoldsTimes plan [] (replicate (groups_in plan) None)
+unfolding listed_times
+holds_none plan = record {
+  size = length-replicate (groups_in plan) None;
+  times = λ g lt. held_none (groups_in plan) g;
+  range = λ g lt. rw (held_none (groups_in plan) g) tt;
+}
+
+pub begun : (plan : PlanOf) (text : List ℕ) (records : Records) (held : List (Option TimesRow)) (header : Row) → HasRead records text (header ∷ []) →
+    is_header (header_of Times) header ≡ true → held ≡ replicate (groups_in plan) None → 1 ≤ groups_in plan → groups_in plan ≤ 64 → ReadsTimes plan text records held
+unfolding refused_to
+begun plan text records held header read right none some few = record {
+  header = header;
+  rows = [];
+  read = read;
+  right = right;
+  accepted = refl;
+  holds = rw none (holds_none plan);
+  few = few;
+  some = some;
+  count = rw none (omega (arith, read.number, all_empty (Option TimesRow) (groups_in plan), all_empty TimesRow (groups_in plan)));
+}
+
+-- the record after those that were read is refused
+pub refused_next : (plan : PlanOf) (text : List ℕ) (old new : Records) (held : List (Option TimesRow)) (row : Row) (why : TableWhy) (reads : ReadsTimes plan text old held) →
+    HasRead new text ((reads.header ∷ reads.rows) ++ row ∷ []) → times_reason plan reads.rows row ≡ Some why → times_refused plan (table_rows text) ≡ Some (new.number, why)
+refused_next plan text old new held row why reads has is =
+    let begins = text_begins new text _ has in
+    let all : table_rows text ≡ reads.header ∷ (reads.rows ++ row ∷ begins.0) = begins.1 ∙ ap (λ (l : List Row). reads.header ∷ l) (append_assoc reads.rows (row ∷ []) begins.0) in
+    let number : new.number ≡ length reads.rows + 2 = omega (arith, has.number, length-append reads.rows (row ∷ [])) in
+    ap (λ (l : List Row). times_refused plan l) all ∙ refused_record plan reads.header (reads.rows ++ row ∷ begins.0) (length reads.rows + 2, why) reads.right (refused_row (times_reason plan) reads.rows begins.0 row why reads.accepted is)
+    ∙ ap (λ (n : ℕ). Some (n, why)) (sym number)
+
+-- and is accepted
+pub accepted_next : (plan : PlanOf) (text : List ℕ) (old new : Records) (held more : List (Option TimesRow)) (row : Row) (reads : ReadsTimes plan text old held) →
+    HasRead new text ((reads.header ∷ reads.rows) ++ row ∷ []) → times_reason plan reads.rows row ≡ None → HoldsTimes plan (reads.rows ++ row ∷ []) more →
+    empties more + 1 ≡ empties held → ReadsTimes plan text new more
+unfolding numbered
+accepted_next plan text old new held more row reads has is holds fills = record {
+  header = reads.header;
+  rows = reads.rows ++ row ∷ [];
+  read = has;
+  right = reads.right;
+  accepted = accepted_pushed (numbered (times_reason plan)) reads.rows row [] reads.accepted (ap (at (length reads.rows + 2)) is);
+  holds = holds;
+  few = reads.few;
+  some = reads.some;
+  count = omega (arith, reads.count, fills, reads.read.number, has.number, length-append reads.rows (row ∷ []));
+}
+
+-- there is no further record
+pub refused_last : (plan : PlanOf) (text : List ℕ) (records : Records) (held : List (Option TimesRow)) (reads : ReadsTimes plan text records held) →
+    table_rows text ≡ reads.header ∷ reads.rows → times_refused plan (table_rows text) ≡ missing_times plan reads.rows
+refused_last plan text records held reads all = rw all (refused_end plan reads.header reads.rows reads.right reads.accepted)
+
+pub times_last : (plan : PlanOf) (text : List ℕ) (rows : List Row) (header : Row) → table_rows text ≡ header ∷ rows → times_of plan text ≡ times_below plan rows (groups_in plan)
+unfolding times_of
+times_last plan text rows header all = rw all refl
