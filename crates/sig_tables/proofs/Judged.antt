@@ -1,6 +1,6 @@
 -- The first refusal among the records of a text.
-use Rattle.std.proofs.Common.{◌≡◌, ◌∙◌, ℕ, zero, suc, ◌+◌, ◌-◌, ◌<◌, ◌≤◌, List, [], ◌∷◌, ◌++◌, length, get_or, take, Some, None, Option, refl, sym, ap, arith, length-append}
-use Rattle.std.proofs.lemmas.List.{take-append-le, get_or_append_left, append_assoc}
+use Rattle.std.proofs.Common.{◌≡◌, ◌∙◌, ℕ, zero, suc, ◌+◌, ◌<◌, ◌≤◌, List, [], ◌∷◌, ◌++◌, length, Some, None, Option, refl, ap, arith, length-append}
+use Rattle.std.proofs.lemmas.List.{take-append-le, get_or_append_left}
 use Rattle.std.proofs.Math.Seq.{take-append_seam, get_or-append_seam}
 use Rattle.sig_types.specs.FirstRefused.{refused_to, first_refused}
 use Rattle.sig_types.proofs.Refusals.{refused_here}
@@ -23,4 +23,4 @@ unfolding numbered
 refused_row judge rows more row why none is =
     let inside : length rows < length (rows ++ row ∷ more) = omega (arith, length-append rows (row ∷ more)) in
     refused_here (numbered judge) (rows ++ row ∷ more) [] (length rows + 2, why) (length rows) (same_before (numbered judge) rows (row ∷ more) [] (length rows) (omega arith) ∙ none) inside
-      (rw (take-append_seam rows (row ∷ more), get_or-append_seam rows row more []) (ap (at (length rows + 2)) is))
+    (rw (take-append_seam rows (row ∷ more), get_or-append_seam rows row more []) (ap (at (length rows + 2)) is))

@@ -4,3 +4,7 @@ pub mod Least
 pub mod TimesLists
 pub mod Judged
 pub mod TimesRead
+pub mod Cells
+pub mod PairLists
+pub mod OneWays
+pub mod PairsRead

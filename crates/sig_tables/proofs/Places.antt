@@ -1,5 +1,5 @@
 -- Places that are filled one after the other.
-use Rattle.std.proofs.Common.{◌≡◌, ◌∙◌, ℕ, zero, suc, ◌+◌, ◌-◌, ◌<◌, ◌≤◌, List, [], ◌∷◌, length, get_or, Some, None, Option, refl, sym, ap, arith, slice_set, replicate}
+use Rattle.std.proofs.Common.{◌≡◌, ℕ, zero, suc, ◌+◌, ◌<◌, ◌≤◌, List, [], ◌∷◌, length, get_or, Some, None, Option, refl, sym, arith, slice_set, replicate}
 use Rattle.std.proofs.lemmas.Option.{none-some}
 use Rattle.sig_tables.specs.Held.{empties}
 
@@ -21,3 +21,9 @@ some_empty (Some y ∷ xs) (suc k) lt none = some_empty xs k (omega arith) none
 pub all_empty : (A : Type 0) (n : ℕ) → empties (replicate {A = Option A} n None) ≡ n
 all_empty A zero = refl
 all_empty A (suc n) = omega (arith, all_empty A n)
+
+-- nothing is in an empty place
+pub none_held : (A : Type 0) (n k : ℕ) → get_or (replicate {A = Option A} n None) k None ≡ None
+none_held A zero k = refl
+none_held A (suc n) zero = refl
+none_held A (suc n) (suc k) = none_held A n k

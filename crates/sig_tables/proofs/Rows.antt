@@ -1,12 +1,11 @@
 -- What a reader of records has read, and the records of the whole text.
-use Rattle.std.proofs.Common.{◌≡◌, ◌∙◌, ℕ, zero, suc, ◌+◌, ◌-◌, ◌<◌, ◌≤◌, Bool, true, false, List, [], ◌∷◌, ◌++◌, length, get_or, Some, None, Option, refl, sym, ap, arith, append_assoc, inl, inr, length-append, append-nil}
+use Rattle.std.proofs.Common.{◌≡◌, ◌∙◌, ℕ, zero, suc, ◌+◌, ◌-◌, ◌<◌, ◌≤◌, Bool, true, false, List, [], ◌∷◌, ◌++◌, length, Some, None, refl, sym, ap, arith, inl, inr, append-nil}
 use Rattle.std.specs.Prelude.{if◌then◌else◌, ◌==◌, ◌&&◌}
 use Rattle.std.proofs.lemmas.Bool.{cases_Bool, false≢true}
 use Rattle.std.proofs.lemmas.Option.{same_Some, none-some}
 use Rattle.csv.specs.Machine.{Read, next_record, step, in_field, start_field, start_record, is_end, ends_at_end, ends_with, after_end, fields_after, field_after}
 use Rattle.csv.specs.Records.{field_at}
-use Rattle.csv.specs.Reading.{records, records_from, records_next, Reached, default_config, strip_bom}
-use Rattle.csv.specs.declared.parser.Config.{Config}
+use Rattle.csv.specs.Reading.{records_from, Reached, default_config, strip_bom}
 use Rattle.csv.specs.declared.parser.State.{State}
 use Rattle.csv.specs.declared.parser.State.TheVariants as st
 use Rattle.csv.specs.declared.parser.Action.{Action}
@@ -19,7 +18,6 @@ unfolding field_at
 field_of_row [] k lt = absurd (omega arith)
 field_of_row (f ∷ fs) zero lt = refl
 field_of_row (f ∷ fs) (suc k) lt = field_of_row fs k (omega arith)
-
 
 -- a record ends where the next one may begin
 abbrev BeginsNext : State × Action → Type 0
@@ -39,7 +37,7 @@ after_terminator false is = refl
 after_field : (c : ℕ) → BeginsNext (in_field default_config c)
 after_field c =
     either (c == 44) (st.StartField, act.EndField) _ (goes_on st.StartField act.EndField refl)
-      (either (ends_with default_config.terminator c) (after_end default_config.terminator c, act.EndRecord) (st.InField, act.Copy) (after_terminator (c == 13)) (goes_on st.InField act.Copy refl))
+    (either (ends_with default_config.terminator c) (after_end default_config.terminator c, act.EndRecord) (st.InField, act.Copy) (after_terminator (c == 13)) (goes_on st.InField act.Copy refl))
 
 after_start : (c : ℕ) → BeginsNext (start_field default_config c)
 after_start c = either (default_config.quoting && (c == 34)) (st.InQuoted, act.Skip) (in_field default_config c) (goes_on st.InQuoted act.Skip refl) (after_field c)
@@ -75,18 +73,20 @@ pub leaves : (s : State) (fs : List (List ℕ)) (f xs : List ℕ) (p : Read) →
 unfolding next_record
 leaves s fs f [] p is = at_end (ends_at_end s) p (fs ++ (f ∷ []), st.StartRecord, []) (omega arith, refl) is
 leaves s fs f (c ∷ rest) p is = elim (cases_Bool (is_end (step default_config s c).1)) [
-    inl ends ↦ (let now : Leaves (c ∷ rest) (fields_after (step default_config s c).1 fs f, (step default_config s c).0, rest) = (omega arith, ends_after s c ends) in
+  | inl ends ↦ (let now : Leaves (c ∷ rest) (fields_after (step default_config s c).1 fs f, (step default_config s c).0, rest) = (omega arith, ends_after s c ends) in
       leaves_same (c ∷ rest) p _ now (rw ends at is))
-  | inr goes ↦ leaves_longer c rest p (leaves (step default_config s c).0 (fields_after (step default_config s c).1 fs f) (field_after (step default_config s c).1 c f) rest p (rw goes at is)) ]
+  | inr goes ↦ leaves_longer c rest p (leaves (step default_config s c).0 (fields_after (step default_config s c).1 fs f) (field_after (step default_config s c).1 c f) rest p (rw goes at is))
+]
 
 -- from a state in which a record may begin, each record takes a byte
 pub shorter : (s : State) (xs : List ℕ) (p : Read) → ends_at_end s ≡ false → next_record default_config s [] [] xs ≡ Some p → (length p.2 < length xs) × (ends_at_end p.1 ≡ false)
 unfolding next_record
 shorter s [] p begins is = absurd (none-some p (rw begins at is))
 shorter s (c ∷ rest) p begins is = elim (cases_Bool (is_end (step default_config s c).1)) [
-    inl ends ↦ (let now : Leaves rest (fields_after (step default_config s c).1 [] [], (step default_config s c).0, rest) = (omega arith, ends_after s c ends) in
+  | inl ends ↦ (let now : Leaves rest (fields_after (step default_config s c).1 [] [], (step default_config s c).0, rest) = (omega arith, ends_after s c ends) in
       let l : Leaves rest p = leaves_same rest p _ now (rw ends at is) in (omega (arith, l.0), l.1))
-  | inr goes ↦ (let l : Leaves rest p = leaves (step default_config s c).0 (fields_after (step default_config s c).1 [] []) (field_after (step default_config s c).1 c []) rest p (rw goes at is) in (omega (arith, l.0), l.1)) ]
+  | inr goes ↦ (let l : Leaves rest p = leaves (step default_config s c).0 (fields_after (step default_config s c).1 [] []) (field_after (step default_config s c).1 c []) rest p (rw goes at is) in (omega (arith, l.0), l.1))
+]
 
 -- a reader of the records reaches what is read of the whole text
 reached_of : (s s2 : State) (xs ys : List ℕ) (rows : List Row) (k n : ℕ) → Reached default_config s xs rows s2 ys → k ≡ length rows + n →

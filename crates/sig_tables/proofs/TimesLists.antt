@@ -1,21 +1,19 @@
 -- The times of groups among records, and the places in which a reader holds them.
-use Rattle.std.proofs.Common.{◌≡◌, ◌≢◌, ◌∙◌, ℕ, zero, suc, ◌+◌, ◌-◌, ◌<◌, ◌≤◌, Bool, true, false, List, [], ◌∷◌, ◌++◌, length, get_or, Some, None, Option, refl, sym, ap, arith, inl, inr, slice_set, get_or-set_other, get_or-set_same}
-use Rattle.std.specs.Prelude.{if◌then◌else◌, is_some, ◌==◌}
+use Rattle.std.proofs.Common.{◌≡◌, ◌∙◌, ℕ, ◌<◌, Bool, true, false, List, [], ◌∷◌, ◌++◌, get_or, Some, None, Option, refl, sym, ap, arith, inl, inr, slice_set, get_or-set_other}
+use Rattle.std.specs.Prelude.{is_some}
 use Rattle.std.proofs.lemmas.Bool.{cases_Bool, false≢true, cases_eq}
 use Rattle.std.proofs.lemmas.Bool.Decides.{eqb_tells}
 use Rattle.std.proofs.lemmas.Option.{none-some}
 use Rattle.std.proofs.lemmas.List.{length-set}
 use Rattle.std.proofs.lemmas.Grind.{get_or-set_at}
-use Rattle.sig_types.specs.FirstRefused.{or_next}
 use Rattle.pua_model.specs.Plan.{PlanOf, groups_in}
 use Rattle.sig_tables.specs.declared.refusal.TableWhy.{TableWhy}
 use Rattle.sig_tables.specs.declared.refusal.TableWhy.TheVariants as why
 use Rattle.sig_tables.specs.declared.times.TimesRow.{TimesRow}
 use Rattle.sig_tables.specs.Records.{Row}
-use Rattle.sig_tables.specs.Refusals.{when}
 use Rattle.sig_tables.specs.Groups.{group_at, is_group}
-use Rattle.sig_tables.specs.TimesTable.{IsRow, listed_times, times_in, times_or, times_form, times_reason, has_times}
-use Rattle.sig_tables.specs.Held.{HoldsTimes, IsRowOrNone}
+use Rattle.sig_tables.specs.TimesTable.{IsRow, listed_times, times_in, times_or, times_form, times_reason}
+use Rattle.sig_tables.specs.Held.{HoldsTimes}
 
 listed_other : (plan : PlanOf) (rows : List Row) (row : Row) (g : ℕ) → is_group (group_at plan row 0) g ≡ false → listed_times plan (rows ++ row ∷ []) g ≡ listed_times plan rows g
 unfolding listed_times
@@ -27,8 +25,9 @@ listed_here : (plan : PlanOf) (rows : List Row) (row : Row) (g : ℕ) → listed
 unfolding listed_times
 listed_here plan [] row g none here = rw here refl
 listed_here plan (r ∷ rs) row g none here = elim (cases_Bool (is_group (group_at plan r 0) g)) [
-    inl at ↦ absurd (none-some _ (sym (rw at at none)))
-  | inr other ↦ rw other (listed_here plan rs row g (rw other at none) here) ]
+  | inl at ↦ absurd (none-some _ (sym (rw at at none)))
+  | inr other ↦ rw other (listed_here plan rs row g (rw other at none) here)
+]
 
 pub reason_form : (plan : PlanOf) (rows : List Row) (row : Row) (why : TableWhy) → times_form plan row ≡ Some why → times_reason plan rows row ≡ Some why
 unfolding times_reason
@@ -60,12 +59,14 @@ pub held_more : (plan : PlanOf) (rows : List Row) (held : List (Option TimesRow)
 held_more plan rows held row g times holds lt named free read fits = record {
   size = length-set held g (Some times) ∙ holds.size;
   times = λ k below. elim (cases_eq k g) [
-      inl same ↦ (let here : is_group (group_at plan row 0) k ≡ true = rw named (grind (arith, eqb_tells)) in
+    | inl same ↦ (let here : is_group (group_at plan row 0) k ≡ true = rw named (grind (arith, eqb_tells)) in
         let none : listed_times plan rows k ≡ None = rw same (sym (holds.times g lt) ∙ is_none_of _ free) in
         get_or-set_at held g k (Some times) None same (omega (arith, holds.size)) ∙ sym (listed_here plan rows row k none here ∙ ap (λ o. Some (times_or o)) read))
     | inr other ↦ (let apart : is_group (group_at plan row 0) k ≡ false = rw named (grind (arith, eqb_tells)) in
-        get_or-set_other held g k (Some times) None other ∙ holds.times k below ∙ sym (listed_other plan rows row k apart)) ];
+        get_or-set_other held g k (Some times) None other ∙ holds.times k below ∙ sym (listed_other plan rows row k apart))
+  ];
   range = λ k below. elim (cases_eq k g) [
-      inl same ↦ rw (get_or-set_at held g k (Some times) None same (omega (arith, holds.size))) fits
-    | inr other ↦ rw (get_or-set_other held g k (Some times) None other) (holds.range k below) ];
+    | inl same ↦ rw (get_or-set_at held g k (Some times) None same (omega (arith, holds.size))) fits
+    | inr other ↦ rw (get_or-set_other held g k (Some times) None other) (holds.range k below)
+  ];
 }

@@ -1,10 +1,8 @@
 -- The table of times, as it is read.
-use Rattle.std.proofs.Common.{◌≡◌, ◌∙◌, ℕ, zero, suc, ◌+◌, ◌-◌, ◌<◌, ◌≤◌, Bool, true, false, List, [], ◌∷◌, ◌++◌, length, get_or, Some, None, Option, refl, sym, ap, arith, inl, inr, replicate, append_assoc, length-append}
+use Rattle.std.proofs.Common.{◌≡◌, ◌∙◌, ℕ, zero, suc, ◌+◌, ◌<◌, ◌≤◌, true, false, List, [], ◌∷◌, ◌++◌, length, get_or, Some, None, Option, refl, sym, ap, arith, replicate, append_assoc, length-append}
 use Rattle.std.proofs.lemmas.List.{length-replicate}
-use Rattle.std.specs.Prelude.{is_none, is_some}
-use Rattle.sig_types.specs.declared.numbers.GroupNo.{GroupNo}
+use Rattle.std.specs.Prelude.{is_none}
 use Rattle.sig_types.specs.FirstRefused.{or_next, first_refused}
-use Rattle.sig_types.specs.Words.{least_below}
 use Rattle.pua_model.specs.Plan.{PlanOf, groups_in}
 use Rattle.sig_tables.specs.declared.refusal.TableWhy.{TableWhy}
 use Rattle.sig_tables.specs.declared.refusal.TableWhy.TheVariants as why
@@ -21,7 +19,7 @@ use Rattle.sig_tables.specs.Held.{HoldsTimes, empties}
 use Rattle.sig_types.specs.FirstRefused.{refused_to}
 use Rattle.sig_types.proofs.Refusals.{accepted_pushed}
 use Rattle.sig_tables.proofs.Rows.{text_begins}
-use Rattle.sig_tables.proofs.Places.{all_empty}
+use Rattle.sig_tables.proofs.Places.{all_empty, none_held}
 use Rattle.sig_tables.proofs.Judged.{refused_row}
 use Rattle.sig_tables.proofs.Least.{least_below-at, least_below-never}
 
@@ -83,18 +81,12 @@ unfolding times_below
 times_counted plan rows zero = refl
 times_counted plan rows (suc n) = omega (arith, length-append (times_below plan rows n) (times_or (listed_times plan rows n) ∷ []), times_counted plan rows n)
 
--- nothing is held before the first record
-held_none : (n k : ℕ) → get_or (replicate {A = Option TimesRow} n None) k None ≡ None
-held_none zero k = refl
-held_none (suc n) zero = refl
-held_none (suc n) (suc k) = held_none n k
-
 pub holds_none : (plan : PlanOf) → HoldsTimes plan [] (replicate (groups_in plan) None)
 unfolding listed_times
 holds_none plan = record {
   size = length-replicate (groups_in plan) None;
-  times = λ g lt. held_none (groups_in plan) g;
-  range = λ g lt. rw (held_none (groups_in plan) g) tt;
+  times = λ g lt. none_held TimesRow (groups_in plan) g;
+  range = λ g lt. rw (none_held TimesRow (groups_in plan) g) tt;
 }
 
 pub begun : (plan : PlanOf) (text : List ℕ) (records : Records) (held : List (Option TimesRow)) (header : Row) → HasRead records text (header ∷ []) →

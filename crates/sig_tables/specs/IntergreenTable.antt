@@ -1,9 +1,8 @@
 -- The table of intergreens: one record per ordered pair of groups that conflict.
-use Rattle.std.specs.Prelude.{◌≡◌, ℕ, ◌+◌, ◌==◌, Bool, true, false, not, ◌&&◌, List, [], ◌∷◌, length, drop, Option, Some, None, is_some, is_none, unwrap_or, if◌then◌else◌}
-use Rattle.sig_types.specs.declared.numbers.GroupNo.{GroupNo}
-use Rattle.sig_types.specs.FirstRefused.{or_next, first_reason, first_refused}
+use Rattle.std.specs.Prelude.{ℕ, ◌==◌, Bool, false, not, ◌&&◌, List, [], ◌∷◌, length, drop, Option, Some, None, is_some, is_none, unwrap_or, if◌then◌else◌}
+use Rattle.sig_types.specs.FirstRefused.{first_reason, first_refused}
 use Rattle.sig_types.specs.Text.{number_of, within}
-use Rattle.pua_model.specs.Plan.{PlanOf, groups_in}
+use Rattle.pua_model.specs.Plan.{PlanOf}
 use Rattle.sig_tables.specs.declared.refusal.TableWhy.{TableWhy}
 use Rattle.sig_tables.specs.declared.refusal.TableWhy.TheVariants as why
 use Rattle.sig_tables.specs.declared.header.Table.TheVariants.{Intergreens}
@@ -11,7 +10,6 @@ use Rattle.sig_tables.specs.Records.{Row, table_rows, field}
 use Rattle.sig_tables.specs.Refusals.{Refusal, when, header_refusal, numbered}
 use Rattle.sig_tables.specs.Headers.{header_of}
 use Rattle.sig_tables.specs.Groups.{group_at}
-use Rattle.sig_tables.specs.Pairs.{Pairs}
 
 -- the seconds of a record, where they are a number in its range
 unfoldable pub seconds_in : Row → Option ℕ
@@ -79,6 +77,6 @@ intergreens_refused plan rows = first_reason (
 abbrev pub intergreens_refusal : PlanOf → List ℕ → Option Refusal
 intergreens_refusal plan text = intergreens_refused plan (table_rows text)
 
--- the pairs that an accepted text gives the groups of the plan
-unfoldable pub intergreens_of : PlanOf → List ℕ → Pairs
-intergreens_of plan text = record { count = groups_in plan; between = listed_seconds plan (drop 1 (table_rows text)) }
+-- the seconds that an accepted text gives a pair of groups of the plan
+unfoldable pub intergreen_of : PlanOf → List ℕ → ℕ → ℕ → Option ℕ
+intergreen_of plan text i g = listed_seconds plan (drop 1 (table_rows text)) i g

@@ -2,7 +2,6 @@
 use Rattle.std.specs.Prelude.{◌≡◌, ℕ, List, [], slice_index_or, length, Bool, true, false, ◌&&◌, ◌∷◌, Some}
 use Rattle.std.specs.Borrow.{Bor}
 use Rattle.csv.specs.Reading.{records, Reached, Ready, default_config, source_of, strip_bom}
-use Rattle.csv.specs.Records.{fields_of}
 use Rattle.csv.specs.declared.parser.State.TheVariants as st
 use Rattle.csv.specs.declared.reader.Trim.TheVariants as trim
 use Rattle.sig_types.specs.Text.{same_name}

@@ -1,6 +1,5 @@
 -- The table of times: one record per group.
-use Rattle.std.specs.Prelude.{◌≡◌, ℕ, zero, suc, ◌+◌, ◌<◌, ◌≤◌, ◌==◌, Bool, true, false, not, ◌&&◌, List, [], ◌∷◌, ◌++◌, length, drop, slice_index_or, Option, Some, None, is_some, is_none, if◌then◌else◌, All}
-use Rattle.sig_types.specs.declared.numbers.GroupNo.{GroupNo}
+use Rattle.std.specs.Prelude.{ℕ, zero, suc, ◌≤◌, ◌==◌, Bool, false, not, List, [], ◌∷◌, ◌++◌, length, drop, slice_index_or, Option, Some, None, is_some, is_none, if◌then◌else◌, All}
 use Rattle.sig_types.specs.FirstRefused.{or_next, first_reason, first_refused}
 use Rattle.sig_types.specs.Text.{number_of, within}
 use Rattle.sig_types.specs.Words.{least_below}

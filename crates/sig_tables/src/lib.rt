@@ -5,10 +5,15 @@
 #![tactic(auto)]
 
 mod header;
+mod intergreens;
+mod intergreens_reader;
 mod records;
 mod refusal;
 mod times;
 mod times_reader;
 
+pub use intergreens::Intergreens;
+pub use intergreens_reader::read_intergreens;
 pub use refusal::{TableRefusal, TableWhy};
 pub use times::{Times, TimesRow};
+pub use times_reader::read_times;

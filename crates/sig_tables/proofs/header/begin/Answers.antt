@@ -1,8 +1,7 @@
-use Rattle.std.proofs.Common.{rules, ◌≡◌, ◌∙◌, sym, ap, refl, [], ◌∷◌, ◌++◌, false, true}
+use Rattle.std.proofs.Common.{rules, ◌≡◌, ◌∙◌, sym, refl, [], false, true}
 use Rattle.csv.specs.Records.{fields_of}
-use Rattle.sig_tables.specs.Records.{is_header, table_rows}
+use Rattle.sig_tables.specs.Records.{is_header}
 use Rattle.sig_tables.specs.Headers.{header_of}
-use Rattle.sig_tables.specs.Refusals.{header_refusal}
 use Rattle.sig_tables.proofs.Rows.{text_begins}
 use Rattle.sig_tables.proofs.header.begin.Goals as goal
 

@@ -1,6 +1,5 @@
-use Rattle.std.proofs.Common.{◌≡◌, ◌∙◌, sym, ap, Some, None}
+use Rattle.std.proofs.Common.{◌∙◌}
 use Rattle.std.proofs.lemmas.Option.{same_Some, none-some}
-use Rattle.sig_tables.specs.Records.{field}
 use Rattle.csv.specs.Records.{fields_of}
 use Rattle.sig_tables.proofs.Rows.{field_of_row}
 use Rattle.sig_tables.proofs.records.field.Goals as goal

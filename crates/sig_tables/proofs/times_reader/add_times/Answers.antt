@@ -1,10 +1,7 @@
-use Rattle.std.proofs.Common.{rules, ◌≡◌, ◌∙◌, ◌<◌, sym, ap, refl, ℕ, List, Some, None, true, false, length, get_or, arith}
+use Rattle.std.proofs.Common.{rules, ◌≡◌, ◌<◌, None, true, false, length, get_or, arith}
 use Rattle.std.proofs.lemmas.Result.{err_from_is_err_and}
 use Rattle.std.specs.Prelude.{is_some}
 use Rattle.csv.specs.Records.{fields_of}
-use Rattle.pua_model.specs.Plan.{groups_in}
-use Rattle.sig_tables.specs.Records.{Row}
-use Rattle.sig_tables.specs.Held.{HoldsTimes}
 use Rattle.sig_tables.proofs.Places.{empties_filled}
 use Rattle.sig_tables.proofs.TimesLists.{reason_form, reason_twice, reason_none, held_listed, held_more, is_none_of}
 use Rattle.sig_tables.proofs.times_reader.add_times.Goals as goal
@@ -18,19 +15,19 @@ pub returns-then-is_some-clause-refused : goal.returns-then-is_some-clause-refus
 returns-then-is_some-clause-refused c = λ rows holds.
     let held : is_some (get_or c.args.held.now c.in_ok-group.group.0 None) ≡ true = search rules in
     reason_twice c.args.plan.now rows (fields_of c.args.row.now) c.in_ok-group.group.0 c.in_ok-group.ensures.right c.in_ok-group.ensures.group
-      (held_listed c.args.plan.now rows c.args.held.now c.in_ok-group.group.0 holds c.in_ok-group.ensures.inside true held)
+    (held_listed c.args.plan.now rows c.args.held.now c.in_ok-group.group.0 holds c.in_ok-group.ensures.inside true held)
 
 pub returns-clause-right : goal.returns-clause-right
 returns-clause-right c = λ rows holds.
     let held : is_some (get_or c.args.held.now c.in_ok-group.group.0 None) ≡ false = search rules in
     reason_none c.args.plan.now rows (fields_of c.args.row.now) c.in_ok-group.group.0 c.in_ok-group.ensures.right c.in_ok-group.ensures.group
-      (held_listed c.args.plan.now rows c.args.held.now c.in_ok-group.group.0 holds c.in_ok-group.ensures.inside false held)
+    (held_listed c.args.plan.now rows c.args.held.now c.in_ok-group.group.0 holds c.in_ok-group.ensures.inside false held)
 
 pub returns-clause-held : goal.returns-clause-held
 returns-clause-held c = λ rows holds.
     let held : is_some (get_or c.args.held.now c.in_ok-group.group.0 None) ≡ false = search rules in
     held_more c.args.plan.now rows c.args.held.now (fields_of c.args.row.now) c.in_ok-group.group.0 c.in_ok-group.times holds c.in_ok-group.ensures.inside
-      c.in_ok-group.ensures.group held c.in_ok-group.ensures.times c.in_ok-group.ensures.range
+    c.in_ok-group.ensures.group held c.in_ok-group.ensures.times c.in_ok-group.ensures.range
 
 pub returns-clause-fills : goal.returns-clause-fills
 returns-clause-fills c =

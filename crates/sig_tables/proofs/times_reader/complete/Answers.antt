@@ -1,9 +1,7 @@
-use Rattle.std.proofs.Common.{rules, ◌≡◌, ◌∙◌, ◌<◌, ◌+◌, ◌++◌, ◌∷◌, sym, ap, refl, ℕ, List, [], Some, None, true, false, length, get_or, arith, below_more, length-append}
+use Rattle.std.proofs.Common.{rules, ◌≡◌, ◌∙◌, ◌<◌, ◌++◌, ◌∷◌, sym, ap, [], Some, None, length, get_or, arith, below_more, length-append}
 use Rattle.std.specs.Prelude.{is_none}
 use Rattle.std.proofs.lemmas.List.Elements.{All-push}
-use Rattle.pua_model.specs.Plan.{PlanOf, groups_in}
-use Rattle.sig_tables.specs.Records.{Row}
-use Rattle.sig_tables.specs.Held.{HoldsTimes}
+use Rattle.pua_model.specs.Plan.{groups_in}
 use Rattle.sig_tables.specs.TimesTable.{IsRow, times_below}
 use Rattle.sig_tables.proofs.TimesRead.{missing_at, none_missing, times_more}
 use Rattle.sig_tables.proofs.times_reader.complete.Goals as goal
@@ -30,8 +28,8 @@ loop-g-preserved c =
       size = rw pushed (omega (arith, c.loop-g.invariant.size, length-append c.loop-g.times.items (c.in-Some.row ∷ [])));
       range = rw pushed (All-push IsRow c.loop-g.times.items c.in-Some.row c.loop-g.invariant.range (rw here at (c.requires.range c.loop-g.g (search rules))));
       same = λ plan rows holds.
-        let lt : c.loop-g.g < groups_in plan = omega (arith, holds.size, c.loop-g-test.true) in
-        pushed ∙ ap (λ l. l ++ c.in-Some.row ∷ []) (c.loop-g.invariant.same plan rows holds) ∙ sym (times_more plan rows c.args.held.now c.loop-g.g c.in-Some.row holds lt here);
+          let lt : c.loop-g.g < groups_in plan = omega (arith, holds.size, c.loop-g-test.true) in
+          pushed ∙ ap (λ l. l ++ c.in-Some.row ∷ []) (c.loop-g.invariant.same plan rows holds) ∙ sym (times_more plan rows c.args.held.now c.loop-g.g c.in-Some.row holds lt here);
       full = below_more _ _ c.loop-g.invariant.full (ap is_none here);
     }
 

@@ -11,5 +11,5 @@ invariant-loop-g l = record {
   size : length l.times.items ≡ l.g;
   range : All IsRow l.times.items;
   same : (plan : PlanOf) (rows : List Row) → HoldsTimes plan rows l.held → l.times.items ≡ times_below plan rows l.g;
-  full : (j : ℕ) → j < l.g → is_none (slice_index_or l.held j None) ≡ false
+  full : (j : ℕ) → j < l.g → is_none (slice_index_or l.held j None) ≡ false;
 }

@@ -1,4 +1,3 @@
-use Rattle.std.proofs.Common.{ℕ}
 use Rattle.sig_tables.specs.Held.{empties}
 use Rattle.sig_tables.proofs.TimesRead.{ReadsTimes}
 use Rattle.sig_tables.proofs.times_reader.read_times.Given as goal

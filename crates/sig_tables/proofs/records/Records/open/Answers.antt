@@ -1,4 +1,4 @@
-use Rattle.std.proofs.Common.{◌≡◌, ◌∙◌, sym, refl, inr, [], Some}
+use Rattle.std.proofs.Common.{◌∙◌, sym, refl, inr}
 use Rattle.csv.specs.Reading.{Reached, strip_bom}
 use Rattle.sig_tables.proofs.records.Records.open.Goals as goal
 
