@@ -1,0 +1,134 @@
+// The active stage, counted on from second to second.
+ghost use Rattle.std.specs.Prelude.{◌≡◌, ℕ, ◌+◌, ◌<◌, ◌≤◌, List, [], ◌∷◌, length, slice_index_or, false, IfSome, MatchResult, None, Some};
+ghost use Rattle.pua_model.specs.Plan.{PlanOf, HasStage, IsPlan, groups_in, length_between};
+
+use pua_model::Plan;
+use sig_types::{GroupNo, Rule, Second, StageNo, StagePlace, Wishes};
+
+/// The stage that is active, or the interstage that runs, in some second.
+#[derive(Drop)]
+pub struct StageState {
+    place: StagePlace,
+    since: u32,
+    second: u32,
+}
+
+// The length of the interstage of a pair of stages.
+fn length_between(plan: &Plan, from: StageNo, to: StageNo) -> Option<u8>
+    ensures length { result ≡ length_between plan.now from.0 to.0 }
+    ensures range { IfSome result (λ n. (1 ≤ n) × (n ≤ 126)) }
+{
+    match plan.interstage(from, to) {
+        None => None,
+        Some(way) => Some(plan.length(way)),
+    }
+}
+
+impl StageState {
+    ghost use Rattle.stage_machine.specs.Orders.{Order, place_at, since_at, refused_order, stage_wish};
+    ghost use Rattle.stage_machine.specs.Stands.{StandsFor, HasOrders};
+
+    /// Second 0, in which the starting stage is active.
+    #[tactic(auto, unfolding(crate::specs::Stands::StandsFor, crate::specs::Orders::place_at, crate::specs::Orders::since_at))]
+    pub fn new(start: StageNo) -> StageState
+        ensures { (plan : PlanOf) → plan.start ≡ start.0 → StandsFor result plan [] 0 }
+    {
+        StageState {
+            place: StagePlace::Stage(start),
+            since: 0,
+            second: 0,
+        }
+    }
+
+    /// Begins a second: an interstage whose last second is over has ended, and its to-stage is active.
+    #[tactic(auto, unfolding(crate::specs::Stands::StandsFor, crate::specs::Orders::place_at, crate::specs::Orders::since_at))]
+    pub fn step(&mut self, plan: &Plan)
+        requires { (orders : List Order) × (k : ℕ) × StandsFor self.old plan.now orders k × (k < 604801) }
+        ensures { (orders : List Order) (k : ℕ) → StandsFor self.old plan.now orders k → StandsFor self.new plan.now orders (k + 1) }
+    {
+        self.second += 1;
+        if let StagePlace::Inter { from, to, t } = self.place {
+            match length_between(plan, from, to) {
+                Some(length) if t < length - 1 => {
+                    self.place = StagePlace::Inter { from, to, t: t + 1 };
+                }
+                _ => {
+                    self.place = StagePlace::Stage(to);
+                    self.since = self.second;
+                }
+            }
+        }
+    }
+
+    /// Obeys the command of the interstage from one stage to another, or refuses it and changes nothing: as `Running` where
+    /// an interstage runs, else as `WrongStage` where the from-stage is not active, else as `NoInterstage` where the plan has
+    /// none for the pair.
+    #[tactic(auto, unfolding(crate::specs::Stands::StandsFor, crate::specs::Orders::place_at, crate::specs::Orders::since_at))]
+    pub fn order(&mut self, plan: &Plan, from: StageNo, to: StageNo) -> Result<(), Rule>
+        requires from { HasStage plan.now from.0 }
+        requires to { HasStage plan.now to.0 }
+        ensures { (orders : List Order) (k : ℕ) → StandsFor self.old plan.now orders k →
+            MatchResult result (λ _. (refused_order plan.now (place_at plan.now orders k) from.0 to.0 ≡ None) × StandsFor self.new plan.now (record { second = k; from = from.0; to = to.0 } ∷ orders) k)
+            (λ rule. (refused_order plan.now (place_at plan.now orders k) from.0 to.0 ≡ Some rule) × StandsFor self.new plan.now orders k) }
+    {
+        match self.place {
+            StagePlace::Inter { .. } => Err(Rule::Running),
+            StagePlace::Stage(active) if active.0 == from.0 => match length_between(
+                plan, from, to,
+            ) {
+                None => Err(Rule::NoInterstage),
+                Some(_) => {
+                    self.place = StagePlace::Inter { from, to, t: 0 };
+                    Ok(())
+                }
+            },
+            _ => Err(Rule::WrongStage),
+        }
+    }
+
+    /// The stage that is active, or the interstage that runs and its second from 0.
+    #[tactic(auto, unfolding(crate::specs::Stands::StandsFor))]
+    pub fn place(&self) -> StagePlace
+        ensures { (plan : PlanOf) (orders : List Order) (k : ℕ) → StandsFor self.now plan orders k → result ≡ place_at plan orders k }
+    {
+        self.place
+    }
+
+    /// The second in which the active stage became active; while an interstage runs, that in which its from-stage did.
+    #[tactic(auto, unfolding(crate::specs::Stands::StandsFor, crate::specs::Orders::since_at))]
+    pub fn since(&self) -> Second
+        ensures { (plan : PlanOf) (orders : List Order) (k : ℕ) → StandsFor self.now plan orders k → (result.0 ≡ since_at plan orders k) × (result.0 ≤ k) }
+    {
+        Second(self.since)
+    }
+
+    // What the place wishes of a group.
+    #[tactic(auto, unfolding(crate::specs::Stands::StandsFor, crate::specs::Orders::stage_wish))]
+    fn wish(&self, plan: &Plan, g: GroupNo) -> bool
+        requires plan { IsPlan plan.now }
+        requires stands { (orders : List Order) × (k : ℕ) × StandsFor self.now plan.now orders k }
+        requires group { g.0 < groups_in plan.now }
+        ensures { (orders : List Order) (k : ℕ) → StandsFor self.now plan.now orders k → result ≡ stage_wish plan.now (place_at plan.now orders k) g.0 }
+    {
+        match self.place {
+            StagePlace::NoPlan => false,
+            StagePlace::Stage(stage) => plan.in_stage(stage, g),
+            StagePlace::Inter { from, to, t } => match plan.interstage(from, to) {
+                None => false,
+                Some(way) => plan.wish(way, t, g),
+            },
+        }
+    }
+
+    /// Writes what the stage, or the interstage in its second, wishes of each group.
+    pub fn wishes(&self, plan: &Plan, out: &mut Wishes)
+        requires stands { (orders : List Order) × (k : ℕ) × StandsFor self.now plan.now orders k }
+        requires groups { length out.old ≡ groups_in plan.now }
+        ensures groups { length out.new ≡ groups_in plan.now }
+        ensures wishes { (orders : List Order) (k : ℕ) → StandsFor self.now plan.now orders k → (g : ℕ) → g < groups_in plan.now → slice_index_or out.new g false ≡ stage_wish plan.now (place_at plan.now orders k) g }
+    {
+        for g in 0..plan.groups() {
+            out.set(g, self.wish(plan, GroupNo(g)));
+        }
+    }
+}
