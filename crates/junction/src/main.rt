@@ -1,0 +1,39 @@
+//! A traffic signal controller on the command line: what its words ask for, over the files of the system.
+//!
+//! Its exit status is the number of the `Status` that the top call `junction` answers.
+#![tactic(auto)]
+
+use junction_run::{Status, junction};
+use sig_io::{DiskFiles, ErrSink, OutSink, put_all};
+use std::alloc::{AllocError, Global};
+use std::env::Args;
+use std::io::ErrorKind;
+use std::process::ExitCode;
+use std::{env, io};
+
+// The words after the program's name. A word that is no UTF-8 makes the words no form, and none stand for it.
+fn words_of(alloc: Global, args: io::Result<Args>) -> Result<Vec<String>, AllocError> {
+    match args {
+        Ok(args) => args.skip(1).collect(alloc),
+        Err(error) if error.kind() == ErrorKind::OutOfMemory => Err(AllocError),
+        Err(_) => Ok(Vec::new(alloc)),
+    }
+}
+
+fn main(rt: HostRuntime) -> ExitCode {
+    let alloc = rt.alloc();
+    let stdout = rt.stdout();
+    let stderr = rt.stderr();
+    let mut files = DiskFiles::new(&rt);
+    let mut out = OutSink::new(&stdout);
+    let mut notes = ErrSink::new(&stderr);
+    let status = match words_of(alloc, env::args(&rt)) {
+        Ok(words) => junction(alloc, &words, &mut files, &mut out, &mut notes),
+        Err(_) => {
+            // A note that fails changes no status.
+            let _ = put_all(&mut notes, b"junction: Memory\n");
+            Status::Memory
+        }
+    };
+    ExitCode::from(status as u8)
+}

@@ -1,0 +1,9 @@
+pub mod Answer
+pub mod Form
+pub mod Log
+pub mod Notes
+pub mod PlainText
+pub mod Refusal
+pub mod RunWords
+pub mod Stop
+pub mod TimesText
