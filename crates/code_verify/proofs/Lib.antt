@@ -1,0 +1,8 @@
+pub mod Bound
+pub mod Brought
+pub mod Checked
+pub mod PlaceFacts
+pub mod Routines
+pub mod Sample
+pub mod ShapeFacts
+pub mod TableFacts

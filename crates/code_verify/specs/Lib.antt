@@ -1,0 +1,5 @@
+pub mod Ends
+pub mod First
+pub mod Room
+pub mod Shape
+pub mod Tables

@@ -1,0 +1,106 @@
+// The counts, the arrays, the starts of routines and the lines of ticks.
+
+ghost use Rattle.std.specs.Prelude.{◌≡◌, ℕ, ◌≤◌, ◌<◌, ◌↔◌, length, map, sum, IsTrue, slice_index, slice_index_or};
+ghost use Rattle.std.specs.List.{All};
+ghost use Rattle.code_verify.specs.Shape.{CountsFit, ArraysFit, StartsFit};
+ghost use Rattle.vap_code.specs.Valid.{HasShape, rise as rise_of, line_fits as line_fits_of, instr_at};
+
+use vap_code::{Code, Instr};
+
+// Whether all counts are within their limits, the starts begin with 0, rise and lie in the code, and each tick
+// has a line that a program can have.
+pub fn has_shape(code: &Code) -> bool
+    ensures { IsTrue result ↔ HasShape code.now }
+{
+    counts_fit(code)
+        && arrays_fit(&code.arrays)
+        && starts_fit(&code.starts, code.instrs.len())
+        && lines_fit(&code.instrs)
+}
+
+fn counts_fit(code: &Code) -> bool
+    ensures { IsTrue result ↔ CountsFit code.now }
+{
+    code.instrs.len() <= 65_535 && code.starts.len() <= 65 && code.vars <= 256 && code.timers <= 64
+}
+
+fn arrays_fit(arrays: &[Vec<i32>]) -> bool
+    ensures { IsTrue result ↔ ArraysFit (λ a. length a.items) arrays.now }
+{
+    arrays.len() <= 32 && cells_fit(arrays) && all_cells_fit(arrays)
+}
+
+// Whether each array has 1 to 1,024 cells.
+fn cells_fit(arrays: &[Vec<i32>]) -> bool
+    ensures { IsTrue result ↔ All (λ a. (1 ≤ length a.items) × (length a.items ≤ 1024)) arrays.now }
+{
+    for array in arrays {
+        if array.len() < 1 || array.len() > 1024 {
+            return false;
+        }
+    }
+    true
+}
+
+// Whether all arrays together have at most 4,096 cells.
+fn all_cells_fit(arrays: &[Vec<i32>]) -> bool
+    ensures { IsTrue result ↔ (sum (map (λ a. length a.items) arrays.now) ≤ 4096) }
+{
+    let mut room = 4096;
+    for array in arrays {
+        if array.len() > room {
+            return false;
+        }
+        room -= array.len();
+    }
+    true
+}
+
+fn starts_fit(starts: &[u16], all: usize) -> bool
+    ensures { IsTrue result ↔ StartsFit starts.now all }
+{
+    starts.len() > 0 && starts[0] == 0 && rise(starts) && lie_inside(starts, all)
+}
+
+// Whether each start is greater than the one before.
+fn rise(starts: &[u16]) -> bool
+    ensures { result ≡ rise_of starts.now }
+{
+    for k in 1..starts.len() {
+        if starts[k - 1] >= starts[k] {
+            return false;
+        }
+    }
+    true
+}
+
+fn lie_inside(starts: &[u16], all: usize) -> bool
+    ensures { IsTrue result ↔ ((k : ℕ) → k < length starts.now → slice_index starts.now k < all) }
+{
+    for start in starts {
+        if *start as usize >= all {
+            return false;
+        }
+    }
+    true
+}
+
+fn lines_fit(instrs: &[Instr]) -> bool
+    ensures { IsTrue result ↔ ((p : ℕ) → p < length instrs.now → IsTrue (line_fits_of (instr_at instrs.now p))) }
+{
+    for p in 0..instrs.len() {
+        if !line_fits(instrs[p]) {
+            return false;
+        }
+    }
+    true
+}
+
+fn line_fits(instr: Instr) -> bool
+    ensures { result ≡ line_fits_of instr }
+{
+    match instr {
+        Instr::Tick(line) => 1 <= line && line <= 1_048_577,
+        _ => true,
+    }
+}
