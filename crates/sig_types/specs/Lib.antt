@@ -1,5 +1,6 @@
 pub mod Arity
 pub mod Counts
+pub mod Detectors
 pub mod FirstRefused
 pub mod Number
 pub mod Pass
