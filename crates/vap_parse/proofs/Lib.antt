@@ -1,0 +1,13 @@
+pub mod AllKinds
+pub mod After
+pub mod Meets
+pub mod Alike
+pub mod Law
+pub mod Turns
+pub mod Skips
+pub mod Tokens
+pub mod ExprLaws
+pub mod TextLaws
+pub mod Exact
+pub mod Shrinks
+pub mod Keeps

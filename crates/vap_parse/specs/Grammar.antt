@@ -1,0 +1,472 @@
+-- The grammar: which marked tokens spell which tree.
+use Rattle.std.specs.Prelude.{◌≡◌, ℕ, zero, suc, List, [], ◌∷◌, ◌++◌, ℤ, neg_ℤ, codes}
+use Rattle.sig_types.specs.declared.aspect.ReadingKind.{ReadingKind}
+use Rattle.sig_types.specs.declared.aspect.ReadingKind.TheVariants.{AnyInterstage}
+use Rattle.sig_types.specs.declared.aspect.CommandKind.{CommandKind}
+use Rattle.sig_types.specs.declared.aspect.TimerKind.{TimerKind}
+use Rattle.vap_lex.specs.declared.token.Token.{Token}
+use Rattle.vap_ast.specs.declared.tree.UnaryOp.TheVariants.{Neg, Not}
+use Rattle.vap_ast.specs.declared.tree.BinaryOp.{BinaryOp}
+use Rattle.vap_ast.specs.Syntax.{Expr, Exprs, Item, Stmt, Constant, Array, Routine, Program}
+use Rattle.vap_ast.specs.Syntax as tree
+use Rattle.vap_ast.specs.Tree.{exprs, items as one_after_another}
+use Rattle.vap_parse.specs.declared.kind.Kind.{Kind}
+use Rattle.vap_parse.specs.declared.kind.Kind.TheVariants as k
+use Rattle.vap_parse.specs.declared.kind.Rank.{Rank}
+use Rattle.vap_parse.specs.declared.kind.Rank.TheVariants as rank
+use Rattle.vap_parse.specs.declared.kind.Reason.{Reason}
+use Rattle.vap_parse.specs.declared.kind.Reason.TheVariants.{Unexpected, Frequency, TooDeep}
+use Rattle.vap_parse.specs.Kinds.{kind_of, operator_of, reading_of, command_of, timer_of, aspect_of}
+use Rattle.vap_parse.specs.Input.{Mark, deep, wrong, word_of, where_kind, with_line, line_of, called_by, numbered_by, no_limit, as_many, limit, below, frequency_mark, max_operators}
+use Rattle.vap_parse.specs.Reading.{max_levels, max_ifs}
+use Rattle.vap_parse.specs.Forms.{Marked, fines, Form, Picks, Gives, Either, Many, Anew, Balanced, ◌>>=◌, ◌>>◌}
+
+-- ---- tokens
+
+-- a token of this kind, which gives its line
+abbrev pub expect : Kind → Form ℕ
+expect kind = Picks (where_kind kind line_of) no_limit as_many
+
+-- a name, which gives its word and its line
+abbrev pub called : Form (List ℕ × ℕ)
+called = Picks (where_kind k.Name called_by) no_limit as_many
+
+abbrev pub number : Form ℤ
+number = Picks (where_kind k.Number numbered_by) no_limit as_many
+
+-- a token that opens a level, of which so many are left; it is too deep where none is left
+abbrev pub enter : ℕ → Kind → Form ℕ
+enter levels kind = Picks (where_kind kind line_of) (λ n t. limit levels) as_many
+
+-- an operator of this rank; it is too deep where the statement may have no more
+abbrev pub operator : Rank → Form BinaryOp
+operator rank = Picks (λ t. operator_of rank (kind_of t.kind)) (λ n t. limit n) below
+
+abbrev pub reading : Form ReadingKind
+reading = Picks (λ t. reading_of (kind_of t.kind)) no_limit as_many
+
+abbrev pub aspect : Form ReadingKind
+aspect = Picks (λ t. aspect_of (word_of t.kind)) no_limit as_many
+
+abbrev pub command : Form (CommandKind × ℕ)
+command = Picks (λ t. with_line (command_of (kind_of t.kind)) t.line) no_limit as_many
+
+abbrev pub timer : Form (TimerKind × ℕ)
+timer = Picks (λ t. with_line (timer_of (kind_of t.kind)) t.line) no_limit as_many
+
+-- a number, which is wrong where it is not 1
+abbrev pub frequency : Form ℤ
+frequency = Picks (where_kind k.Number numbered_by) frequency_mark as_many
+
+-- ---- expressions
+
+-- an operator and its right side
+unfoldable pub operation : Rank → Form Expr → Expr → Form Expr
+operation rank operand left = do
+  op ← operator rank
+  right ← operand
+  Gives (tree.Binary op left right)
+
+-- operands with operators of one rank between them, which group to the left
+unfoldable pub chain : Rank → Form Expr → Form Expr
+chain rank operand = operand >>= Many (operation rank operand)
+
+unfoldable pub literal : Form Expr
+literal = do
+  n ← number
+  Gives (tree.Literal n)
+
+-- What stands one level deeper is spelled by `inner`.
+module _ (levels : ℕ) (inner : Rank → Form Expr) where
+  unfoldable pub index : Form Expr
+  index = do
+    enter levels k.OpenIndex
+    x ← inner rank.Or
+    expect k.CloseIndex
+    Gives x
+
+  unfoldable pub brackets : Form Expr
+  brackets = do
+    enter levels k.Open
+    x ← inner rank.Or
+    expect k.Close
+    Gives x
+
+  unfoldable pub next_argument : List Expr → Form (List Expr)
+  next_argument xs = do
+    expect k.Comma
+    x ← inner rank.Or
+    Gives (xs ++ x ∷ [])
+
+  unfoldable pub some_arguments : Form (List Expr)
+  some_arguments = inner rank.Or >>= (λ x. Many next_argument (x ∷ []))
+
+  unfoldable pub arguments : Form (List Expr)
+  arguments = do
+    enter levels k.Open
+    xs ← Either some_arguments (Gives [])
+    expect k.Close
+    Gives xs
+
+  unfoldable pub a_reading : Form Expr
+  a_reading = do
+    r ← reading
+    xs ← arguments
+    Gives (tree.Read r (exprs xs))
+
+  unfoldable pub state : Form Expr
+  state = do
+    expect k.CurrentState
+    enter levels k.Open
+    x ← inner rank.Or
+    expect k.Comma
+    a ← aspect
+    expect k.Close
+    Gives (tree.Read a (exprs (x ∷ [])))
+
+  unfoldable pub empty_brackets : Form ℕ
+  empty_brackets = do
+    enter levels k.Open
+    expect k.Close
+
+  unfoldable pub active : Form Expr
+  active = do
+    expect k.AnyInterstageActive
+    Either empty_brackets (Gives 0)
+    Gives (tree.Read AnyInterstage (exprs []))
+
+  unfoldable pub cell_of : List ℕ → Form Expr
+  cell_of name = do
+    i ← index
+    Gives (tree.Expr.Cell name i)
+
+  unfoldable pub named : Form Expr
+  named = do
+    w ← called
+    Either (cell_of w.0) (Gives (tree.Expr.Name w.0))
+
+  unfoldable pub atom : Form Expr
+  atom = Either literal (Either named (Either brackets (Either state (Either active a_reading))))
+
+  unfoldable pub negative : Form Expr
+  negative = do
+    enter levels k.Minus
+    x ← inner rank.Sign
+    Gives (tree.Unary Neg x)
+
+  unfoldable pub sign : Form Expr
+  sign = Either negative atom
+
+  unfoldable pub product : Form Expr
+  product = chain rank.Product sign
+
+  unfoldable pub sum : Form Expr
+  sum = chain rank.Sum product
+
+  -- comparisons are not chained
+  unfoldable pub comparison : Form Expr
+  comparison = sum >>= (λ left. Either (operation rank.Compare sum left) (Gives left))
+
+  unfoldable pub inverse : Form Expr
+  inverse = do
+    enter levels k.Not
+    x ← inner rank.Not
+    Gives (tree.Unary Not x)
+
+  unfoldable pub negation : Form Expr
+  negation = Either inverse comparison
+
+  unfoldable pub conjunction : Form Expr
+  conjunction = chain rank.And negation
+
+  unfoldable pub disjunction : Form Expr
+  disjunction = chain rank.Or conjunction
+
+  abbrev pub ranked : Rank → Form Expr
+  ranked rank.Or = disjunction
+  ranked rank.And = conjunction
+  ranked rank.Not = negation
+  ranked rank.Compare = comparison
+  ranked rank.Sum = sum
+  ranked rank.Product = product
+  ranked rank.Sign = sign
+  ranked rank.Atom = atom
+
+-- What stands too deep is one number: its token is never reached.
+abbrev pub inner : ℕ → Rank → Form Expr
+inner zero r = literal
+inner (suc l) r = ranked l (inner l) r
+
+-- an expression of this rank, where so many levels are left
+abbrev pub expr : ℕ → Rank → Form Expr
+expr l = ranked l (inner l)
+
+-- ---- statements
+
+-- the expression of a statement
+unfoldable pub expression : Form Expr
+expression = Anew (expr max_levels rank.Or)
+
+unfoldable pub one_semi : Unit {0} → Form (Unit {0})
+one_semi u = expect k.Semi >> Gives tt
+
+unfoldable pub semis : Form (Unit {0})
+semis = Many one_semi tt
+
+unfoldable pub labelled : List ℕ × ℕ → Form Item
+labelled w = expect k.Colon >> Gives (tree.Label w.0 w.1)
+
+unfoldable pub assigned : List ℕ × ℕ → Form Item
+assigned w = do
+  expect k.Assign
+  x ← expression
+  Gives (tree.Step w.1 (tree.Assign w.0 x))
+
+unfoldable pub cell_assigned : List ℕ × ℕ → Form Item
+cell_assigned w = do
+  i ← index max_levels (inner max_levels)
+  expect k.Assign
+  x ← expr max_levels rank.Or
+  Gives (tree.Step w.1 (tree.Stmt.Cell w.0 i x))
+
+unfoldable pub named_item : Form Item
+named_item = called >>= (λ w. Either (labelled w) (Either (assigned w) (Anew (cell_assigned w))))
+
+unfoldable pub to_label : Form (List ℕ)
+to_label = called >>= (λ w. Gives w.0)
+
+unfoldable pub to_end : Form (List ℕ)
+to_end = expect k.ProgEnde >> Gives (codes "prog_ende")
+
+abbrev pub destination : Form (List ℕ)
+destination = Either to_end to_label
+
+unfoldable pub goto : Form Item
+goto = do
+  at ← expect k.Goto
+  l ← destination
+  Gives (tree.Step at (tree.Goto l))
+
+unfoldable pub gosub : Form Item
+gosub = do
+  at ← expect k.Gosub
+  w ← called
+  Gives (tree.Step at (tree.Gosub w.0))
+
+unfoldable pub trace : Form Item
+trace = do
+  at ← expect k.Trace
+  expect k.Open
+  Balanced
+  Gives (tree.Step at tree.Trace)
+
+unfoldable pub timing : Form Item
+timing = do
+  t ← timer
+  expect k.Open
+  w ← called
+  expect k.Close
+  Gives (tree.Step t.1 (tree.Timer t.0 w.0))
+
+unfoldable pub commanded : Form Item
+commanded = do
+  c ← command
+  xs ← Anew (arguments max_levels (inner max_levels))
+  Gives (tree.Step c.1 (tree.Do c.0 (exprs xs)))
+
+unfoldable pub simple : Form Item
+simple = Either goto (Either gosub (Either trace (Either timing commanded)))
+
+-- What stands in a branch is spelled by `deeper`.
+module _ (ifs : ℕ) (deeper : Form (List Item)) where
+  unfoldable pub other_branch : Form (List Item)
+  other_branch = expect k.Else >> deeper
+
+  unfoldable pub otherwise : Form (List Item)
+  otherwise = Either other_branch (Gives [])
+
+  unfoldable pub branch : Form Item
+  branch = do
+    at ← enter ifs k.If
+    x ← expression
+    expect k.Then
+    ys ← deeper
+    ns ← otherwise
+    expect k.End
+    Gives (tree.Step at (tree.If x (one_after_another ys) (one_after_another ns)))
+
+  unfoldable pub one : Form Item
+  one = Either named_item (Either branch simple)
+
+  unfoldable pub one_more : List Item → Form (List Item)
+  one_more xs = do
+    x ← one
+    semis
+    Gives (xs ++ x ∷ [])
+
+  unfoldable pub items : Form (List Item)
+  items = Many one_more []
+
+  unfoldable pub block : Form (List Item)
+  block = semis >> items
+
+-- In a branch that is too deep nothing stands: its IF is the last token that is reached.
+abbrev pub inside : ℕ → Form (List Item)
+inside zero = semis >> Gives []
+inside (suc n) = block n (inside n)
+
+-- a body, in which IF may nest so deep
+abbrev pub body : ℕ → Form (List Item)
+body n = block n (inside n)
+
+-- ---- declarations
+
+unfoldable pub below_zero : Form ℤ
+below_zero = do
+  expect k.Minus
+  n ← number
+  Gives (neg_ℤ n)
+
+unfoldable pub value : Form ℤ
+value = Either below_zero number
+
+unfoldable pub constant : Form Constant
+constant = do
+  w ← called
+  expect k.Eq
+  v ← value
+  Gives (record { name = w.0; line = w.1; value = v })
+
+unfoldable pub next_constant : List Constant → Form (List Constant)
+next_constant cs = do
+  expect k.Comma
+  c ← constant
+  Gives (cs ++ c ∷ [])
+
+unfoldable pub constants : List Constant → Form (List Constant)
+constants cs = do
+  expect k.Const
+  c ← constant
+  Many next_constant (cs ++ c ∷ [])
+
+unfoldable pub next_value : List ℤ → Form (List ℤ)
+next_value vs = do
+  expect k.Comma
+  v ← value
+  Gives (vs ++ v ∷ [])
+
+unfoldable pub values : Form (List ℤ)
+values = do
+  expect k.OpenIndex
+  v ← value
+  vs ← Many next_value (v ∷ [])
+  expect k.CloseIndex
+  Gives vs
+
+unfoldable pub array : Form Array
+array = do
+  w ← called
+  expect k.OpenIndex
+  n ← number
+  expect k.CloseIndex
+  expect k.Eq
+  vs ← values
+  Gives (record { name = w.0; line = w.1; size = n; values = vs })
+
+unfoldable pub next_array : List Array → Form (List Array)
+next_array arrays_ = do
+  expect k.Comma
+  a ← array
+  Gives (arrays_ ++ a ∷ [])
+
+unfoldable pub arrays : List Array → Form (List Array)
+arrays arrays_ = do
+  expect k.Array
+  a ← array
+  Many next_array (arrays_ ++ a ∷ [])
+
+-- the constants and the arrays so far
+abbrev pub Declared : Type 0
+Declared = List Constant × List Array
+
+unfoldable pub frequencies : Form (Unit {0})
+frequencies = do
+  expect k.VapFrequency
+  frequency
+  Gives tt
+
+unfoldable pub declared_frequency : Declared → Form Declared
+declared_frequency d = frequencies >> Gives d
+
+unfoldable pub declared_constants : Declared → Form Declared
+declared_constants d = constants d.0 >>= (λ cs. Gives (cs, d.1))
+
+unfoldable pub declared_arrays : Declared → Form Declared
+declared_arrays d = arrays d.1 >>= (λ arrays_. Gives (d.0, arrays_))
+
+unfoldable pub one_declaration : Declared → Form Declared
+one_declaration d = Either (declared_frequency d) (Either (declared_constants d) (declared_arrays d))
+
+unfoldable pub declaration : Declared → Form Declared
+declaration d = do
+  e ← one_declaration d
+  semis
+  Gives e
+
+-- ---- programs
+
+unfoldable pub ending : Form (Unit {0})
+ending = do
+  expect k.ProgEnde
+  expect k.Colon
+  expect k.Dot
+  semis
+
+unfoldable pub sub : Form Routine
+sub = do
+  expect k.Subroutine
+  w ← called
+  xs ← body max_ifs
+  ending
+  Gives (record { name = w.0; line = w.1; body = one_after_another xs })
+
+unfoldable pub next_sub : List Routine → Form (List Routine)
+next_sub rs = do
+  r ← sub
+  Gives (rs ++ r ∷ [])
+
+unfoldable pub program : Form Program
+program = do
+  expect k.Program
+  w ← called
+  semis
+  d ← Many declaration ([], [])
+  rs ← Many next_sub []
+  xs ← items max_ifs (inside max_ifs)
+  ending
+  Gives (record { consts = d.0; arrays = d.1; subs = rs; main = record { name = w.0; line = w.1; body = one_after_another xs } })
+
+-- ---- texts
+
+abbrev pub Text : List Marked → Program → Type 0
+Text ms p = (n : ℕ) × program max_operators ms p n
+
+-- the tokens are a text, each of them within the limits
+abbrev pub Accepts : List Token → Program → Type 0
+Accepts ts p = Text (fines ts) p
+
+-- these tokens with these marks are a front of a text
+abbrev pub Begins : List Marked → Type 0
+Begins ms = (more : List Marked) × (p : Program) × Text (ms ++ more) p
+
+-- The parse of `front ++ rest` ends at the first token of the rest, or behind the last one.
+abbrev pub Ends : Reason → List Token → List Token → Type 0
+Ends Unexpected front [] = Begins (fines front) × ((p : Program) → Accepts front p → ⊥)
+Ends Unexpected front (t ∷ s) = Begins (fines front) × ((mark : Mark) → Begins (fines front ++ (t, mark) ∷ []) → ⊥)
+Ends Frequency front [] = ⊥
+Ends Frequency front (t ∷ s) = Begins (fines front ++ (t, wrong) ∷ [])
+Ends TooDeep front [] = ⊥
+Ends TooDeep front (t ∷ s) = Begins (fines front ++ (t, deep) ∷ [])
+
+abbrev pub Refuses : List Token → Reason → List Token → Type 0
+Refuses ts why rest = (front : List Token) × (ts ≡ front ++ rest) × Ends why front rest

@@ -1,0 +1,340 @@
+// The tokens that are left.
+ghost use Rattle.std.specs.Prelude.{◌≡◌, ◌<◌, ◌≤◌, ◌+◌, IfOk, IfSome, IsOk};
+ghost use Rattle.std.specs.List.{All};
+ghost use Rattle.vap_lex.specs.Kept.{IsKept, IsNatural};
+ghost use Rattle.vap_parse.specs.Kinds.{same_kind};
+ghost use Rattle.vap_parse.specs.Input as spec;
+ghost use Rattle.vap_parse.specs.Input.{Reads, Input};
+
+use crate::kind::{
+    Kind, Rank, Reason, aspect_of, command_of, kind_of, operator_of, reading_of, same_kind,
+    timer_of,
+};
+use crate::stop::Stop;
+use sig_types::{CommandKind, Memory, ReadingKind, TimerKind};
+use std::alloc::Global;
+use std::marker::Model;
+use vap_ast::{BinaryOp, Name};
+use vap_lex::{Token, TokenKind};
+
+/// The tokens that are left, and how many more operators the statement may have.
+#[derive(Drop)]
+pub struct Cursor<'a> {
+    tokens: &'a [Token],
+    operators: usize,
+}
+
+impl<'a> Model for Cursor<'a> {
+    ghost use Rattle.vap_parse.specs.Input.{Input};
+
+    ghost Value = { Input };
+
+    ghost view = { λ c. record { rest = c.tokens.now; operators = c.operators } };
+}
+
+impl<'a> Cursor<'a> {
+    /// All these tokens are left.
+    pub fn new(tokens: &'a [Token], operators: usize) -> Cursor<'a>
+        ensures { result ≡ spec.input tokens.now operators }
+    {
+        Cursor { tokens, operators }
+    }
+
+    /// The kind of the next token.
+    #[tactic(auto, unfolding(crate::specs::Input::kind))]
+    pub fn peek(&self) -> Kind
+        ensures { result ≡ spec.kind self.now }
+    {
+        match self.tokens {
+            [] => Kind::Nothing,
+            [first, ..] => kind_of(&first.kind),
+        }
+    }
+
+    /// All tokens that are left.
+    pub fn rest(&self) -> &'a [Token]
+        ensures { result.now ≡ self.now.rest }
+    {
+        self.tokens
+    }
+
+    /// Whether the next token is of this kind.
+    pub fn sees(&self, kind: Kind) -> bool
+        ensures { result ≡ same_kind (spec.kind self.now) kind }
+    {
+        same_kind(self.peek(), kind)
+    }
+
+    /// The operators of a statement are counted anew.
+    pub fn count_anew(&mut self, operators: usize)
+        ensures { self.new ≡ spec.input self.old.rest operators }
+    {
+        self.operators = operators;
+    }
+
+    /// Takes a token of this kind; its line.
+    #[tactic(auto, unfolding(crate::specs::Input::token))]
+    pub fn expect(&mut self, kind: Kind) -> Result<u32, Stop>
+        ensures { Reads (spec.expect kind self.old) result self.new }
+    {
+        match self.tokens {
+            [first, rest @ ..] => {
+                if !same_kind(kind_of(&first.kind), kind) {
+                    return Err(Stop::Refused(Reason::Unexpected));
+                }
+                self.tokens = rest;
+                Ok(first.line)
+            }
+            [] => Err(Stop::Refused(Reason::Unexpected)),
+        }
+    }
+
+    /// Takes a name; its word and its line.
+    #[tactic(auto, unfolding(crate::specs::Input::token))]
+    pub fn called(&mut self, alloc: Global) -> Result<(Name, u32), Stop>
+        ensures { Reads (spec.called self.old) result self.new }
+    {
+        match self.tokens {
+            [first, rest @ ..] => {
+                if !same_kind(kind_of(&first.kind), Kind::Name) {
+                    return Err(Stop::Refused(Reason::Unexpected));
+                }
+                let word = word_of(alloc, &first.kind)?;
+                self.tokens = rest;
+                Ok((word, first.line))
+            }
+            [] => Err(Stop::Refused(Reason::Unexpected)),
+        }
+    }
+
+    /// Takes a number.
+    #[tactic(auto, unfolding(crate::specs::Input::token))]
+    pub fn number(&mut self) -> Result<i32, Stop>
+        ensures reads { Reads (spec.number self.old) result self.new }
+        ensures natural { IfOk result IsNatural }
+    {
+        match self.tokens {
+            [first, rest @ ..] => {
+                if !same_kind(kind_of(&first.kind), Kind::Number) {
+                    return Err(Stop::Refused(Reason::Unexpected));
+                }
+                self.tokens = rest;
+                Ok(number_of(&first.kind))
+            }
+            [] => Err(Stop::Refused(Reason::Unexpected)),
+        }
+    }
+
+    /// Takes the number of a frequency, which is 1.
+    #[tactic(auto, unfolding(crate::specs::Input::token))]
+    pub fn frequency(&mut self) -> Result<i32, Stop>
+        ensures { Reads (spec.frequency self.old) result self.new }
+    {
+        match self.tokens {
+            [first, rest @ ..] => {
+                if !same_kind(kind_of(&first.kind), Kind::Number) {
+                    return Err(Stop::Refused(Reason::Unexpected));
+                }
+                let number = number_of(&first.kind);
+                if !is_one(number) {
+                    return Err(Stop::Refused(Reason::Frequency));
+                }
+                self.tokens = rest;
+                Ok(number)
+            }
+            [] => Err(Stop::Refused(Reason::Unexpected)),
+        }
+    }
+
+    /// Takes a token of this kind, which opens a level, where this many are left; its line.
+    #[tactic(auto, unfolding(crate::specs::Input::token))]
+    pub fn enter(&mut self, levels: usize, kind: Kind) -> Result<u32, Stop>
+        ensures reads { Reads (spec.enter levels kind self.old) result self.new }
+        ensures some { IsOk result → 0 < levels }
+    {
+        match self.tokens {
+            [first, rest @ ..] => {
+                if !same_kind(kind_of(&first.kind), kind) {
+                    return Err(Stop::Refused(Reason::Unexpected));
+                }
+                if levels == 0 {
+                    return Err(Stop::Refused(Reason::TooDeep));
+                }
+                self.tokens = rest;
+                Ok(first.line)
+            }
+            [] => Err(Stop::Refused(Reason::Unexpected)),
+        }
+    }
+
+    /// Takes an operator of this rank, where the statement may have one more.
+    #[tactic(auto, unfolding(crate::specs::Input::token))]
+    pub fn operator(&mut self, rank: Rank) -> Result<BinaryOp, Stop>
+        ensures { Reads (spec.operator rank self.old) result self.new }
+    {
+        match self.tokens {
+            [first, rest @ ..] => match operator_of(rank, kind_of(&first.kind)) {
+                Some(op) => {
+                    if self.operators == 0 {
+                        return Err(Stop::Refused(Reason::TooDeep));
+                    }
+                    self.operators -= 1;
+                    self.tokens = rest;
+                    Ok(op)
+                }
+                None => Err(Stop::Refused(Reason::Unexpected)),
+            },
+            [] => Err(Stop::Refused(Reason::Unexpected)),
+        }
+    }
+
+    /// Takes the word of a reading.
+    #[tactic(auto, unfolding(crate::specs::Input::token))]
+    pub fn reading(&mut self) -> Result<ReadingKind, Stop>
+        ensures { Reads (spec.reading self.old) result self.new }
+    {
+        match self.tokens {
+            [first, rest @ ..] => match reading_of(kind_of(&first.kind)) {
+                Some(kind) => {
+                    self.tokens = rest;
+                    Ok(kind)
+                }
+                None => Err(Stop::Refused(Reason::Unexpected)),
+            },
+            [] => Err(Stop::Refused(Reason::Unexpected)),
+        }
+    }
+
+    /// Takes the name of an aspect; the reading of it.
+    #[tactic(auto, unfolding(crate::specs::Input::token))]
+    pub fn aspect(&mut self) -> Result<ReadingKind, Stop>
+        ensures { Reads (spec.aspect self.old) result self.new }
+    {
+        match self.tokens {
+            [first, rest @ ..] => match aspect_in(&first.kind) {
+                Some(kind) => {
+                    self.tokens = rest;
+                    Ok(kind)
+                }
+                None => Err(Stop::Refused(Reason::Unexpected)),
+            },
+            [] => Err(Stop::Refused(Reason::Unexpected)),
+        }
+    }
+
+    /// Takes the word of a command; the command and its line.
+    #[tactic(auto, unfolding(crate::specs::Input::token))]
+    pub fn command(&mut self) -> Result<(CommandKind, u32), Stop>
+        ensures { Reads (spec.command self.old) result self.new }
+    {
+        match self.tokens {
+            [first, rest @ ..] => match command_of(kind_of(&first.kind)) {
+                Some(kind) => {
+                    self.tokens = rest;
+                    Ok((kind, first.line))
+                }
+                None => Err(Stop::Refused(Reason::Unexpected)),
+            },
+            [] => Err(Stop::Refused(Reason::Unexpected)),
+        }
+    }
+
+    /// Takes the word of a timer command; the command and its line.
+    #[tactic(auto, unfolding(crate::specs::Input::token))]
+    pub fn timer(&mut self) -> Result<(TimerKind, u32), Stop>
+        ensures { Reads (spec.timer self.old) result self.new }
+    {
+        match self.tokens {
+            [first, rest @ ..] => match timer_of(kind_of(&first.kind)) {
+                Some(kind) => {
+                    self.tokens = rest;
+                    Ok((kind, first.line))
+                }
+                None => Err(Stop::Refused(Reason::Unexpected)),
+            },
+            [] => Err(Stop::Refused(Reason::Unexpected)),
+        }
+    }
+
+    /// Takes tokens up to the bracket that closes, round brackets being balanced before it.
+    #[tactic(auto, unfolding(crate::specs::Input::skipped))]
+    pub fn skip(&mut self) -> Result<(), Stop>
+        ensures { Reads (spec.skipped self.old) result self.new }
+    {
+        let mut depth: usize = 0;
+        while let [first, rest @ ..] = self.tokens {
+            self.tokens = rest;
+            match depth_behind(kind_of(&first.kind), depth) {
+                Some(behind) => depth = behind,
+                None => return Ok(()),
+            }
+        }
+        Err(Stop::Refused(Reason::Unexpected))
+    }
+
+    /// Asks that nothing is left.
+    #[tactic(auto, unfolding(crate::specs::Input::ended))]
+    pub fn end(&self) -> Result<(), Stop>
+        ensures { Reads (spec.ended self.now) result self.now }
+    {
+        match self.tokens {
+            [] => Ok(()),
+            [_, ..] => Err(Stop::Refused(Reason::Unexpected)),
+        }
+    }
+}
+
+// How many round brackets are open behind a token, beside the one that is to be closed; None behind the one that closes
+// it.
+fn depth_behind(kind: Kind, depth: usize) -> Option<usize>
+    requires { depth < 9223372036854775808 }
+    ensures depth { result ≡ spec.depth_behind kind depth }
+    ensures near { IfSome result (λ d. d ≤ depth + 1) }
+{
+    match kind {
+        Kind::Open => Some(depth + 1),
+        Kind::Close => depth.checked_sub(1),
+        _ => Some(depth),
+    }
+}
+
+fn is_one(number: i32) -> bool
+    ensures { result ≡ spec.is_one number }
+{
+    number == 1
+}
+
+fn unsigned(number: i32) -> i32
+    ensures number { result ≡ spec.unsigned number }
+    ensures natural { IsNatural result }
+{
+    if number < 0 { 0 } else { number }
+}
+
+fn number_of(token: &TokenKind) -> i32
+    ensures number { result ≡ spec.number_of token.now }
+    ensures natural { IsNatural result }
+{
+    match token {
+        TokenKind::Number(n) => unsigned(*n),
+        TokenKind::Word(_) | TokenKind::Sign(_) => 0,
+    }
+}
+
+fn aspect_in(token: &TokenKind) -> Option<ReadingKind>
+    ensures { result ≡ spec.aspect_in token.now }
+{
+    match token {
+        TokenKind::Word(name) => aspect_of(name.bytes()),
+        TokenKind::Number(_) | TokenKind::Sign(_) => None,
+    }
+}
+
+fn word_of(alloc: Global, token: &TokenKind) -> Result<Name, Memory>
+    ensures { IfOk result (λ w. w ≡ spec.word_of token.now) }
+{
+    match token {
+        TokenKind::Word(name) => name.copy(alloc),
+        TokenKind::Number(_) | TokenKind::Sign(_) => Name::make(alloc, b"a"),
+    }
+}
