@@ -1,0 +1,3 @@
+pub mod PassFacts
+pub mod Sizes
+pub mod Turns

@@ -1,0 +1,7 @@
+use Rattle.std.proofs.Common.{refl}
+use Rattle.vap_code.specs.Machine.{unit_limit}
+use Rattle.vap_vm.proofs.passes.unit_limit.Goals as goal
+
+pub returns : goal.returns
+unfolding unit_limit
+returns c = record { same = refl; number = refl }

@@ -1,0 +1,4 @@
+pub mod Operators
+pub mod Passes
+pub mod Run
+pub mod View

@@ -1,0 +1,23 @@
+//! A stack machine that runs verified code, one pass a second. A pass means what the code means: it is done or
+//! ends in a fault, and a fault leaves everything as it was.
+#![tactic(auto)]
+
+mod arrays;
+mod given;
+mod machine;
+mod moves;
+mod noted;
+mod operands;
+mod operators;
+mod passes;
+mod run;
+mod slots;
+mod steps;
+mod world;
+
+pub use passes::{PassEnd, Vm};
+pub use steps::Steps;
+pub use world::World;
+
+#[cfg(test)]
+mod tests;

@@ -1,0 +1,60 @@
+// The noted places of a pass, in room that is taken once.
+
+ghost use Rattle.std.specs.Prelude.{◌≡◌, ◌∷◌, [], ◌<◌, ◌≤◌, length, IfOk, MatchOption};
+
+use std::alloc::{AllocError, Global};
+use std::marker::Model;
+
+// The most places that verified code notes.
+const ROOM: usize = 65;
+
+/// The noted places, seen as a list whose first is the one that was noted last.
+#[derive(Drop)]
+pub struct Noted {
+    items: Vec<usize>,
+}
+
+impl Model for Noted {
+    ghost use Rattle.std.specs.Prelude.{List, ℕ, reverse, vec_capacity, vec_len, ◌≤◌};
+
+    ghost Value = { List ℕ };
+
+    ghost view = { λ o. reverse o.items.items };
+
+    ghost invariant = { λ o. (vec_len o.items ≤ 65) × (65 ≤ vec_capacity o.items) };
+}
+
+impl Noted {
+    /// No place, and room for all.
+    pub fn with_room(alloc: Global) -> Result<Noted, AllocError>
+        ensures { IfOk result (λ o. o ≡ []) }
+    {
+        Ok(Noted {
+            items: Vec::with_capacity(alloc, ROOM)?,
+        })
+    }
+
+    /// Notes a place.
+    pub fn push(&mut self, place: usize)
+        requires { length self.old < 65 }
+        ensures { self.new ≡ place ∷ self.old }
+    {
+        let pushed = self.items.push(place);
+        prove!(pushed.is_ok());
+    }
+
+    /// Takes the last noted place, if there is one.
+    pub fn pop(&mut self) -> Option<usize>
+        ensures some { MatchOption result (self.old ≡ []) (λ place. self.old ≡ place ∷ self.new) }
+        ensures none { MatchOption result (self.new ≡ []) (λ _. Unit {0}) }
+    {
+        self.items.pop()
+    }
+
+    /// Takes all places away.
+    pub fn clear(&mut self)
+        ensures { self.new ≡ [] }
+    {
+        self.items.clear();
+    }
+}
