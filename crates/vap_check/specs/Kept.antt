@@ -1,0 +1,29 @@
+-- What a checked program keeps.
+use Rattle.std.specs.Prelude.{◌≡◌, length}
+use Rattle.vap_ast.specs.Tree.{program_of}
+use Rattle.vap_ast.specs.Parsed.{Parsed}
+use Rattle.vap_check.specs.declared.checked.Checked.TheInside.{Inside}
+use Rattle.vap_check.specs.Names.{array_names, sub_names, timers, variables}
+use Rattle.vap_check.specs.Numbers.{Meant, entries, consts_in, consts_of}
+use Rattle.vap_check.specs.Accepted.{Accepted}
+use Rattle.vap_check.specs.Usable.{Usable}
+
+-- the value, by what is kept of the names
+abbrev pub view_of : Inside → Meant
+view_of c = record {
+  tree = c.program;
+  names = entries (consts_in c.names.known.consts.entries) c.names.known.arrays.keys c.names.known.subs.keys c.names.timers.keys c.names.variables.keys;
+  variables = length c.names.variables.keys;
+  timers = length c.names.timers.keys;
+}
+
+-- the program is accepted and one that was read, and its names are kept
+pub record Keeps (c : Inside) : Type 0 where
+  pub accepted : Accepted (program_of c.program)
+  pub parsed : Parsed 1048577 (program_of c.program)
+  pub usable : Usable (program_of c.program)
+  pub consts : consts_in c.names.known.consts.entries ≡ consts_of (program_of c.program)
+  pub arrays : c.names.known.arrays.keys ≡ array_names (program_of c.program)
+  pub subs : c.names.known.subs.keys ≡ sub_names (program_of c.program)
+  pub timers : c.names.timers.keys ≡ timers (program_of c.program)
+  pub variables : c.names.variables.keys ≡ variables (program_of c.program)

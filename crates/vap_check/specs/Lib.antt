@@ -1,0 +1,11 @@
+pub mod Found
+pub mod Names
+pub mod Known
+pub mod Findings
+pub mod Scope
+pub mod Accepted
+pub mod Numbers
+pub mod Kept
+pub mod Judged
+pub mod Usable
+pub mod Is

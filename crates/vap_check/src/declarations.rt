@@ -1,0 +1,165 @@
+// What is wrong with declarations and routines, and the first of all findings of a program.
+ghost use Rattle.std.specs.Prelude.{◌≡◌, [], None, ◌||◌, OnOk, IfOk, map};
+ghost use Rattle.vap_ast.specs.Tree.{body_of, array_of, routine_of, constant_of, program_of};
+ghost use Rattle.vap_check.specs.Found.{first_of_all};
+ghost use Rattle.vap_check.specs.Names.{among, const_names, array_names, with_names};
+ghost use Rattle.vap_check.specs.Findings as wrong;
+ghost use Rattle.vap_check.specs.Known.{Knows, kind_in, line_in, const_keys, taken_in};
+
+use crate::kinds::{First, Known, has, has_const, note};
+use crate::labels::{declare, items_labels};
+use crate::refusal::{CheckWhy, Finding, found, found_if};
+use crate::uses::{Scope, items};
+use indexmap::{IndexMap, IndexSet};
+use sig_types::Memory;
+use std::alloc::Global;
+use vap_ast::{ArrayDecl, ConstDecl, Items, Name, Program, Routine};
+
+#[tactic(auto, using(crate::proofs::Flat::findings_on))]
+fn const_findings(
+    alloc: Global,
+    decls: &[ConstDecl],
+    first: &mut Option<Finding>,
+) -> Result<(), Memory>
+    ensures { OnOk result (first.new ≡ first_of_all first.old (wrong.const_findings [] (map constant_of decls.now))) }
+{
+    let mut before = IndexSet::new(alloc);
+    for decl in decls {
+        declare(
+            alloc,
+            &mut before,
+            &decl.name,
+            decl.line,
+            CheckWhy::ConstTwice,
+            first,
+        )?;
+    }
+    Ok(())
+}
+
+// The line of the first constant of a name.
+fn const_line(consts: &IndexMap<Name, First>, name: &Name) -> Option<u32>
+    ensures { result ≡ line_in consts.now.entries name.now }
+{
+    let first = consts.get(name)?;
+    Some(first.line)
+}
+
+// Keeps the first of what was found and the clash of an array with a constant of its name.
+fn clash(consts: &IndexMap<Name, First>, name: &Name, line: u32, first: &mut Option<Finding>)
+    ensures { first.new ≡ first_of_all first.old (wrong.clash_findings (line_in consts.now.entries name.now) line) }
+{
+    if let Some(other) = const_line(consts, name) {
+        found(first, line.max(other), CheckWhy::NameKind);
+    }
+}
+
+fn is_odd_size(size: i32, values: &[i32]) -> bool
+    ensures { result ≡ wrong.is_odd_size size values.now }
+{
+    !(0 < size && size < 1025 && size as usize == values.len())
+}
+
+#[tactic(auto, using(crate::proofs::Flat::findings_on))]
+fn array_findings(
+    alloc: Global,
+    consts: &IndexMap<Name, First>,
+    decls: &[ArrayDecl],
+    first: &mut Option<Finding>,
+) -> Result<(), Memory>
+    ensures { OnOk result (first.new ≡ first_of_all first.old (wrong.array_findings (line_in consts.now.entries) [] (map array_of decls.now))) }
+{
+    let mut before = IndexSet::new(alloc);
+    for decl in decls {
+        declare(
+            alloc,
+            &mut before,
+            &decl.name,
+            decl.line,
+            CheckWhy::NameKind,
+            first,
+        )?;
+        clash(consts, &decl.name, decl.line, first);
+        found_if(
+            first,
+            is_odd_size(decl.size, &decl.values),
+            decl.line,
+            CheckWhy::ArraySize,
+        );
+    }
+    Ok(())
+}
+
+// Keeps the first of what was found and what is wrong with a body in which the subroutines `above` may be called.
+#[tactic(auto, using(crate::proofs::Flat::findings_on))]
+fn body_findings(
+    alloc: Global,
+    known: &Known,
+    above: &IndexSet<Name>,
+    body: &Items,
+    first: &mut Option<Finding>,
+) -> Result<(), Memory>
+    ensures { OnOk result (first.new ≡ first_of_all first.old (wrong.body_findings (kind_in known.now) above.now.keys (body_of body.now))) }
+{
+    let mut labels = IndexSet::new(alloc);
+    items_labels(alloc, &body.0, &mut labels, first)?;
+    let scope = Scope {
+        known,
+        above,
+        labels: &labels,
+    };
+    items(&scope, &body.0, first);
+    Ok(())
+}
+
+// Whether a name is that of a constant or an array.
+fn is_taken(known: &Known, name: &Name) -> bool
+    ensures { result ≡ taken_in known.now name.now }
+{
+    has_const(&known.consts, name) || has(&known.arrays, name)
+}
+
+// The same for subroutines, whose names are put among those above as they come.
+#[tactic(auto, using(crate::proofs::Flat::findings_on))]
+fn subs_findings(
+    alloc: Global,
+    known: &Known,
+    above: &mut IndexSet<Name>,
+    subs: &[Routine],
+    first: &mut Option<Finding>,
+) -> Result<(), Memory>
+    ensures above { OnOk result (above.new.keys ≡ with_names above.old.keys (map (λ r. r.name) (map routine_of subs.now))) }
+    ensures found { OnOk result (first.new ≡ first_of_all first.old (wrong.subs_findings (kind_in known.now) (taken_in known.now) above.old.keys (map routine_of subs.now))) }
+{
+    for sub in subs {
+        found_if(first, has(above, &sub.name), sub.line, CheckWhy::SubTwice);
+        found_if(
+            first,
+            is_taken(known, &sub.name),
+            sub.line,
+            CheckWhy::NameKind,
+        );
+        body_findings(alloc, known, above, &sub.body, first)?;
+        note(alloc, above, &sub.name)?;
+    }
+    Ok(())
+}
+
+/// The first of all that is wrong with a program, but for limits.
+#[tactic(auto, using(crate::proofs::Flat::findings_on))]
+pub fn first_finding(
+    alloc: Global,
+    known: &Known,
+    program: &Program,
+) -> Result<Option<Finding>, Memory>
+    requires { Knows known.now (program_of program.now) }
+    ensures { IfOk result (λ f. f ≡ first_of_all None (wrong.findings (program_of program.now))) }
+{
+    let mut first = None;
+    const_findings(alloc, &program.consts, &mut first)?;
+    array_findings(alloc, &known.consts, &program.arrays, &mut first)?;
+    let mut above = IndexSet::new(alloc);
+    subs_findings(alloc, known, &mut above, &program.subs, &mut first)?;
+    body_findings(alloc, known, &above, &program.main.body, &mut first)?;
+    Ok(first)
+}

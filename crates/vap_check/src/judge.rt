@@ -1,0 +1,79 @@
+// The first refusal of a program, and all of its names.
+ghost use Rattle.std.specs.Prelude.{◌≡◌, None, IfOk, length};
+ghost use Rattle.vap_ast.specs.Tree.{program_of};
+ghost use Rattle.vap_check.specs.Found.{first_of_all};
+ghost use Rattle.vap_check.specs.Findings.{findings};
+ghost use Rattle.vap_check.specs.Names as names_of;
+ghost use Rattle.vap_check.specs.Known.{KnowsAll};
+ghost use Rattle.vap_check.specs.Accepted.{RefusalIs};
+ghost use Rattle.vap_check.specs.Judged.{IsJudged};
+
+use crate::declarations::first_finding;
+use crate::gather::{known, used};
+use crate::kinds::Names;
+use crate::limits::{passed, program_size};
+use crate::refusal::{CheckWhy, Finding};
+use sig_types::Memory;
+use std::alloc::Global;
+use vap_ast::Program;
+
+/// The names of a program, and what it is refused for.
+#[derive(Drop)]
+pub struct Judged {
+    pub names: Names,
+    pub refusal: Option<Finding>,
+}
+
+// All names of a program.
+fn names(alloc: Global, program: &Program) -> Result<Names, Memory>
+    ensures { IfOk result (λ n. KnowsAll n (program_of program.now)) }
+{
+    let known = known(alloc, program)?;
+    let timers = used(alloc, &known, true, program)?;
+    let variables = used(alloc, &known, false, program)?;
+    Ok(Names {
+        known,
+        timers,
+        variables,
+    })
+}
+
+// What a program is refused for, where this is the first of its findings, and it has so many variables and timers.
+fn refusal(
+    program: &Program,
+    first: Option<Finding>,
+    variables: usize,
+    timers: usize,
+) -> Option<Finding>
+    requires first { first ≡ first_of_all None (findings (program_of program.now)) }
+    requires variables { variables ≡ length (names_of.variables (program_of program.now)) }
+    requires timers { timers ≡ length (names_of.timers (program_of program.now)) }
+    ensures { RefusalIs (program_of program.now) result }
+{
+    if let Some(finding) = first {
+        return Some(finding);
+    }
+    if let Some(which) = passed(program, variables, timers) {
+        return Some(Finding {
+            line: 0,
+            why: CheckWhy::Limit(which),
+        });
+    }
+    if program_size(program) > 65535 {
+        return Some(Finding {
+            line: 0,
+            why: CheckWhy::ProgramTooLong,
+        });
+    }
+    None
+}
+
+/// Judges a program.
+pub fn judge(alloc: Global, program: &Program) -> Result<Judged, Memory>
+    ensures { IfOk result (λ j. IsJudged (program_of program.now) j) }
+{
+    let names = names(alloc, program)?;
+    let first = first_finding(alloc, &names.known, program)?;
+    let refusal = refusal(program, first, names.variables.len(), names.timers.len());
+    Ok(Judged { names, refusal })
+}

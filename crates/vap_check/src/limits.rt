@@ -1,0 +1,122 @@
+// What a program has too many of, and its size.
+ghost use Rattle.std.specs.Prelude.{◌≡◌, ◌≤◌, length, min, map, flat_map};
+ghost use Rattle.vap_ast.specs.Tree.{stmt_of, item_of, items_of, array_of, routine_of, program_of};
+ghost use Rattle.vap_check.specs.Accepted as whole;
+ghost use Rattle.vap_check.specs.Names as names;
+
+use crate::refusal::Which;
+use crate::sizes::{items_size, plus};
+use vap_ast::{ArrayDecl, Item, Program, Routine, Stmt};
+
+// The cells of arrays, counted up to 65,536.
+#[tactic(auto, using(crate::proofs::Sums::length_on))]
+fn cells(arrays: &[ArrayDecl]) -> usize
+    ensures { result ≡ min (length (flat_map (λ a. a.values) (map array_of arrays.now))) 65536 }
+{
+    let mut total = 0;
+    for array in arrays {
+        total = plus(total, array.values.len().min(65536));
+    }
+    total
+}
+
+// The labels of an item, counted up to 65,536.
+#[cycle(count)]
+#[tactic(auto, using(crate::proofs::Sums::length_on))]
+fn item_labels(item: &Item) -> usize
+    ensures { result ≡ min (length (names.item_labels (item_of item.now))) 65536 }
+{
+    match item {
+        Item::Label { .. } => 1,
+        Item::Step { what, .. } => stmt_labels(what),
+    }
+}
+
+#[cycle(count)]
+#[tactic(auto, using(crate::proofs::Sums::length_on))]
+fn stmt_labels(what: &Stmt) -> usize
+    ensures { result ≡ min (length (names.stmt_labels (stmt_of what.now))) 65536 }
+{
+    match what {
+        Stmt::If { yes, no, .. } => plus(items_labels(&yes.0), items_labels(&no.0)),
+        _ => 0,
+    }
+}
+
+#[cycle(count)]
+#[tactic(auto, using(crate::proofs::Sums::length_on))]
+fn items_labels(items: &[Item]) -> usize
+    ensures { result ≡ min (length (names.items_labels (items_of items.now))) 65536 }
+{
+    let mut total = 0;
+    for item in items {
+        total = plus(total, item_labels(item));
+    }
+    total
+}
+
+#[tactic(auto, using(crate::proofs::Sums::length_on))]
+fn subs_labels(subs: &[Routine]) -> usize
+    ensures { result ≡ min (length (flat_map names.items_labels (map (λ r. r.body) (map routine_of subs.now)))) 65536 }
+{
+    let mut total = 0;
+    for sub in subs {
+        total = plus(total, items_labels(&sub.body.0));
+    }
+    total
+}
+
+// The labels of a program, counted up to 65,536.
+#[tactic(auto, using(crate::proofs::Sums::labels_on))]
+fn labels(program: &Program) -> usize
+    ensures { result ≡ min (whole.labels (program_of program.now)) 65536 }
+{
+    plus(
+        subs_labels(&program.subs),
+        items_labels(&program.main.body.0),
+    )
+}
+
+fn subs_size(subs: &[Routine]) -> usize
+    ensures { result ≡ min (whole.bodies_size (map (λ r. r.body) (map routine_of subs.now))) 65536 }
+{
+    let mut total = 0;
+    for sub in subs {
+        total = plus(total, plus(items_size(&sub.body.0), 1));
+    }
+    total
+}
+
+/// The size of a program, counted up to 65,536.
+#[tactic(auto, using(crate::proofs::Sums::size_on))]
+pub fn program_size(program: &Program) -> usize
+    ensures { result ≡ min (whole.program_size (program_of program.now)) 65536 }
+{
+    plus(
+        subs_size(&program.subs),
+        plus(items_size(&program.main.body.0), 1),
+    )
+}
+
+/// What a program has too many of, where it has so many variables and timers.
+pub fn passed(program: &Program, variables: usize, timers: usize) -> Option<Which>
+    requires variables { variables ≡ length (names.variables (program_of program.now)) }
+    requires timers { timers ≡ length (names.timers (program_of program.now)) }
+    ensures { result ≡ whole.passed (program_of program.now) }
+{
+    if variables > 256 {
+        Some(Which::Variables)
+    } else if timers > 64 {
+        Some(Which::Timers)
+    } else if program.arrays.len() > 32 {
+        Some(Which::Arrays)
+    } else if cells(&program.arrays) > 4096 {
+        Some(Which::Cells)
+    } else if program.subs.len() > 64 {
+        Some(Which::Subroutines)
+    } else if labels(program) > 4096 {
+        Some(Which::Labels)
+    } else {
+        None
+    }
+}
