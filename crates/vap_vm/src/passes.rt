@@ -22,7 +22,9 @@ use std::sync::ledger::Ledger;
 /// How a pass ended.
 #[derive(Clone, Copy, PartialEq, Eq, Debug)]
 pub enum PassEnd {
+    /// The main routine came to its end.
     Done,
+    /// A fault ended the pass, at the line of its statement.
     Fault(Fault),
 }
 
