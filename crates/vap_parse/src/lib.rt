@@ -10,3 +10,6 @@ mod statement;
 mod stop;
 
 pub use program::{ParseRefusal, ParseWhy, one_answer, parse};
+
+#[cfg(test)]
+mod tests;
