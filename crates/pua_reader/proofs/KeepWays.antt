@@ -1,0 +1,190 @@
+-- Rows and ends of interstages that are not refused leave the interstages as a plan wants them.
+use Rattle.std.proofs.Common.{◌≡◌, ℕ, suc, zero, ◌+◌, ◌<◌, ◌≤◌, ◌==◌, Bool, true, false, not, ◌&&◌, List, [], ◌∷◌, ◌++◌, length, get_or, set, refl, ap, subst, ◌∙◌, arith, Option, Some, None, nat_le, is_some, is_none, inl, inr, ℤ}
+use Rattle.std.specs.Prelude.{IfSome}
+use Rattle.std.specs.List.{list_any}
+use Rattle.std.proofs.lemmas.Bool.{and_parts, or_parts, leb-true, cases_lt, cases_eq}
+use Rattle.std.proofs.lemmas.List.{length-set, get_or-set_same, get_or-set_other, get_or_append_left, get_or_push, length_push, length-replicate, get_or-replicate}
+use Rattle.sig_types.specs.FirstRefused.{or_next}
+use Rattle.pua_reader.specs.declared.refusal.PuaWhy.{PuaWhy}
+use Rattle.sig_types.specs.Text.{number_of}
+use Rattle.sig_types.specs.Words.{least_below, or_here}
+use Rattle.sig_types.specs.declared.numbers.StageNo.{StageNo}
+use Rattle.pua_model.specs.declared.parts.Group.{Group}
+use Rattle.pua_model.specs.declared.parts.Stage.{Stage}
+use Rattle.pua_model.specs.Plan.{Way, no_way, joins, has_pair, are_pairs_apart, is_row, is_end}
+use Rattle.pua_model.specs.Wish.{leads}
+use Rattle.pua_reader.specs.declared.form.Form.{Form}
+use Rattle.pua_reader.specs.declared.form.Form.TheVariants as form
+use Rattle.pua_reader.specs.Words.{Text, signed_of}
+use Rattle.pua_reader.specs.Groups.{place_of}
+use Rattle.pua_reader.specs.Ways.{Opened, opened, form_of, or_none, end_or_none, word, last_word, length_reasons, ends_reasons, has_row, set_row, why_by, opened_by, way_row_why, opened_with, way_by, way_of, greens_in, first_inconsistent, inconsistent_why, way_reasons}
+use Rattle.pua_reader.specs.Legal.{IsOpen, IsStage, Leads, AreWays}
+use Rattle.pua_reader.proofs.Small.{none_first, not_true, both_true, both_false, nat_turned}
+use Rattle.pua_reader.proofs.KeepStages.{stage_is}
+
+seconds_fit : (given o : Option ℕ) → length_reasons given (or_none o) ≡ None → IfSome o (λ n. (1 ≤ n) × (n ≤ 126))
+unfolding length_reasons
+seconds_fit given None none = tt
+seconds_fit given (Some n) none =
+    let one = none_first (is_some given) _ _ none in
+    let two = none_first (not (nat_le 1 n && nat_le n 126)) _ _ one.1 in
+    let both = and_parts (nat_le 1 n) (nat_le n 126) (not_true _ two.0) in
+    (leb-true 1 n both.0, leb-true n 126 both.1)
+
+ends_fit : (rows : List (Option (ℤ × ℤ))) (place : Option ℕ) (r e : ℤ) → ends_reasons rows place r e ≡ None → (is_end r && is_end e) ≡ true
+unfolding ends_reasons
+ends_fit rows place r e none =
+    let one = none_first (has_row rows place) _ _ none in
+    let two = none_first (is_none place) _ _ one.1 in
+    let three = none_first (not (is_end r && is_end e)) _ _ two.1 in
+    not_true _ three.0
+
+set_size : (rows : List (Option (ℤ × ℤ))) (place : Option ℕ) (r e : ℤ) → length (set_row rows place r e) ≡ length rows
+set_size rows None r e = refl
+set_size rows (Some g) r e = length-set rows g (Some (r, e))
+
+set_ends : (n : ℕ) (rows : List (Option (ℤ × ℤ))) (place : Option ℕ) (r e : ℤ) → length rows ≡ n → (is_end r && is_end e) ≡ true →
+    ((g : ℕ) → g < n → is_row (get_or rows g None) ≡ true) → (g : ℕ) → g < n → is_row (get_or (set_row rows place r e) g None) ≡ true
+set_ends n rows None r e size fit each g lt = each g lt
+set_ends n rows (Some p) r e size fit each g lt = elim (cases_eq g p) [
+  | inl same ↦ (let inside : p < length rows = omega (arith, same, lt, size) in
+      let here : get_or (set rows p (Some (r, e))) p None ≡ Some (r, e) = get_or-set_same rows p (Some (r, e)) None inside in
+      rw (same, here) fit)
+  | inr other ↦ rw (get_or-set_other rows p g (Some (r, e)) None other) (each g lt)
+]
+
+by_form : (f : Form) (groups : List Group) (stages : List Stage) (now : Opened) (ws : List Text) → IsOpen (length groups) stages now →
+    why_by f groups stages now ws ≡ None → IsOpen (length groups) stages (opened_by f groups stages now ws)
+by_form form.NoForm groups stages now ws is none = is
+by_form form.Number groups stages now ws is none = is
+by_form form.Length groups stages now ws is none =
+    record { seconds = seconds_fit now.length (number_of (last_word ws)) none; from = is.from; to = is.to; rows = is.rows; ends = is.ends }
+by_form form.From groups stages now ws is none =
+    record { seconds = is.seconds; from = stage_is stages (last_word ws); to = is.to; rows = is.rows; ends = is.ends }
+by_form form.To groups stages now ws is none =
+    record { seconds = is.seconds; from = is.from; to = stage_is stages (last_word ws); rows = is.rows; ends = is.ends }
+by_form form.Ends groups stages now ws is none =
+    let r : ℤ = end_or_none (signed_of (word ws 1)) in
+    let e : ℤ = end_or_none (signed_of (word ws 2)) in
+    record {
+      seconds = is.seconds;
+      from = is.from;
+      to = is.to;
+      rows = set_size now.rows (place_of groups (word ws 0)) r e ∙ is.rows;
+      ends = set_ends (length groups) now.rows (place_of groups (word ws 0)) r e is.rows (ends_fit now.rows (place_of groups (word ws 0)) r e none) is.ends;
+    }
+
+pub open_keeps : (groups : List Group) (stages : List Stage) (now : Opened) (ws : List Text) → IsOpen (length groups) stages now →
+    way_row_why groups stages now ws ≡ None → IsOpen (length groups) stages (opened_with groups stages now ws)
+open_keeps groups stages now ws is none = by_form (form_of ws) groups stages now ws is none
+
+pub open_begins : (n line : ℕ) (stages : List Stage) → IsOpen n stages (opened line n)
+open_begins n line stages =
+    record { seconds = tt; from = tt; to = tt; rows = length-replicate n None; ends = λ g lt. rw (get_or-replicate {A = Option (ℤ × ℤ)} n g None None lt) refl }
+
+-- an interstage in which nothing misses
+pub record IsWhole (groups : ℕ) (stages : List Stage) (w : Way) : Type 0 where
+  pub some : 1 ≤ w.length
+  pub few : w.length ≤ 126
+  pub from : IsStage stages w.from
+  pub to : IsStage stages w.to
+  pub rows : length w.rows ≡ groups
+  pub ends : (g : ℕ) → g < groups → is_row (get_or w.rows g None) ≡ true
+
+abbrev way_or : Way → Option Way → Way
+way_or d None = d
+way_or d (Some w) = w
+
+whole_by : (n : ℕ) (stages : List Stage) (l : Option ℕ) (a b : Option StageNo) (rows : List (Option (ℤ × ℤ))) (w : Way) →
+    IfSome l (λ n. (1 ≤ n) × (n ≤ 126)) → IfSome a (λ s. IsStage stages s.0) → IfSome b (λ s. IsStage stages s.0) → length rows ≡ n →
+    ((g : ℕ) → g < n → is_row (get_or rows g None) ≡ true) → way_by l a b rows ≡ Some w → IsWhole n stages w
+whole_by n stages None a b rows w hl ha hb size each e = cc
+whole_by n stages (Some k) None b rows w hl ha hb size each e = cc
+whole_by n stages (Some k) (Some s) None rows w hl ha hb size each e = cc
+whole_by n stages (Some k) (Some s) (Some t) rows w hl ha hb size each e =
+    let same : record { from = s.0; to = t.0; length = k; rows = rows } ≡ w = ap (way_or w) e in
+    subst (λ (v : Way). IsWhole n stages v) same (record { some = hl.0; few = hl.1; from = ha; to = hb; rows = size; ends = each })
+
+pub whole_way : (n : ℕ) (stages : List Stage) (now : Opened) (w : Way) → IsOpen n stages now → way_of now ≡ Some w → IsWhole n stages w
+whole_way n stages now w is e = whole_by n stages now.length now.from now.to now.rows w is.seconds is.from is.to is.rows is.ends e
+
+here_none : (o : Option ℕ) (b : Bool) (n : ℕ) → or_here o b n ≡ None → (o ≡ None) × (b ≡ false)
+here_none (Some k) b n e = cc
+here_none None true n e = cc
+here_none None false n e = (refl, refl)
+
+least_none : (p : ℕ → Bool) (n : ℕ) → least_below p n ≡ None → (j : ℕ) → j < n → p j ≡ false
+unfolding least_below
+least_none p zero none j lt = absurd (omega arith)
+least_none p (suc n) none j lt =
+    let both = here_none (least_below p n) (p n) n none in
+    elim (cases_lt j n) [ inl less ↦ least_none p n both.0 j less | inr last ↦ (let same : j ≡ n = omega arith in rw same both.1) ]
+
+none_inconsistent : (number : ℕ) (groups : List Group) (o : Option ℕ) → inconsistent_why number groups o ≡ None → o ≡ None
+none_inconsistent number groups None e = refl
+none_inconsistent number groups (Some g) e = cc
+
+last_none : (o : Option PuaWhy) → or_next o None ≡ None → o ≡ None
+last_none None e = refl
+last_none (Some x) e = cc
+
+pub record Joined (groups : List Group) (stages : List Stage) (ways : List Way) (w : Way) : Type 0 where
+  pub apart : (w.from == w.to) ≡ false
+  pub new : list_any (joins w.from w.to) ways ≡ false
+  pub consistent : (g : ℕ) → g < length groups → leads (get_or w.rows g None) (greens_in stages w.from g) (greens_in stages w.to g) w.length ≡ true
+
+joined : (groups : List Group) (stages : List Stage) (ways : List Way) (w : Way) → way_reasons groups stages ways (Some w) ≡ None → Joined groups stages ways w
+unfolding way_reasons
+joined groups stages ways w none =
+    let one = none_first (w.from == w.to) _ _ none in
+    let two = none_first (list_any (joins w.from w.to) ways) _ _ one.1 in
+    let all = none_inconsistent (length ways + 1) groups (first_inconsistent (length groups) stages w) (last_none (inconsistent_why (length ways + 1) groups (first_inconsistent (length groups) stages w)) two.1) in
+    record {
+      apart = one.0;
+      new = two.0;
+      consistent = λ g lt. not_true _ (least_none _ (length groups) all g lt);
+    }
+
+joins_turned : (v w : Way) → joins v.from v.to w ≡ joins w.from w.to v
+joins_turned v w = rw (nat_turned w.from v.from, nat_turned w.to v.to) refl
+
+pair_push : (a b : ℕ) (ways : List Way) (w : Way) → has_pair a b ways ≡ false → joins a b w ≡ false → has_pair a b (ways ++ w ∷ []) ≡ false
+pair_push a b [] w h ne = both_false (joins a b w) false ne refl
+pair_push a b (v ∷ vs) w h ne =
+    let both = or_parts (joins a b v) (has_pair a b vs) h in
+    both_false (joins a b v) (has_pair a b (vs ++ w ∷ [])) both.0 (pair_push a b vs w both.1 ne)
+
+not_false : (b : Bool) → not b ≡ true → b ≡ false
+not_false true e = cc
+not_false false e = refl
+
+pairs_push : (ways : List Way) (w : Way) → are_pairs_apart ways ≡ true → list_any (joins w.from w.to) ways ≡ false → are_pairs_apart (ways ++ w ∷ []) ≡ true
+pairs_push [] w h new = refl
+pairs_push (v ∷ vs) w h new =
+    let both = and_parts (not (has_pair v.from v.to vs)) (are_pairs_apart vs) h in
+    let other = or_parts (joins w.from w.to v) (list_any (joins w.from w.to) vs) new in
+    both_true (not (has_pair v.from v.to (vs ++ w ∷ []))) (are_pairs_apart (vs ++ w ∷ []))
+    (ap not (pair_push v.from v.to vs w (not_false _ both.0) (joins_turned v w ∙ other.0))) (pairs_push vs w both.1 other.1)
+
+pub one_way_more : (groups : List Group) (stages : List Stage) (ways : List Way) (w : Way) → AreWays (length groups) stages ways → length ways < 256 →
+    IsWhole (length groups) stages w → way_reasons groups stages ways (Some w) ≡ None → AreWays (length groups) stages (ways ++ w ∷ [])
+one_way_more groups stages ways w legal room whole none =
+    let fits = joined groups stages ways w none in
+    let new : Leads (length groups) stages w = record {
+      some = whole.some;
+      few = whole.few;
+      from = whole.from;
+      to = whole.to;
+      apart = fits.apart;
+      rows = whole.rows;
+      ends = whole.ends;
+      consistent = fits.consistent;
+    } in
+    record {
+      few = omega (arith, length_push ways w);
+      apart = pairs_push ways w legal.apart fits.new;
+      each = λ i lt. elim (cases_lt i (length ways)) [
+        | inl old ↦ rw (get_or_append_left ways (w ∷ []) no_way i old) (legal.each i old)
+        | inr last ↦ (let here : length ways ≡ i = omega (arith, length_push ways w, lt, last) in rw (get_or_push ways w no_way i here) new)
+      ];
+    }

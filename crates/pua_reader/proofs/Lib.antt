@@ -1,0 +1,14 @@
+pub mod Texts
+pub mod TextLines
+pub mod Puts
+pub mod LeastBelow
+pub mod Named
+pub mod Forms
+pub mod Small
+pub mod Sections
+pub mod KeepGroups
+pub mod KeepStages
+pub mod KeepWays
+pub mod Keeps
+pub mod Reading
+pub mod Lowered

@@ -1,0 +1,72 @@
+-- Small facts on reasons, names and lists.
+use Rattle.std.proofs.Common.{◌≡◌, ℕ, ◌==◌, Bool, true, false, not, ◌&&◌, ◌||◌, List, [], ◌∷◌, ◌++◌, refl, sym, ap, ◌∙◌, Option, Some, None, nat_eq, inl, inr, ne_eqb}
+use Rattle.std.proofs.lemmas.Bool.{and_parts, or_parts, cases_eq}
+use Rattle.sig_types.specs.FirstRefused.{or_next}
+use Rattle.sig_types.specs.Text.{same_name, lower}
+use Rattle.pua_model.specs.Plan.{stands_in, are_apart, are_names}
+use Rattle.sig_types.specs.Text.{is_name}
+use Rattle.pua_reader.specs.declared.refusal.PuaWhy.{PuaWhy}
+use Rattle.pua_reader.specs.Rules.{when}
+
+-- a rule that does not refuse, and those after it
+pub none_first : (b : Bool) (w : PuaWhy) (next : Option PuaWhy) → or_next (when b w) next ≡ None → (b ≡ false) × (next ≡ None)
+none_first true w next e = cc
+none_first false w next e = (refl, e)
+
+pub none_next : {W : Type 0} (a b : Option W) → or_next a b ≡ None → (a ≡ None) × (b ≡ None)
+none_next None b e = (refl, e)
+none_next (Some w) b e = cc
+
+pub not_true : (b : Bool) → not b ≡ false → b ≡ true
+not_true true e = refl
+not_true false e = cc
+
+eq_turned : (a b : ℕ) → nat_eq a b ≡ nat_eq b a
+eq_turned a b = elim (cases_eq a b) [
+  | inl same ↦ rw same refl
+  | inr other ↦ ne_eqb a b other ∙ sym (ne_eqb b a (λ e. other (sym e)))
+]
+
+pub nat_turned : (a b : ℕ) → (a == b) ≡ (b == a)
+nat_turned a b = eq_turned a b
+
+pub same_turned : (a b : List ℕ) → same_name a b ≡ same_name b a
+same_turned [] [] = refl
+same_turned [] (y ∷ ys) = refl
+same_turned (x ∷ xs) [] = refl
+same_turned (x ∷ xs) (y ∷ ys) = rw (eq_turned (lower x) (lower y), same_turned xs ys) refl
+
+pub both_true : (a b : Bool) → a ≡ true → b ≡ true → (a && b) ≡ true
+both_true a b p q = rw (p, q) refl
+
+pub both_false : (a b : Bool) → a ≡ false → b ≡ false → (a || b) ≡ false
+both_false a b p q = rw (p, q) refl
+
+pub and_second_false : (a b : Bool) → a ≡ true → (a && b) ≡ true → b ≡ true
+and_second_false a b p q = rw p at q
+
+-- a name put at the end
+pub names_push : (ns : List (List ℕ)) (n : List ℕ) → are_names ns ≡ true → is_name n ≡ true → are_names (ns ++ n ∷ []) ≡ true
+names_push [] n h is = both_true (is_name n) true is refl
+names_push (m ∷ ms) n h is =
+    let both = and_parts (is_name m) (are_names ms) h in
+    both_true (is_name m) (are_names (ms ++ n ∷ [])) both.0 (names_push ms n both.1 is)
+
+pub stands_push : (m : List ℕ) (ns : List (List ℕ)) (n : List ℕ) → stands_in m ns ≡ false → same_name n m ≡ false → stands_in m (ns ++ n ∷ []) ≡ false
+stands_push m [] n h ne = both_false (same_name n m) false ne refl
+stands_push m (k ∷ ks) n h ne =
+    let both = or_parts (same_name k m) (stands_in m ks) h in
+    both_false (same_name k m) (stands_in m (ks ++ n ∷ [])) both.0 (stands_push m ks n both.1 ne)
+
+pub apart_push : (ns : List (List ℕ)) (n : List ℕ) → are_apart ns ≡ true → stands_in n ns ≡ false → are_apart (ns ++ n ∷ []) ≡ true
+apart_push [] n h free = refl
+apart_push (m ∷ ms) n h free =
+    let both = and_parts (not (stands_in m ms)) (are_apart ms) h in
+    let other = or_parts (same_name m n) (stands_in n ms) free in
+    let ne : same_name n m ≡ false = same_turned n m ∙ other.0 in
+    let out : stands_in m ms ≡ false = not_false (stands_in m ms) both.0 in
+    both_true (not (stands_in m (ms ++ n ∷ []))) (are_apart (ms ++ n ∷ [])) (ap not (stands_push m ms n out ne)) (apart_push ms n both.1 other.1)
+  where
+    not_false : (b : Bool) → not b ≡ true → b ≡ false
+    not_false true e = cc
+    not_false false e = refl

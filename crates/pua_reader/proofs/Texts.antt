@@ -1,0 +1,37 @@
+-- Words that are lent, and their texts.
+use Rattle.std.proofs.Common.{◌≡◌, ℕ, ◌<◌, ◌≤◌, Bool, ◌&&◌, ◌||◌, List, [], ◌∷◌, length, get_or, map, refl, sym, ap, ◌∙◌, arith, Bor}
+use Rattle.std.specs.List.{list_all, list_any}
+use Rattle.std.proofs.lemmas.List.{get_or-map}
+use Rattle.sig_types.specs.Text.{same_name}
+use Rattle.pua_model.specs.Plan.{Way, joins, has_pair, stands_in}
+use Rattle.pua_reader.specs.declared.words.Few.TheVariants.{More}
+use Rattle.pua_reader.specs.Words.{Text, FewIs}
+
+abbrev pub texts : List (Bor (List ℕ)) → List Text
+texts ws = map (λ w. w.now) ws
+
+pub all_texts : (p : Text → Bool) (ws : List (Bor (List ℕ))) → list_all p (texts ws) ≡ list_all (λ w. p w.now) ws
+all_texts p [] = refl
+all_texts p (w ∷ ws) = ap (λ b. p w.now && b) (all_texts p ws)
+
+pub any_texts : (p : Text → Bool) (ws : List (Bor (List ℕ))) → list_any p (texts ws) ≡ list_any (λ w. p w.now) ws
+any_texts p [] = refl
+any_texts p (w ∷ ws) = ap (λ b. p w.now || b) (any_texts p ws)
+
+pub stands_texts : (name : Text) (ws : List (Bor (List ℕ))) → stands_in name (texts ws) ≡ list_any (λ w. same_name w.now name) ws
+stands_texts name [] = refl
+stands_texts name (w ∷ ws) = ap (λ b. same_name w.now name || b) (stands_texts name ws)
+
+pub more_words : (ws : List Text) → 4 ≤ length ws → FewIs More ws
+more_words [] h = absurd (omega arith)
+more_words (a ∷ []) h = absurd (omega arith)
+more_words (a ∷ b ∷ []) h = absurd (omega arith)
+more_words (a ∷ b ∷ c ∷ []) h = absurd (omega arith)
+more_words (a ∷ b ∷ c ∷ d ∷ more) h = (a, (b, (c, (d, (more, refl)))))
+
+pub text_at : (ws : List (Bor (List ℕ))) (i : ℕ) (w : Bor (List ℕ)) → i < length ws → w ≡ get_or ws i w → get_or (texts ws) i [] ≡ w.now
+text_at ws i w lt is = get_or-map (λ (w : Bor (List ℕ)). w.now) ws i w [] lt ∙ ap (λ (v : Bor (List ℕ)). v.now) (sym is)
+
+pub pair_among : (a b : ℕ) (ws : List Way) → list_any (joins a b) ws ≡ has_pair a b ws
+pair_among a b [] = refl
+pair_among a b (w ∷ ws) = ap (λ x. joins a b w || x) (pair_among a b ws)

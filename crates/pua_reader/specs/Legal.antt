@@ -1,0 +1,67 @@
+-- What accepted lines keep.
+use Rattle.std.specs.Prelude.{◌≡◌, ℕ, ◌<◌, ◌≤◌, ◌==◌, true, false, List, [], length, map, slice_index_or, None, IfSome}
+use Rattle.pua_model.specs.declared.parts.Group.{Group}
+use Rattle.pua_model.specs.declared.parts.Stage.{Stage}
+use Rattle.pua_model.specs.Plan.{Way, no_way, are_names, are_apart, is_above, is_row, are_pairs_apart}
+use Rattle.pua_model.specs.Wish.{leads}
+use Rattle.pua_reader.specs.declared.section.Section.{Section}
+use Rattle.pua_reader.specs.declared.section.Section.TheVariants as section
+use Rattle.pua_reader.specs.Ways.{Opened, greens_in}
+use Rattle.pua_reader.specs.Gathered.{Gathered}
+
+pub record AreGroups (groups : List Group) : Type 0 where
+  pub few : length groups ≤ 64
+  pub names : are_names (map (λ g. g.name) groups) ≡ true
+  pub apart : are_apart (map (λ g. g.name) groups) ≡ true
+  pub rising : is_above 0 (map (λ g. g.number) groups) ≡ true
+
+pub record AreStages (groups : ℕ) (stages : List Stage) : Type 0 where
+  pub few : length stages ≤ 32
+  pub names : are_names (map (λ s. s.name) stages) ≡ true
+  pub apart : are_apart (map (λ s. s.name) stages) ≡ true
+  pub greens : (s : ℕ) → s < length stages → length (slice_index_or stages s (record { name = []; greens = [] })).greens ≡ groups
+
+abbrev pub IsStage : List Stage → ℕ → Type 0
+IsStage stages s = (1 ≤ s) × (s ≤ length stages)
+
+-- an interstage between two stages, which leads each group from its place in the one to that in the other
+pub record Leads (groups : ℕ) (stages : List Stage) (w : Way) : Type 0 where
+  pub some : 1 ≤ w.length
+  pub few : w.length ≤ 126
+  pub from : IsStage stages w.from
+  pub to : IsStage stages w.to
+  pub apart : (w.from == w.to) ≡ false
+  pub rows : length w.rows ≡ groups
+  pub ends : (g : ℕ) → g < groups → is_row (slice_index_or w.rows g None) ≡ true
+  pub consistent : (g : ℕ) → g < groups →
+      leads (slice_index_or w.rows g None) (greens_in stages w.from g) (greens_in stages w.to g) w.length ≡ true
+
+pub record AreWays (groups : ℕ) (stages : List Stage) (ways : List Way) : Type 0 where
+  pub few : length ways ≤ 256
+  pub apart : are_pairs_apart ways ≡ true
+  pub each : (i : ℕ) → i < length ways → Leads groups stages (slice_index_or ways i no_way)
+
+pub record IsOpen (groups : ℕ) (stages : List Stage) (current : Opened) : Type 0 where
+  pub seconds : IfSome current.length (λ n. (1 ≤ n) × (n ≤ 126))
+  pub from : IfSome current.from (λ s. IsStage stages s.0)
+  pub to : IfSome current.to (λ s. IsStage stages s.0)
+  pub rows : length current.rows ≡ groups
+  pub ends : (g : ℕ) → g < groups → is_row (slice_index_or current.rows g None) ≡ true
+
+abbrev pub rank : Section → ℕ
+rank section.Before = 0
+rank section.Groups = 1
+rank section.Stages = 2
+rank section.Start = 3
+rank section.Interstage = 4
+rank section.End = 5
+
+pub record Legal (g : Gathered) : Type 0 where
+  pub groups : AreGroups g.groups
+  pub stages : AreStages (length g.groups) g.stages
+  pub start : IfSome g.start (λ s. IsStage g.stages s.0)
+  pub ways : AreWays (length g.groups) g.stages g.ways
+  pub no_stages : rank g.section ≤ 1 → g.stages ≡ []
+  pub no_ways : rank g.section ≤ 3 → g.ways ≡ []
+  pub current : rank g.section ≡ 4 → IsOpen (length g.groups) g.stages g.current
+  pub room : rank g.section ≡ 4 → length g.ways < 256

@@ -1,0 +1,9 @@
+pub mod Words
+pub mod Rules
+pub mod Groups
+pub mod Stages
+pub mod Ways
+pub mod Gathered
+pub mod Accepted
+pub mod Seen
+pub mod Legal

@@ -1,0 +1,163 @@
+-- Rows of interstages, and their ends.
+use Rattle.std.specs.Prelude.{ℕ, ◌+◌, ◌-◌, ◌==◌, Bool, false, not, ◌&&◌, ◌||◌, List, [], ◌∷◌, ◌++◌, length, replicate, Option, Some, None, if◌then◌else◌, nat_le, codes, is_some, is_none, slice_index_or, slice_set, ℤ, pos}
+use Rattle.std.specs.List.{list_any}
+use Rattle.sig_types.specs.FirstRefused.{first_reason}
+use Rattle.sig_types.specs.Text.{same_name, number_of, is_name}
+use Rattle.sig_types.specs.Words.{least_below}
+use Rattle.sig_types.specs.declared.numbers.StageNo.{StageNo}
+use Rattle.pua_model.specs.declared.parts.Group.{Group}
+use Rattle.pua_model.specs.declared.parts.Stage.{Stage}
+use Rattle.pua_model.specs.Plan.{Way, joins, is_end}
+use Rattle.pua_model.specs.Wish.{leads}
+use Rattle.pua_reader.specs.declared.refusal.PuaWhy.{PuaWhy}
+use Rattle.pua_reader.specs.declared.refusal.PuaWhy.TheVariants as why
+use Rattle.pua_reader.specs.declared.form.Form.{Form}
+use Rattle.pua_reader.specs.declared.form.Form.TheVariants as form
+use Rattle.pua_reader.specs.Words.{Text, signed_of}
+use Rattle.pua_reader.specs.Rules.{when}
+use Rattle.pua_reader.specs.Groups.{place_of}
+use Rattle.pua_reader.specs.Stages.{is_stage_word, stage_of}
+
+-- an interstage whose section is read: the line of its section line, what its keys gave, and the ends of each group
+pub record Opened : Type 0 where
+  pub line : ℕ
+  pub length : Option ℕ
+  pub from : Option StageNo
+  pub to : Option StageNo
+  pub rows : List (Option (ℤ × ℤ))
+
+abbrev pub opened : ℕ → ℕ → Opened
+opened n groups = record { line = n; length = None; from = None; to = None; rows = replicate groups None }
+
+abbrev pub number_form : Text → Form
+number_form w = if is_some (number_of w) then form.Length else form.NoForm
+
+abbrev pub stage_form : Form → Text → Form
+stage_form f w = if is_stage_word w then f else form.NoForm
+
+abbrev pub ends_form : Text → Text → Text → Form
+ends_form a b c = if is_name a && is_some (signed_of b) && is_some (signed_of c) then form.Ends else form.NoForm
+
+-- `length[s] N`, `length N`, `from_stage S`, `to_stage S`, `interstage_number X`
+unfoldable pub form_of_two : Text → Text → Form
+form_of_two a b =
+    if same_name a (codes "length") || same_name a (codes "length[s]") then number_form b
+    else if same_name a (codes "from_stage") then stage_form form.From b
+    else if same_name a (codes "to_stage") then stage_form form.To b
+    else if same_name a (codes "interstage_number") then form.Number
+    else form.NoForm
+
+-- `length [s] N`, `from stage S`, `to stage S`, `interstage number X`, `GROUP R E`
+unfoldable pub form_of_three : Text → Text → Text → Form
+form_of_three a b c =
+    if same_name a (codes "length") then (if same_name b (codes "[s]") then number_form c else form.NoForm)
+    else if same_name a (codes "from") && same_name b (codes "stage") then stage_form form.From c
+    else if same_name a (codes "to") && same_name b (codes "stage") then stage_form form.To c
+    else if same_name a (codes "interstage") && same_name b (codes "number") then form.Number
+    else ends_form a b c
+
+abbrev pub form_of : List Text → Form
+form_of [] = form.NoForm
+form_of (a ∷ []) = form.NoForm
+form_of (a ∷ b ∷ []) = form_of_two a b
+form_of (a ∷ b ∷ c ∷ []) = form_of_three a b c
+form_of (a ∷ b ∷ c ∷ d ∷ more) = form.NoForm
+
+abbrev pub or_none : Option ℕ → ℕ
+or_none None = 0
+or_none (Some n) = n
+
+abbrev pub end_or_none : Option ℤ → ℤ
+end_or_none None = pos 0
+end_or_none (Some e) = e
+
+-- the word at a place of a row; the value of a key is its last word
+abbrev pub word : List Text → ℕ → Text
+word ws i = slice_index_or ws i []
+
+abbrev pub last_word : List Text → Text
+last_word ws = word ws (length ws - 1)
+
+unfoldable pub length_reasons : Option ℕ → ℕ → Option PuaWhy
+length_reasons given n = first_reason (when (is_some given) why.Row ∷ when (not (nat_le 1 n && nat_le n 126)) why.Range ∷ [])
+
+unfoldable pub stage_reasons : Option StageNo → Option StageNo → Option PuaWhy
+stage_reasons given stage = first_reason (when (is_some given) why.Row ∷ when (is_none stage) why.UnknownName ∷ [])
+
+-- the row that a group already has
+abbrev pub has_row : List (Option (ℤ × ℤ)) → Option ℕ → Bool
+has_row rows None = false
+has_row rows (Some g) = is_some (slice_index_or rows g None)
+
+unfoldable pub ends_reasons : List (Option (ℤ × ℤ)) → Option ℕ → ℤ → ℤ → Option PuaWhy
+ends_reasons rows place r e = first_reason (
+    when (has_row rows place) why.NameTwice
+    ∷ when (is_none place) why.UnknownName
+    ∷ when (not (is_end r && is_end e)) why.Range
+    ∷ [])
+
+-- why a row of each form is refused
+abbrev pub why_by : Form → List Group → List Stage → Opened → List Text → Option PuaWhy
+why_by form.NoForm groups stages current ws = Some why.Row
+why_by form.Number groups stages current ws = None
+why_by form.Length groups stages current ws = length_reasons current.length (or_none (number_of (last_word ws)))
+why_by form.From groups stages current ws = stage_reasons current.from (stage_of stages (last_word ws))
+why_by form.To groups stages current ws = stage_reasons current.to (stage_of stages (last_word ws))
+why_by form.Ends groups stages current ws =
+    ends_reasons current.rows (place_of groups (word ws 0)) (end_or_none (signed_of (word ws 1))) (end_or_none (signed_of (word ws 2)))
+
+abbrev pub way_row_why : List Group → List Stage → Opened → List Text → Option PuaWhy
+way_row_why groups stages current ws = why_by (form_of ws) groups stages current ws
+
+abbrev pub set_row : List (Option (ℤ × ℤ)) → Option ℕ → ℤ → ℤ → List (Option (ℤ × ℤ))
+set_row rows None r e = rows
+set_row rows (Some g) r e = slice_set rows g (Some (r, e))
+
+-- what a row of each form gives
+abbrev pub opened_by : Form → List Group → List Stage → Opened → List Text → Opened
+opened_by form.NoForm groups stages current ws = current
+opened_by form.Number groups stages current ws = current
+opened_by form.Length groups stages current ws = record current { length = number_of (last_word ws) }
+opened_by form.From groups stages current ws = record current { from = stage_of stages (last_word ws) }
+opened_by form.To groups stages current ws = record current { to = stage_of stages (last_word ws) }
+opened_by form.Ends groups stages current ws =
+    record current { rows = set_row current.rows (place_of groups (word ws 0)) (end_or_none (signed_of (word ws 1))) (end_or_none (signed_of (word ws 2))) }
+
+abbrev pub opened_with : List Group → List Stage → Opened → List Text → Opened
+opened_with groups stages current ws = opened_by (form_of ws) groups stages current ws
+
+-- the interstage of a section in which nothing misses
+abbrev pub way_by : Option ℕ → Option StageNo → Option StageNo → List (Option (ℤ × ℤ)) → Option Way
+way_by (Some n) (Some a) (Some b) rows = Some (record { from = a.0; to = b.0; length = n; rows = rows })
+way_by None from to rows = None
+way_by (Some n) None to rows = None
+way_by (Some n) (Some a) None rows = None
+
+abbrev pub way_of : Opened → Option Way
+way_of current = way_by current.length current.from current.to current.rows
+
+abbrev pub greens_in : List Stage → ℕ → ℕ → Bool
+greens_in stages s g = slice_index_or (slice_index_or stages (s - 1) (record { name = []; greens = [] })).greens g false
+
+-- the least group that an interstage does not lead from its place in the one stage to that in the other
+abbrev pub first_inconsistent : ℕ → List Stage → Way → Option ℕ
+first_inconsistent groups stages w =
+    least_below (λ g. not (leads (slice_index_or w.rows g None) (greens_in stages w.from g) (greens_in stages w.to g) w.length)) groups
+
+abbrev pub inconsistent_why : ℕ → List Group → Option ℕ → Option PuaWhy
+inconsistent_why number groups None = None
+inconsistent_why number groups (Some g) =
+    Some (why.Inconsistent number (record { 0 = g }) (slice_index_or groups g (record { name = []; number = 0 })).name)
+
+-- why the section of an interstage is refused as a whole, after these interstages
+unfoldable pub way_reasons : List Group → List Stage → List Way → Option Way → Option PuaWhy
+way_reasons groups stages ways None = Some why.Row
+way_reasons groups stages ways (Some w) = first_reason (
+    when (w.from == w.to) why.Range
+    ∷ when (list_any (joins w.from w.to) ways) why.PairTwice
+    ∷ inconsistent_why (length ways + 1) groups (first_inconsistent (length groups) stages w)
+    ∷ [])
+
+abbrev pub ways_with : List Way → Option Way → List Way
+ways_with ways None = ways
+ways_with ways (Some w) = ways ++ w ∷ []

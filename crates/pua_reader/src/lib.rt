@@ -1,0 +1,19 @@
+//! Reads the plan of a junction from a PUA file.
+#![tactic(auto)]
+
+mod draft;
+mod form;
+mod groups;
+mod reader;
+mod refusal;
+mod section;
+mod stages;
+mod twins;
+mod ways;
+mod words;
+
+pub use reader::read_plan;
+pub use refusal::{PuaRefusal, PuaWhy};
+
+#[cfg(test)]
+mod tests;

@@ -1,0 +1,280 @@
+// Rows of interstages, and their ends.
+ghost use Rattle.std.specs.Prelude.{[], ◌≡◌, ◌==◌, ◌≤◌, ◌<◌, ◌+◌, ℕ, ℤ, map, length, IfOk, OnOk, true, false, not, None, Some, Option, MatchOption, MatchResult, slice_index_or, replicate, is_some, IfSome, slice_set};
+ghost use Rattle.std.specs.List.{list_any};
+ghost use Rattle.sig_types.specs.Text.{number_of, within};
+ghost use Rattle.pua_model.specs.Wish.{leads};
+ghost use Rattle.pua_model.specs.Plan.{Way, joins, is_end};
+ghost use Rattle.pua_reader.specs.Words.{signed_of};
+ghost use Rattle.pua_reader.specs.Ways.{Opened, opened, form_of, way_row_why, opened_with, length_reasons, stage_reasons, ends_reasons, or_none, end_or_none, word, last_word, has_row, set_row, why_by, opened_by, way_by, first_inconsistent, greens_in, inconsistent_why, way_reasons, ways_with};
+ghost use Rattle.pua_reader.specs.Stages.{stage_of};
+ghost use Rattle.pua_reader.specs.Groups.{place_of};
+ghost use Rattle.pua_reader.specs.Rules.{FaultIs};
+
+use crate::form::{Form, form_of};
+use crate::refusal::{Fault, PuaWhy};
+use crate::stages::stage_of;
+use crate::words::{end_of, last_word, word_at};
+use pua_model::{Group, Interstage, Stage, leads, place_named};
+use sig_types::text::number;
+use sig_types::{GroupNo, ShortName, StageNo};
+use std::alloc::{AllocError, Global};
+
+/// An interstage whose section is read: the line of its section line, what its keys gave, and the ends of each group.
+#[derive(Drop)]
+pub(crate) struct Open {
+    pub(crate) line: u32,
+    pub(crate) length: Option<u8>,
+    pub(crate) from: Option<StageNo>,
+    pub(crate) to: Option<StageNo>,
+    pub(crate) rows: Vec<Option<(i8, i8)>>,
+}
+
+#[tactic(auto, unfolding(crate::specs::Ways::length_reasons))]
+fn length_of(given: Option<u8>, word: &[u8]) -> Result<u8, PuaWhy>
+    requires { is_some (number_of word.now) ≡ true }
+    ensures { MatchResult result (λ n. (length_reasons given (or_none (number_of word.now)) ≡ None) × (number_of word.now ≡ Some n))
+        (λ why. length_reasons given (or_none (number_of word.now)) ≡ Some why) }
+{
+    if given.is_some() {
+        return Err(PuaWhy::Row);
+    }
+    match number(word, 1, 126) {
+        Some(length) => Ok(length as u8),
+        None => Err(PuaWhy::Range),
+    }
+}
+
+#[tactic(auto, unfolding(crate::specs::Ways::stage_reasons))]
+fn stage_key(given: Option<StageNo>, stages: &[Stage], word: &[u8]) -> Result<StageNo, PuaWhy>
+    requires { length stages.now ≤ 32 }
+    ensures { MatchResult result (λ s. (stage_reasons given (stage_of stages.now word.now) ≡ None) × (stage_of stages.now word.now ≡ Some s))
+        (λ why. stage_reasons given (stage_of stages.now word.now) ≡ Some why) }
+{
+    if given.is_some() {
+        return Err(PuaWhy::Row);
+    }
+    match stage_of(stages, word) {
+        Some(stage) => Ok(stage),
+        None => Err(PuaWhy::UnknownName),
+    }
+}
+
+// The place and the ends of a group's row.
+#[tactic(auto, unfolding(crate::specs::Ways::ends_reasons))]
+fn ends_of(
+    groups: &[Group],
+    rows: &[Option<(i8, i8)>],
+    name: &[u8],
+    red_end: &[u8],
+    green_end: &[u8],
+) -> Result<(usize, (i8, i8)), PuaWhy>
+    requires rows { length rows.now ≡ length groups.now }
+    requires red_end { is_some (signed_of red_end.now) ≡ true }
+    requires green_end { is_some (signed_of green_end.now) ≡ true }
+    ensures { MatchResult result
+        (λ p. (ends_reasons rows.now (place_of groups.now name.now) (end_or_none (signed_of red_end.now)) (end_or_none (signed_of green_end.now)) ≡ None)
+        × (place_of groups.now name.now ≡ Some p.0) × (signed_of red_end.now ≡ Some p.1.0) × (signed_of green_end.now ≡ Some p.1.1))
+        (λ why. ends_reasons rows.now (place_of groups.now name.now) (end_or_none (signed_of red_end.now)) (end_or_none (signed_of green_end.now)) ≡ Some why) }
+{
+    let Some(place) = place_named(groups, name) else {
+        return Err(PuaWhy::UnknownName);
+    };
+    if rows[place].is_some() {
+        return Err(PuaWhy::NameTwice);
+    }
+    match (end_of(red_end), end_of(green_end)) {
+        (Some(red_end), Some(green_end)) => Ok((place, (red_end, green_end))),
+        _ => Err(PuaWhy::Range),
+    }
+}
+
+impl Open {
+    ghost use Rattle.pua_reader.specs.Seen.{opened_in};
+
+    /// The interstage whose section begins in that line.
+    pub(crate) fn begins(alloc: Global, line: u32, groups: usize) -> Result<Open, AllocError>
+        ensures { IfOk result (λ o. opened_in o ≡ opened line groups) }
+    {
+        Ok(Open {
+            line,
+            length: None,
+            from: None,
+            to: None,
+            rows: vec![in alloc; None; groups]?,
+        })
+    }
+
+    /// No interstage.
+    pub(crate) fn none(alloc: Global) -> Open
+        ensures { opened_in result ≡ opened 0 0 }
+    {
+        Open {
+            line: 0,
+            length: None,
+            from: None,
+            to: None,
+            rows: Vec::new(alloc),
+        }
+    }
+
+    // Takes what a row of this form gives.
+    fn take(
+        &mut self,
+        form: Form,
+        groups: &[Group],
+        stages: &[Stage],
+        words: &[&[u8]],
+    ) -> Result<(), PuaWhy>
+        requires form { form_of (map (λ w. w.now) words.now) ≡ form }
+        requires rows { length self.old.rows.items ≡ length groups.now }
+        requires stages { length stages.now ≤ 32 }
+        ensures { MatchResult result
+            (λ _. (why_by form groups.now stages.now (opened_in self.old) (map (λ w. w.now) words.now) ≡ None)
+            × (opened_in self.new ≡ opened_by form groups.now stages.now (opened_in self.old) (map (λ w. w.now) words.now)))
+            (λ why. why_by form groups.now stages.now (opened_in self.old) (map (λ w. w.now) words.now) ≡ Some why) }
+    {
+        match form {
+            Form::NoForm => return Err(PuaWhy::Row),
+            Form::Number => {}
+            Form::Length => {
+                let length = length_of(self.length, last_word(words))?;
+                self.length = Some(length);
+            }
+            Form::From => {
+                let from = stage_key(self.from, stages, last_word(words))?;
+                self.from = Some(from);
+            }
+            Form::To => {
+                let to = stage_key(self.to, stages, last_word(words))?;
+                self.to = Some(to);
+            }
+            Form::Ends => {
+                let (place, ends) = ends_of(
+                    groups,
+                    &self.rows,
+                    word_at(words, 0),
+                    word_at(words, 1),
+                    word_at(words, 2),
+                )?;
+                self.rows[place] = Some(ends);
+            }
+        }
+        Ok(())
+    }
+
+    /// Takes what a row gives, where it is not refused.
+    pub(crate) fn read(
+        &mut self,
+        groups: &[Group],
+        stages: &[Stage],
+        words: &[&[u8]],
+    ) -> Result<(), PuaWhy>
+        requires rows { length self.old.rows.items ≡ length groups.now }
+        requires stages { length stages.now ≤ 32 }
+        ensures { MatchResult result
+            (λ _. (way_row_why groups.now stages.now (opened_in self.old) (map (λ w. w.now) words.now) ≡ None)
+            × (opened_in self.new ≡ opened_with groups.now stages.now (opened_in self.old) (map (λ w. w.now) words.now)))
+            (λ why. way_row_why groups.now stages.now (opened_in self.old) (map (λ w. w.now) words.now) ≡ Some why) }
+    {
+        self.take(form_of(words), groups, stages, words)
+    }
+}
+
+/// The interstage of a section in which nothing misses.
+pub(crate) fn way_of(ended: Open) -> Option<Interstage>
+    ensures { MatchOption result (way_by ended.length ended.from ended.to ended.rows.items ≡ None) (λ way. way_by ended.length ended.from ended.to ended.rows.items ≡ Some way) }
+{
+    let Open {
+        line: _,
+        length,
+        from,
+        to,
+        rows,
+    } = ended;
+    match (length, from, to) {
+        (Some(length), Some(from), Some(to)) => Some(Interstage::of(from, to, length, rows)),
+        _ => None,
+    }
+}
+
+fn has_pair(from: StageNo, to: StageNo, ways: &[Interstage]) -> bool
+    ensures { result ≡ list_any (joins from.0 to.0) ways.now }
+{
+    ways.iter()
+        .any(|way| way.from_stage() == from && way.to_stage() == to)
+}
+
+// Whether the group is green in the stage.
+fn is_green(stages: &[Stage], stage: StageNo, group: u8) -> bool
+    requires stage { (1 ≤ stage.0) × (stage.0 ≤ length stages.now) }
+    requires greens { (s : ℕ) → s < length stages.now → group < length (slice_index_or stages.now s (record { name = []; greens = [] })).greens }
+    ensures { result ≡ greens_in stages.now stage.0 group }
+{
+    let stage = &stages[usize::from(stage.0) - 1];
+    stage.greens.get(group)
+}
+
+// Whether an interstage leads a group from its place in the one stage to that in the other.
+fn leads_group(stages: &[Stage], way: &Interstage, group: u8) -> bool
+    requires rows { group < length way.now.rows }
+    requires from { (1 ≤ way.now.from) × (way.now.from ≤ length stages.now) }
+    requires to { (1 ≤ way.now.to) × (way.now.to ≤ length stages.now) }
+    requires greens { (s : ℕ) → s < length stages.now → group < length (slice_index_or stages.now s (record { name = []; greens = [] })).greens }
+    ensures { result ≡ leads (slice_index_or way.now.rows group None) (greens_in stages.now way.now.from group) (greens_in stages.now way.now.to group) way.now.length }
+{
+    let from = is_green(stages, way.from_stage(), group);
+    let to = is_green(stages, way.to_stage(), group);
+    leads(way.row(GroupNo(group)), from, to, way.seconds())
+}
+
+// The least group that it does not lead so.
+fn first_inconsistent(groups: usize, stages: &[Stage], way: &Interstage) -> Option<usize>
+    requires few { groups ≤ 64 }
+    requires rows { length way.now.rows ≡ groups }
+    requires from { (1 ≤ way.now.from) × (way.now.from ≤ length stages.now) }
+    requires to { (1 ≤ way.now.to) × (way.now.to ≤ length stages.now) }
+    requires greens { (s : ℕ) → s < length stages.now → length (slice_index_or stages.now s (record { name = []; greens = [] })).greens ≡ groups }
+    ensures found { result ≡ first_inconsistent groups stages.now way.now }
+    ensures below { IfSome result (λ g. g < groups) }
+{
+    for g in 0..groups {
+        if !leads_group(stages, way, g as u8) {
+            return Some(g);
+        }
+    }
+    None
+}
+
+/// Why an interstage is refused as a whole, after these.
+#[tactic(auto, unfolding(crate::specs::Ways::way_reasons))]
+pub(crate) fn way_why(
+    groups: &[Group],
+    stages: &[Stage],
+    ways: &[Interstage],
+    way: &Interstage,
+) -> Option<PuaWhy>
+    requires few { length groups.now ≤ 64 }
+    requires few_ways { length ways.now ≤ 256 }
+    requires rows { length way.now.rows ≡ length groups.now }
+    requires from { (1 ≤ way.now.from) × (way.now.from ≤ length stages.now) }
+    requires to { (1 ≤ way.now.to) × (way.now.to ≤ length stages.now) }
+    requires greens { (s : ℕ) → s < length stages.now → length (slice_index_or stages.now s (record { name = []; greens = [] })).greens ≡ length groups.now }
+    ensures { result ≡ way_reasons groups.now stages.now ways.now (Some way.now) }
+{
+    let from = way.from_stage();
+    let to = way.to_stage();
+    if from == to {
+        return Some(PuaWhy::Range);
+    }
+    if has_pair(from, to, ways) {
+        return Some(PuaWhy::PairTwice);
+    }
+    match first_inconsistent(groups.len(), stages, way) {
+        Some(place) => Some(PuaWhy::Inconsistent {
+            inter: ways.len() as u16 + 1,
+            group: GroupNo(place as u8),
+            name: ShortName::of(groups[place].name.bytes()),
+        }),
+        None => None,
+    }
+}
