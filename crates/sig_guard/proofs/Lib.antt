@@ -1,8 +1,8 @@
 pub mod Agree
+pub mod EachRefusal
 pub mod LastBelow
 pub mod LawProofs
 pub mod MachineLemmas
-pub mod NoConflicts
 pub mod Pictures
 pub mod RedAmberRun
 pub mod Refusals
@@ -12,3 +12,4 @@ pub mod SequenceKept
 pub mod StandsAfter
 pub mod StepKept
 pub mod TurnLemmas
+pub mod TwoWay

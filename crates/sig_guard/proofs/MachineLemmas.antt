@@ -8,15 +8,15 @@ use Rattle.std.proofs.Common.{◌++◌, length}
 use Rattle.std.specs.Option.{unwrap_or}
 use Rattle.sig_guard.proofs.Pictures.{trace-append_old, trace-append_new}
 use Rattle.sig_guard.proofs.Agree.{ends_at-agree}
-use Rattle.sig_types.specs.Turns.{Picture, shown, History, trace, is_red, is_green, starts_at, turns_green_at, ends_at}
-use Rattle.sig_types.specs.Words.{last_below, least_below}
+use Rattle.sig_types.specs.Turns.{Picture, shown, History, trace, is_green, starts_at, turns_green_at, ends_at}
+use Rattle.sig_types.specs.Words.{last_below}
 use Rattle.sig_guard.specs.TurnKinds.{turned_at}
 use Rattle.sig_types.specs.Rules.{Rules}
 use Rattle.std.proofs.Common.{is_some, nat_lt, ◌&&◌, inl, inr}
 use Rattle.std.proofs.lemmas.Bool.{cases_eq, cases_lt, both_ways, and_from, ltb-false, le-ltb}
-use Rattle.sig_guard.proofs.LastBelow.{IsLast, last_below-some, last_below-at, last_below-none, least_below-never}
+use Rattle.sig_guard.proofs.LastBelow.{IsLast, last_below-some, last_below-at, last_below-none}
 use Rattle.sig_guard.proofs.TurnLemmas.{last_below-never}
-use Rattle.sig_guard.specs.Step.{is_in_conflict, start_breach, is_uncleared, is_due, natural_after, is_short_green, end_breach, first_breach, when}
+use Rattle.sig_guard.specs.Step.{is_uncleared, is_due, natural_after, is_short_green, end_breach, first_breach, when}
 
 pub natural_red_amber : (ra am : ℕ) (a : ℕ → Aspect) (n m : ℕ) (b : Bool) (o : Option ℕ) → n ≡ suc m → a m ≡ RedAmber →
     o ≡ last_below (turned_at turn.Start a) n → is_due o ra n ≡ b → (if b then Green else RedAmber) ≡ natural_after ra am a m
@@ -102,13 +102,3 @@ pub last_end_or : (h : History) (p : Picture) (i m : ℕ) (o : Option ℕ) → l
     o ≡ last_below (ends_at (trace h i)) (suc m) → last_below (ends_at (trace (h ++ p ∷ []) i)) (suc (suc m)) ≡ Some (unwrap_or o 0)
 last_end_or h p i m None len none last = absurd (some_end (trace h i) m (sym last))
 last_end_or h p i m (Some b) len none last = last_end_before h p i m b len none (sym last)
-
--- a start where no groups conflict
-pub start_breach_alone : (r : Rules) (h : History) (m : ℕ) (p : Picture) (g : ℕ) → ((i : ℕ) → r.between i g ≡ None) → is_red (trace h g m) ≡ true →
-    None ≡ start_breach r h m p g
-unfolding start_breach
-start_breach_alone r h m p g alone red =
-    let no_conflict : least_below (λ i. is_in_conflict r p g i) r.count ≡ None = least_below-never _ r.count (λ j lt. rw (alone j) refl) in
-    let no_end : least_below (λ i. is_uncleared (r.between i g) (r.red_amber g) (suc m) (trace (h ++ p ∷ []) i)) r.count ≡ None =
-    least_below-never _ r.count (λ j lt. rw (alone j) refl) in
-    rw (red, no_conflict, no_end) refl

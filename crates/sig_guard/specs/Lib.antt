@@ -2,5 +2,5 @@ pub mod Laws
 pub mod Safety
 pub mod Stands
 pub mod Step
-pub mod Times
+pub mod Tables
 pub mod TurnKinds

@@ -4,11 +4,11 @@ use Rattle.sig_types.specs.Rules.{Rules}
 use Rattle.sig_types.specs.Turns.{History}
 use Rattle.sig_guard.specs.declared.guard.Guard.{Guard}
 use Rattle.sig_guard.specs.Safety.{IsHistory, Safe}
-use Rattle.sig_guard.specs.Times.{rules_of}
+use Rattle.sig_guard.specs.Tables.{rules_of}
 
 -- what the fields of a guard say, for its own steps
 abbrev pub kept_rules : Guard → Rules
-kept_rules guard = rules_of guard.times
+kept_rules guard = rules_of guard.times guard.intergreens
 
 abbrev pub kept : Guard → History
 kept guard = guard.history.items

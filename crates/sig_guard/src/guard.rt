@@ -1,14 +1,15 @@
 // The guard over a kept history.
 ghost use Rattle.std.specs.Prelude.{◌≡◌, ℕ, suc, All, ◌+◌, ◌-◌, ◌<◌, ◌≤◌, [], ◌∷◌, ◌++◌, length, replicate, slice_index_or, IfOk, IfSome, OnOk, OnErr};
 ghost use Rattle.sig_types.specs.Turns.{History, trace, is_green, is_red};
-ghost use Rattle.sig_types.specs.Words.{last_below, run_to};
+ghost use Rattle.sig_types.specs.Words.{last_below, least_below, run_to};
 ghost use Rattle.sig_types.specs.Recorded.{IsTurn};
-ghost use Rattle.sig_guard.specs.Times.{rules_of};
+ghost use Rattle.sig_tables.specs.Pairs.{ArePairs};
+ghost use Rattle.sig_guard.specs.Tables.{rules_of};
 ghost use Rattle.sig_guard.specs.Step.{guard_picture, guard_refused};
 
-use crate::Times;
-use crate::history::{Turn, last_turn, run, shows};
+use crate::history::{Turn, last_turn, run, shows, turns};
 use crate::turn::{Breach, ended, is_due, is_on, is_short_green, refusal, started};
+use sig_tables::{Intergreens, Times};
 use sig_types::{Aspect, GroupNo, Memory, Picture, Rule, TurnRefusals, Wishes};
 use std::alloc::Global;
 
@@ -16,7 +17,11 @@ use std::alloc::Global;
 #[derive(Drop)]
 pub struct Guard {
     times: Times,
+    intergreens: Intergreens,
     history: Vec<Picture>,
+    ghost pairs: { ArePairs intergreens },
+    ghost one_plan: { intergreens.count ≡ length times },
+    ghost few_groups: { length times ≤ 64 },
     ghost begun: { 1 ≤ length history.items },
     ghost few: { length history.items ≤ 604802 },
     ghost sizes: { (t : ℕ) → t < length history.items → length (slice_index_or history.items t []) ≡ length times },
@@ -25,17 +30,22 @@ pub struct Guard {
 impl Guard {
     ghost use Rattle.sig_guard.specs.Stands.{StandsFor, rules, seconds_made};
 
-    /// A guard at second 0, in which every group is red.
+    /// A guard at second 0, in which every group is red. Both tables are of one plan.
     #[tactic(auto, unfolding(crate::specs::Stands::StandsFor, crate::specs::Stands::rules, crate::specs::Stands::seconds_made))]
-    pub fn new(alloc: Global, times: Times) -> Result<Guard, Memory>
-        ensures rules { IfOk result (λ guard. rules guard ≡ rules_of times) }
+    pub fn new(alloc: Global, times: Times, intergreens: Intergreens) -> Result<Guard, Memory>
+        requires one_plan { intergreens.count ≡ length times }
+        ensures rules { IfOk result (λ guard. rules guard ≡ rules_of times intergreens) }
         ensures seconds { IfOk result (λ guard. seconds_made guard ≡ 0) }
-        ensures history { IfOk result (λ guard. StandsFor guard (replicate (rules_of times).count Aspect.Red ∷ [])) }
+        ensures history { IfOk result (λ guard. StandsFor guard (replicate (rules_of times intergreens).count Aspect.Red ∷ [])) }
     {
         let mut history = Vec::new(alloc);
-        let red = Picture::all_red(times.groups());
+        let red = Picture::all_red(intergreens.groups());
         match history.push(red) {
-            Ok(()) => Ok(Guard { times, history }),
+            Ok(()) => Ok(Guard {
+                times,
+                intergreens,
+                history,
+            }),
             Err(_) => Err(Memory),
         }
     }
@@ -100,7 +110,7 @@ impl Guard {
     ghost use Rattle.sig_types.specs.Turns.{ends_at};
     ghost use Rattle.sig_guard.specs.Stands.{kept_rules, kept, last_second};
     ghost use Rattle.sig_guard.specs.TurnKinds.{turned_at};
-    ghost use Rattle.sig_guard.specs.Step.{natural_after, end_breach, start_breach, natural as natural_spec, natural_to, ends_to, starts_to, refused_ends_to, refused_to};
+    ghost use Rattle.sig_guard.specs.Step.{natural_after, end_breach, start_breach, is_in_conflict, is_uncleared, natural as natural_spec, natural_to, ends_to, starts_to, refused_ends_to, refused_to};
 
     /// The second that comes next.
     fn now(&self) -> usize
@@ -178,16 +188,86 @@ impl Guard {
         None
     }
 
-    /// The first rule that a start of the group breaks; no groups conflict.
+    /// The second of the group's last end, where the next second shows the picture.
+    fn last_end(&self, picture: &Picture, i: u8) -> usize
+        requires group { i < (kept_rules self.now).count }
+        requires size { length picture.now ≡ (kept_rules self.now).count }
+        ensures last { last_below (ends_at (trace (kept self.now ++ picture.now ∷ []) i)) (suc (suc (last_second self.now))) ≡ Some result }
+        ensures few { result ≤ 604802 }
+    {
+        if turns(Turn::End, self.aspect(i), picture.get(i)) {
+            return self.now();
+        }
+        self.last(i, Turn::End).unwrap_or(0)
+    }
+
+    /// Whether an end of `i` lies too close before a green of `g` that starts in the next second.
+    fn is_uncleared(&self, picture: &Picture, g: u8, i: u8) -> bool
+        requires first { i < (kept_rules self.now).count }
+        requires second { g < (kept_rules self.now).count }
+        requires size { length picture.now ≡ (kept_rules self.now).count }
+        ensures { result ≡ is_uncleared ((kept_rules self.now).between i g) ((kept_rules self.now).red_amber g) (suc (last_second self.now)) (trace (kept self.now ++ picture.now ∷ []) i) }
+    {
+        match self.intergreens.between(GroupNo(i), GroupNo(g)) {
+            Some(z) => {
+                let green = self.now() + self.times.red_amber(GroupNo(g)) as usize;
+                green < self.last_end(picture, i) + z as usize
+            }
+            None => false,
+        }
+    }
+
+    /// The least group in conflict with `g` that the picture shows red-amber or green.
+    fn conflict_with(&self, picture: &Picture, g: u8) -> Option<u8>
+        requires group { g < (kept_rules self.now).count }
+        requires size { length picture.now ≡ (kept_rules self.now).count }
+        ensures { result ≡ least_below (λ i. is_in_conflict (kept_rules self.now) picture.now g i) (kept_rules self.now).count }
+    {
+        for i in 0..self.times.groups() {
+            if self.intergreens.between(GroupNo(i), GroupNo(g)).is_some() && is_on(picture.get(i)) {
+                return Some(i);
+            }
+        }
+        None
+    }
+
+    /// The least group in conflict with `g` of which an end lies too close before a start of `g`.
+    fn uncleared_by(&self, picture: &Picture, g: u8) -> Option<u8>
+        requires group { g < (kept_rules self.now).count }
+        requires size { length picture.now ≡ (kept_rules self.now).count }
+        ensures { result ≡ least_below (λ i. is_uncleared ((kept_rules self.now).between i g) ((kept_rules self.now).red_amber g) (suc (last_second self.now)) (trace (kept self.now ++ picture.now ∷ []) i)) (kept_rules self.now).count }
+    {
+        for i in 0..self.times.groups() {
+            if self.is_uncleared(picture, g, i) {
+                return Some(i);
+            }
+        }
+        None
+    }
+
+    /// The first rule that a start of the group breaks, against the picture so far.
     #[tactic(auto, unfolding(crate::specs::Step::start_breach))]
     fn start_breach(&self, picture: &Picture, g: u8) -> Option<Breach>
         requires group { g < (kept_rules self.now).count }
+        requires size { length picture.now ≡ (kept_rules self.now).count }
         ensures { result ≡ start_breach (kept_rules self.now) (kept self.now) (last_second self.now) picture.now g }
     {
         if self.aspect(g) != Aspect::Red {
             return Some(Breach {
                 rule: Rule::Sequence,
                 other: None,
+            });
+        }
+        if let Some(i) = self.conflict_with(picture, g) {
+            return Some(Breach {
+                rule: Rule::Conflict,
+                other: Some(i),
+            });
+        }
+        if let Some(i) = self.uncleared_by(picture, g) {
+            return Some(Breach {
+                rule: Rule::Intergreen,
+                other: Some(i),
             });
         }
         None
