@@ -68,7 +68,7 @@ impl Controller {
     /// A controller at second 0, in which every group is red and the starting stage is active. The tables were read against
     /// this plan. In each second it gives these commands, at most 10,000, whose stages and groups are in the plan and none
     /// of which is a clear.
-    #[tactic(auto, unfolding(crate::specs::Controls::StandsFor, crate::specs::Controls::site_of, crate::specs::Controls::logic_of))]
+    #[tactic(auto, unfolding(crate::specs::Controls::StandsFor, crate::specs::Controls::plan_of, crate::specs::Controls::site_of, crate::specs::Controls::logic_of))]
     pub fn make(
         alloc: Global,
         plan: Plan,
@@ -81,6 +81,7 @@ impl Controller {
         requires few { length commands.items ≤ 10000 }
         requires commands { All (IsListed plan) commands.items }
         ensures site { IfOk result (λ c. site_of c ≡ record { plan = plan; rules = rules_of times intergreens }) }
+        ensures plan { IfOk result (λ c. plan_of c ≡ plan) }
         ensures logic { IfOk result (λ c. logic_of c ≡ listed commands.items) }
         ensures stands { IfOk result (λ c. StandsFor c (opening (site_of c) no_store)) }
     {
