@@ -1,8 +1,9 @@
-pub mod Letters
-pub mod Turns
-pub mod Logs
 pub mod Lines
-pub mod Loads
-pub mod Stops
 pub mod Fronts
 pub mod PlainLines
+pub mod Loads
+pub mod Logs
+pub mod Stops
+pub mod Pieces
+pub mod Tables
+pub mod Safes

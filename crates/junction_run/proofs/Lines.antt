@@ -1,17 +1,11 @@
 -- The lines of a text, cut from its front.
-use Rattle.std.proofs.Common.{◌≡◌, ◌∙◌, ℕ, ◌+◌, ◌<◌, Bool, true, false, List, [], ◌∷◌, ◌++◌, length, Option, None, Some, Err, refl, sym, ap, arith, nat_eq}
+use Rattle.std.proofs.Common.{◌≡◌, ◌∙◌, ℕ, ◌<◌, Bool, true, false, List, [], ◌∷◌, length, Option, None, Some, refl, sym, ap, arith, nat_eq}
 use Rattle.std.specs.Prelude.{if◌then◌else◌, ◌&&◌}
 use Rattle.std.specs.Option.{option_map}
-use Rattle.std.proofs.Common.{All}
-use Rattle.std.proofs.lemmas.List.Elements.{All-append}
-use Rattle.sig_guard.specs.Times.{IsRow}
-use lib.Pointwise.{pointwise}
 use Rattle.std.proofs.lemmas.Bool.{true≢false}
 use Rattle.std.proofs.lemmas.Bool.Decides.{eqb_tells}
-use Prim.Native.Nat.{suc, zero}
-use Rattle.sig_guard.specs.declared.times.TimesRow.{TimesRow}
+use Prim.Native.Nat.{suc}
 use Rattle.sig_types.specs.Text.{Line, lines_of, with_first, cut_at}
-use Rattle.junction_run.specs.TimesText.{Groups, no_groups, add_group, group_of, groups_from, times_of, header}
 
 -- a cut
 abbrev pub parts : List ℕ → List ℕ → Option (List ℕ × List ℕ)
@@ -74,37 +68,6 @@ pub cut_shorter : (bs l r : List ℕ) → cut_at 10 bs ≡ Some (l, r) → lengt
 cut_shorter [] l r e = cc
 cut_shorter (b ∷ bs) l r e = shorter_case b bs (nat_eq b 10) (cut_at 10 bs) (λ l r cut. cut_shorter bs l r cut) l r e
 
--- the header line
-pub times_begin : (text line rest : List ℕ) → cut_at 10 text ≡ Some (line, rest) → pointwise nat_eq line header ≡ true →
-    times_of text ≡ groups_from 2 no_groups (lines_of rest)
-unfolding times_of
-times_begin text line rest cut is = rw (lines_of-cut text line rest cut, is) refl
-
-pub times_headless : (text line rest : List ℕ) → cut_at 10 text ≡ Some (line, rest) → pointwise nat_eq line header ≡ false → times_of text ≡ Err 1
-unfolding times_of
-times_headless text line rest cut is = rw (lines_of-cut text line rest cut, is) refl
-
-pub times_lineless : (text : List ℕ) → cut_at 10 text ≡ None → times_of text ≡ Err 1
-unfolding times_of
-times_lineless [] cut = refl
-times_lineless (b ∷ bs) cut = rw (lines_of-last (b ∷ bs) b bs refl cut) refl
-
--- a further line
-pub times_go_on : (k : ℕ) (groups more : Groups) (text line rest : List ℕ) → cut_at 10 text ≡ Some (line, rest) → add_group groups (group_of line) ≡ Some more →
-    groups_from k groups (lines_of text) ≡ groups_from (k + 1) more (lines_of rest)
-unfolding group_of
-times_go_on k groups more text line rest cut added = rw (lines_of-cut text line rest cut, added) refl
-
-pub times_stop : (k : ℕ) (groups : Groups) (text line rest : List ℕ) → cut_at 10 text ≡ Some (line, rest) → add_group groups (group_of line) ≡ None →
-    groups_from k groups (lines_of text) ≡ Err k
-unfolding group_of
-times_stop k groups text line rest cut added = rw (lines_of-cut text line rest cut, added) refl
-
-pub times_cut : (k : ℕ) (groups : Groups) (text : List ℕ) → (length text ≡ 0 → ⊥) → cut_at 10 text ≡ None →
-    groups_from k groups (lines_of text) ≡ Err k
-times_cut k groups [] some cut = absurd (some refl)
-times_cut k groups (b ∷ bs) some cut = rw (lines_of-last (b ∷ bs) b bs refl cut) refl
-
 pub not_true : (b : Bool) → Rattle.std.specs.Prelude.not b ≡ true → b ≡ false
 not_true true e = cc
 not_true false e = refl
@@ -116,13 +79,6 @@ not_false false e = cc
 pub not_empty : (bs : List ℕ) (b : Bool) → b ≡ nat_eq (length bs) 0 → b ≡ false → length bs ≡ 0 → ⊥
 not_empty [] b is none e = true≢false (sym is ∙ none)
 not_empty (x ∷ xs) b is none e = omega (arith, e)
-
-one_row : (row : TimesRow) → IsRow row → All IsRow (row ∷ [])
-one_row row is zero d below = is
-one_row row is (suc k) d below = absurd (omega arith)
-
-pub add_row : (rows : List TimesRow) (row : TimesRow) → All IsRow rows → IsRow row → All IsRow (rows ++ row ∷ [])
-add_row rows row all is = All-append IsRow rows (row ∷ []) all (one_row row is)
 
 pub is_nothing : (bs : List ℕ) (b : Bool) → b ≡ nat_eq (length bs) 0 → b ≡ true → length bs ≡ 0
 is_nothing bs b is e = let t : nat_eq (length bs) 0 ≡ true = sym is ∙ e in grind (arith, eqb_tells)

@@ -1,9 +1,10 @@
 pub mod Answer
 pub mod Form
-pub mod Log
+pub mod Loading
 pub mod Notes
 pub mod PlainText
+pub mod Reasons
+pub mod Records
 pub mod Refusal
 pub mod RunWords
 pub mod Stop
-pub mod TimesText

@@ -1,14 +1,17 @@
 // The plain text of a program.
-ghost use Rattle.std.specs.Prelude.{◌≡◌, ◌<◌, ◌≤◌, ◌+◌, ◌^◌, Some, None, IfOk, MatchOption, length};
-ghost use Rattle.std.specs.Bool.{OnTrue, OnFalse};
+ghost use Rattle.std.specs.Prelude.{◌≡◌, ◌<◌, ◌≤◌, ◌+◌, ◌^◌, ◌++◌, ◌∷◌, [], All, Some, None, IfOk, IfSome, IfNone, MatchOption, length};
 ghost use Rattle.std.specs.List.{list_any};
 ghost use Rattle.sig_types.specs.Text.{same_name};
-ghost use Rattle.junction_run.specs.PlainText.{plain_of, strip, is_reserved, is_program_word, is_program_name, is_first_line, group_after, command};
+ghost use Rattle.pua_model.specs.Plan.{groups_in, HasStage};
+ghost use Rattle.controller.specs.Commanded.{IsListed};
+ghost use Rattle.junction_run.specs.PlainText.{plain_of, strip, is_reserved, is_program_word, is_program_name, is_first_line, inside, group_by, stage_by, green_of, red_of, interstage_of, command_of, one_more};
 ghost use Rattle.junction_run.specs.Refusal.{Judges};
 
 use crate::refusal::TextRefusal;
-use sig_types::Wishes;
+use pua_model::Plan;
 use sig_types::text::{cut_at, is_letter, is_word, number, same_name};
+use sig_types::{Command, GroupNo, StageNo};
+use std::alloc::Global;
 
 // What follows this front.
 fn strip<'a>(front: &[u8], line: &'a [u8]) -> Option<&'a [u8]>
@@ -108,41 +111,106 @@ fn is_first_line(line: &[u8]) -> bool
     }
 }
 
-// The number of a command with this front.
-fn group_after(groups: u8, front: &[u8], line: &[u8]) -> Option<u32>
-    ensures { result ≡ group_after groups front.now line.now }
+// What stands in the brackets of a command with this front.
+fn inside<'a>(front: &[u8], line: &'a [u8]) -> Option<&'a [u8]>
+    ensures { MatchOption result (inside front.now line.now ≡ None) (λ digits. inside front.now line.now ≡ Some digits.now) }
 {
     let rest = strip(front, line)?;
     match cut_at(b')', rest) {
-        Some((digits, end)) if end == b";".as_slice() => number(digits, 1, groups as u32),
+        Some((digits, end)) if end == b";".as_slice() => Some(digits),
         _ => None,
     }
 }
 
-// Obeys a command, where the line is one.
-fn command(line: &[u8], wishes: &mut Wishes) -> bool
-    ensures obeyed { OnTrue result (command (length wishes.old) line.now wishes.old ≡ Some wishes.new) }
-    ensures other { OnFalse result (command (length wishes.old) line.now wishes.old ≡ None) }
-    ensures length { length wishes.new ≡ length wishes.old }
+// The group that these digits name.
+fn group_by(plan: &Plan, digits: &[u8]) -> Option<GroupNo>
+    ensures group { result ≡ group_by plan.now digits.now }
+    ensures below { IfSome result (λ g. g.0 < groups_in plan.now) }
 {
-    let groups = wishes.len();
-    if let Some(n) = group_after(groups, b"Sg_green(", line) {
-        wishes.set((n - 1) as u8, true);
-        return true;
-    }
-    if let Some(n) = group_after(groups, b"Sg_red(", line) {
-        wishes.set((n - 1) as u8, false);
-        return true;
-    }
-    false
+    let n = number(digits, 1, 255)?;
+    plan.find_group(n as i32)
 }
 
-/// Reads the plain text of a program over so many groups.
-pub(crate) fn read_plain(groups: u8, text: &[u8]) -> Result<Wishes, TextRefusal>
-    requires groups { groups ≤ 64 }
-    requires length { length text.now < 2 ^ 31 }
-    ensures exact { Judges (λ wishes. wishes) result (plain_of groups text.now) }
-    ensures same { IfOk result (λ wishes. length wishes ≡ groups) }
+// The stage that these digits name.
+fn stage_by(plan: &Plan, digits: &[u8]) -> Option<StageNo>
+    ensures stage { result ≡ stage_by plan.now digits.now }
+    ensures has { IfSome result (λ s. HasStage plan.now s.0) }
+{
+    let n = number(digits, 1, 32)?;
+    plan.find_stage(n as i32)
+}
+
+#[tactic(auto, unfolding(crate::specs::PlainText::green_of))]
+fn green_of(plan: &Plan, line: &[u8]) -> Option<Command>
+    ensures command { result ≡ green_of plan.now line.now }
+    ensures listed { IfSome result (λ c. IsListed plan.now c) }
+{
+    let digits = inside(b"Sg_green(", line)?;
+    let group = group_by(plan, digits)?;
+    Some(Command::SgGreen(group))
+}
+
+#[tactic(auto, unfolding(crate::specs::PlainText::red_of))]
+fn red_of(plan: &Plan, line: &[u8]) -> Option<Command>
+    ensures command { result ≡ red_of plan.now line.now }
+    ensures listed { IfSome result (λ c. IsListed plan.now c) }
+{
+    let digits = inside(b"Sg_red(", line)?;
+    let group = group_by(plan, digits)?;
+    Some(Command::SgRed(group))
+}
+
+#[tactic(auto, unfolding(crate::specs::PlainText::interstage_of))]
+fn interstage_of(plan: &Plan, line: &[u8]) -> Option<Command>
+    ensures command { result ≡ interstage_of plan.now line.now }
+    ensures listed { IfSome result (λ c. IsListed plan.now c) }
+{
+    let stages = inside(b"Interstage(", line)?;
+    let (from, to) = cut_at(b',', stages)?;
+    let from = stage_by(plan, from)?;
+    let to = stage_by(plan, to)?;
+    Some(Command::Interstage(from, to))
+}
+
+// The command that a line is.
+#[tactic(auto, unfolding(crate::specs::PlainText::command_of))]
+fn command_of(plan: &Plan, line: &[u8]) -> Option<Command>
+    ensures command { result ≡ command_of plan.now line.now }
+    ensures listed { IfSome result (λ c. IsListed plan.now c) }
+{
+    if let Some(command) = green_of(plan, line) {
+        return Some(command);
+    }
+    if let Some(command) = red_of(plan, line) {
+        return Some(command);
+    }
+    interstage_of(plan, line)
+}
+
+// The command that a line is, where these commands leave room for it.
+fn next_command(plan: &Plan, line: &[u8], commands: &[Command]) -> Option<Command>
+    ensures none { IfNone result (one_more commands.now (command_of plan.now line.now) ≡ None) }
+    ensures some { IfSome result (λ c. one_more commands.now (command_of plan.now line.now) ≡ Some (commands.now ++ c ∷ [])) }
+    ensures listed { IfSome result (λ c. IsListed plan.now c) }
+    ensures room { IfSome result (λ c. length commands.now < 10000) }
+{
+    let command = command_of(plan, line)?;
+    if commands.len() >= 10000 {
+        return None;
+    }
+    Some(command)
+}
+
+/// Reads the plain text of a program over a plan.
+pub(crate) fn read_plain(
+    alloc: Global,
+    plan: &Plan,
+    text: &[u8],
+) -> Result<Vec<Command>, TextRefusal>
+    requires { length text.now < 2 ^ 31 }
+    ensures exact { Judges (λ commands. commands.items) result (plain_of plan.now text.now) }
+    ensures few { IfOk result (λ commands. length commands.items ≤ 10000) }
+    ensures listed { IfOk result (λ commands. All (IsListed plan.now) commands.items) }
 {
     let Some((line, rest)) = cut_at(b'\n', text) else {
         return Err(TextRefusal::At(1));
@@ -151,7 +219,7 @@ pub(crate) fn read_plain(groups: u8, text: &[u8]) -> Result<Wishes, TextRefusal>
         return Err(TextRefusal::At(1));
     }
     let mut rest = rest;
-    let mut wishes = Wishes::all_red(groups);
+    let mut commands = Vec::new(alloc);
     let mut line_number = 2;
     while !rest.is_empty() {
         let Some((line, more)) = cut_at(b'\n', rest) else {
@@ -159,12 +227,15 @@ pub(crate) fn read_plain(groups: u8, text: &[u8]) -> Result<Wishes, TextRefusal>
         };
         if line == b"PROG_ENDE: .".as_slice() {
             if more.is_empty() {
-                return Ok(wishes);
+                return Ok(commands);
             }
             return Err(TextRefusal::At(line_number + 1));
         }
-        if !command(line, &mut wishes) {
+        let Some(command) = next_command(plan, line, &commands) else {
             return Err(TextRefusal::At(line_number));
+        };
+        if commands.push(command).is_err() {
+            return Err(TextRefusal::Memory);
         }
         rest = more;
         line_number += 1;

@@ -1,0 +1,11 @@
+use Rattle.std.proofs.Common.{◌∙◌, ap}
+use Rattle.std.specs.Prelude.{codes}
+use Rattle.std.specs.Io.KnownBytes.{append_known}
+use Rattle.junction_run.proofs.Pieces.{eleven}
+use Rattle.junction_run.proofs.notes.write_refusal.Goals as goal
+
+pub returns : goal.returns
+returns g c = λ clean.
+    let told = c.args.told.now in
+    c.write_pieces.ensures clean ∙ ap (λ l. append_known (g.N.Sink.taken c.args.notes.now) l)
+    (eleven (codes "junction: ") c.args.word.now (codes ":") c.args.line.now (codes ": ") told.name.now told.blank.now told.first.now told.gap.now told.second.now (codes "\n"))
