@@ -54,3 +54,6 @@ pub fn check(alloc: Global, program: Program) -> Result<Checked, CheckRefusal>
         }),
     }
 }
+
+#[cfg(test)]
+mod tests;
