@@ -10,3 +10,5 @@ mod Meanings
 mod Sums
 mod Seen
 mod Usability
+mod Room
+mod Sounding

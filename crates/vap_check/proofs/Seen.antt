@@ -11,15 +11,18 @@ use Rattle.vap_check.specs.Numbers.{entries, checked_of}
 use Rattle.vap_check.specs.Is.{IsChecked}
 use Rattle.vap_check.specs.Kept.{view_of, Keeps}
 use Rattle.vap_check.proofs.Usability.{usable}
+use Rattle.vap_check.proofs.Sounding.{is_sound, subs_low, main_low}
 use Rattle.vap_check.proofs.Fresh.{consts_kept, arrays_kept, subs_kept}
 
 pub keeps : (tree : Program) (names : Names) → KnowsAll names (program_of tree) → Accepted (program_of tree) → Parsed 1048577 (program_of tree) → Keeps (record { program = tree; names = names })
 keeps tree names knows accepted parsed =
     let p = program_of tree in
+    let ok = usable p accepted.clean accepted.few in
     record {
       accepted = accepted;
       parsed = parsed;
-      usable = usable p accepted.clean accepted.few;
+      usable = ok;
+      runs = record { sound = is_sound p ok; subs_low = subs_low p ok 1048577 parsed; main_low = main_low p ok 1048577 parsed };
       consts = consts_kept p accepted.clean names.known knows.known;
       arrays = arrays_kept p accepted.clean names.known knows.known;
       subs = subs_kept p accepted.clean names.known knows.known;
@@ -36,4 +39,4 @@ seen c h = λ i. record {
 }
 
 pub is_checked : (c : Inside) → Keeps c → IsChecked (view_of c)
-is_checked c h = record { value = seen c h; accepted = h.accepted; parsed = h.parsed; usable = h.usable }
+is_checked c h = record { value = seen c h; accepted = h.accepted; parsed = h.parsed; usable = h.usable; runs = h.runs }

@@ -6,7 +6,7 @@ use Rattle.vap_check.specs.declared.checked.Checked.TheInside.{Inside}
 use Rattle.vap_check.specs.Names.{array_names, sub_names, timers, variables}
 use Rattle.vap_check.specs.Numbers.{Meant, entries, consts_in, consts_of}
 use Rattle.vap_check.specs.Accepted.{Accepted}
-use Rattle.vap_check.specs.Usable.{Usable}
+use Rattle.vap_check.specs.Usable.{Usable, Runs}
 
 -- the value, by what is kept of the names
 abbrev pub view_of : Inside → Meant
@@ -22,6 +22,7 @@ pub record Keeps (c : Inside) : Type 0 where
   pub accepted : Accepted (program_of c.program)
   pub parsed : Parsed 1048577 (program_of c.program)
   pub usable : Usable (program_of c.program)
+  pub runs : Runs (program_of c.program)
   pub consts : consts_in c.names.known.consts.entries ≡ consts_of (program_of c.program)
   pub arrays : c.names.known.arrays.keys ≡ array_names (program_of c.program)
   pub subs : c.names.known.subs.keys ≡ sub_names (program_of c.program)

@@ -6,7 +6,7 @@ use Rattle.vap_ast.specs.declared.name.Entry.{Entry}
 use Rattle.vap_ast.specs.declared.name.Meaning.{Meaning}
 use Rattle.vap_ast.specs.declared.name.Meaning.TheVariants.{Constant, Array, Sub, Timer, Variable}
 use Rattle.vap_ast.specs.Names.{meaning_in}
-use Rattle.vap_ast.specs.Sound.{count_arguments}
+use Rattle.vap_ast.specs.Sound.{count_arguments, IsSound, source_of, Low_items}
 use Rattle.vap_ast.specs.Syntax.{Expr, Exprs, Item, Items, Stmt, Program}
 use Rattle.vap_check.specs.Names.{variables, timers}
 use Rattle.vap_check.specs.Findings.{own_size}
@@ -106,3 +106,10 @@ pub record Usable (p : Program) : Type 0 where
   pub sized : AllByRecursion (λ a. (1 ≤ length a.values) × (length a.values ≤ 1024)) p.arrays
   pub subs : (k : ℕ) → k < length p.subs → UsableItems (names_of p) (length (variables p)) (length (timers p)) (length p.arrays) k (get_or (map (λ r. r.body) p.subs) k Items.none)
   pub main : UsableItems (names_of p) (length (variables p)) (length (timers p)) (length p.arrays) (length p.subs) p.main.body
+
+-- What the meaning of a program asks of it: arguments by the numbers of their words, calls of subroutines that are there,
+-- and expressions that leave room for their operands.
+pub record Runs (p : Program) : Type 0 where
+  pub sound : IsSound (source_of p (names_of p))
+  pub subs_low : (k : ℕ) → k < length p.subs → Low_items (get_or (map (λ r. r.body) p.subs) k Items.none)
+  pub main_low : Low_items p.main.body
