@@ -1,18 +1,18 @@
 -- What can be used is sound, and leaves room for operands.
-use Rattle.std.proofs.Common.{◌≡◌, ℕ, zero, suc, ◌+◌, ◌-◌, ◌<◌, ◌≤◌, List, [], ◌∷◌, map, length, Option, None, Some, refl, sym, ap, ◌∙◌, subst, arith}
+use Rattle.std.proofs.Common.{◌≡◌, ℕ, zero, suc, ◌-◌, ◌<◌, ◌≤◌, List, [], ◌∷◌, map, length, Option, None, Some, subst, arith}
 use Rattle.std.specs.Prelude.{slice_index_or as get_or}
-use Rattle.std.specs.List.{All, AllByRecursion}
+use Rattle.std.specs.List.{AllByRecursion}
 use Rattle.std.proofs.lemmas.List.{length-map}
 use Rattle.std.proofs.lemmas.List.Elements.{recursion_from_All}
 use Rattle.sig_types.specs.declared.aspect.CommandKind.{CommandKind}
 use Rattle.sig_types.specs.declared.aspect.CommandKind.TheVariants as command
-use Rattle.sig_types.specs.Arity.{reading_arity, command_arity}
+use Rattle.sig_types.specs.Arity.{command_arity}
 use Rattle.vap_ast.specs.declared.name.Entry.{Entry}
 use Rattle.vap_ast.specs.declared.name.Meaning.{Meaning}
 use Rattle.vap_ast.specs.declared.name.Meaning.TheVariants.{Constant, Array, Sub, Timer, Variable}
 use Rattle.vap_ast.specs.Names.{meaning_in}
-use Rattle.vap_ast.specs.Sound.{count_arguments, Regular, Regular_all, Calls, Sound, Sound_item, Sound_items, waiting, waiting_arguments, Low, Low_item, Low_items, IsSound, source_of}
-use Rattle.vap_ast.specs.Parsed.{room, room_of_all, Parsed, ParsedRoutine, ParsedStmt, ParsedItem, ParsedItems}
+use Rattle.vap_ast.specs.Sound.{Regular, Regular_all, Calls, Sound, Sound_item, Sound_items, Low, Low_item, Low_items, IsSound, source_of}
+use Rattle.vap_ast.specs.Parsed.{Parsed, ParsedRoutine, ParsedStmt, ParsedItem, ParsedItems}
 use Rattle.vap_ast.specs.Syntax.{Expr, Exprs, Item, Items, Stmt, Routine, Program}
 use Rattle.vap_check.specs.Names.{variables, timers}
 use Rattle.vap_check.specs.Numbers.{names_of}
