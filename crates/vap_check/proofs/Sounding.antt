@@ -99,15 +99,15 @@ bodies_at most (r ∷ rs) all (suc k) lt = let lt1 : k < length rs = omega arith
 module _ (p : Program) (u : Usable p) where
   pub is_sound : IsSound (source_of p (names_of p))
   is_sound = record {
-      subs = λ k lt.
-          let n : length (map (λ (r : Routine). r.body) p.subs) ≡ length p.subs = length-map p.subs (λ r. r.body) in
-          let lt1 : k < length p.subs = subst (λ l. k < l) n lt in
-          let below : k ≤ length (map (λ (r : Routine). r.body) p.subs) = omega (arith, lt) in
-          sound_items (names_of p) (length (variables p)) (length (timers p)) (length p.arrays) k (length (map (λ (r : Routine). r.body) p.subs)) below (get_or (map (λ (r : Routine). r.body) p.subs) k Items.none) (u.subs k lt1);
-      main =
-          let n : length p.subs ≤ length (map (λ (r : Routine). r.body) p.subs) = omega (arith, length-map p.subs (λ (r : Routine). r.body)) in
-          sound_items (names_of p) (length (variables p)) (length (timers p)) (length p.arrays) (length p.subs) (length (map (λ (r : Routine). r.body) p.subs)) n p.main.body u.main
-    }
+    subs = λ k lt.
+        let n : length (map (λ (r : Routine). r.body) p.subs) ≡ length p.subs = length-map p.subs (λ r. r.body) in
+        let lt1 : k < length p.subs = subst (λ l. k < l) n lt in
+        let below : k ≤ length (map (λ (r : Routine). r.body) p.subs) = omega (arith, lt) in
+        sound_items (names_of p) (length (variables p)) (length (timers p)) (length p.arrays) k (length (map (λ (r : Routine). r.body) p.subs)) below (get_or (map (λ (r : Routine). r.body) p.subs) k Items.none) (u.subs k lt1);
+    main =
+        let n : length p.subs ≤ length (map (λ (r : Routine). r.body) p.subs) = omega (arith, length-map p.subs (λ (r : Routine). r.body)) in
+        sound_items (names_of p) (length (variables p)) (length (timers p)) (length p.arrays) (length p.subs) (length (map (λ (r : Routine). r.body) p.subs)) n p.main.body u.main;
+  }
 
   pub subs_low : (most : ℕ) → Parsed most p → (k : ℕ) → k < length p.subs → Low_items (get_or (map (λ r. r.body) p.subs) k Items.none)
   subs_low most h k lt = low_items (names_of p) (length (variables p)) (length (timers p)) (length p.arrays) k most 100 (get_or (map (λ (r : Routine). r.body) p.subs) k Items.none) (u.subs k lt) (bodies_at most p.subs (recursion_from_All (ParsedRoutine most) p.subs h.subs) k lt)
