@@ -64,7 +64,9 @@ pub struct DiskFiles<'a, R: rt::Files> {
 
 impl<'a, R: rt::Files> DiskFiles<'a, R> {
     /// The files that this runtime reaches; no call has failed yet.
-    pub fn new(runtime: &'a R) -> DiskFiles<'a, R> {
+    pub fn new(runtime: &'a R) -> DiskFiles<'a, R>
+        ensures faults { ⟦<DiskFiles<'a, R> as Files>⟧.faults result ≡ 0 }
+    {
         DiskFiles {
             runtime,
             last: None,
@@ -141,7 +143,9 @@ pub struct OutSink<'a, R> {
 
 impl<'a, R: Print> OutSink<'a, R> {
     /// The standard output, by its handle; no call has failed yet.
-    pub fn new(output: &'a R) -> OutSink<'a, R> {
+    pub fn new(output: &'a R) -> OutSink<'a, R>
+        ensures faults { ⟦<OutSink<'a, R> as Sink>⟧.faults result ≡ 0 }
+    {
         OutSink { output, faults: 0 }
     }
 }
@@ -171,7 +175,9 @@ pub struct ErrSink<'a, R> {
 
 impl<'a, R: Print> ErrSink<'a, R> {
     /// The standard error, by its handle; no call has failed yet.
-    pub fn new(errors: &'a R) -> ErrSink<'a, R> {
+    pub fn new(errors: &'a R) -> ErrSink<'a, R>
+        ensures faults { ⟦<ErrSink<'a, R> as Sink>⟧.faults result ≡ 0 }
+    {
         ErrSink { errors, faults: 0 }
     }
 }

@@ -1,7 +1,7 @@
 // Files and sinks in memory, whose calls fail where they are told to.
-ghost use Rattle.sig_io.specs.Outside.{IsRead};
-ghost use Rattle.sig_io.specs.Memory.{file_of};
-ghost use Rattle.std.specs.Prelude.{◌≡◌, ℕ, ◌+◌, ◌<◌, ◌≤◌, List, [], length, take, Some, None, IfOk, OnErr, MatchOption, vec_len, vec_capacity};
+ghost use Rattle.sig_io.specs.Outside.{HasCause, IsRead};
+ghost use Rattle.sig_io.specs.Memory.{Fails, contents_of, file_of};
+ghost use Rattle.std.specs.Prelude.{◌≡◌, ◌⊎◌, ◌++◌, ℕ, ◌+◌, ◌-◌, ◌^◌, ◌<◌, ◌≤◌, min, List, [], length, take, Some, None, Contains, IfOk, OnOk, OnErr, MatchOption, vec_len, vec_capacity};
 
 use crate::{Failed, Files, Sink};
 use sig_types::Memory;
@@ -56,6 +56,9 @@ impl MemFiles {
         requires { 1 ≤ most }
         ensures told { ⟦<MemFiles as Files>⟧.told result ≡ Some (contents_of files.items) }
         ensures faults { ⟦<MemFiles as Files>⟧.faults result ≡ 0 }
+        ensures files { result.files ≡ files }
+        ensures first { result.calls ≡ 0 }
+        ensures kept { (result.failing ≡ failing) × (result.most ≡ most) }
     {
         MemFiles {
             files,
@@ -74,7 +77,19 @@ impl Files for MemFiles {
 
     ghost faults = { λ m. m.faults };
 
-    fn read_at(&mut self, name: &str, place: u64, buf: &mut [u8]) -> Result<usize, Failed> {
+    fn read_at(&mut self, name: &str, place: u64, buf: &mut [u8]) -> Result<usize, Failed>
+        requires { 0 < length buf.old }
+        ensures count { IfOk result (λ n. n ≤ length buf.new) }
+        ensures bytes { IfOk result (λ n. IsRead (contents_of self.old.files.items name.now) place n buf.new) }
+        ensures same { self.new.files ≡ self.old.files }
+        ensures cause { HasCause self.old.faults self.new.faults result }
+        ensures fails { OnErr result (Fails self.old.failing.items self.old.calls (file_of self.old.files.items name.now)) }
+        ensures serves { OnOk result (Fails self.old.failing.items self.old.calls (file_of self.old.files.items name.now) → ⊥) }
+        ensures most { IfOk result (λ n. n ≤ self.old.most) }
+        ensures next { self.new.calls ≡ min (self.old.calls + 1) (2 ^ 64 - 1) }
+        ensures kept { (self.new.failing ≡ self.old.failing) × (self.new.most ≡ self.old.most) }
+        ensures faults { OnOk result (self.new.faults ≡ self.old.faults) }
+    {
         let call = self.calls;
         self.calls = self.calls.saturating_add(1);
         if !self.failing.contains(&call) {
@@ -105,6 +120,8 @@ impl MemSink {
     pub fn new(alloc: Global, room: usize, failing: Vec<u64>) -> Result<MemSink, Memory>
         ensures empty { IfOk result (λ s. ⟦<MemSink as Sink>⟧.taken s ≡ Some []) }
         ensures faults { IfOk result (λ s. ⟦<MemSink as Sink>⟧.faults s ≡ 0) }
+        ensures first { IfOk result (λ s. s.calls ≡ 0) }
+        ensures kept { IfOk result (λ s. (s.failing ≡ failing) × (s.room ≡ room)) }
     {
         match Vec::with_capacity(alloc, room) {
             Ok(bytes) => Ok(MemSink {
@@ -131,7 +148,19 @@ impl Sink for MemSink {
 
     ghost faults = { λ s. s.faults };
 
-    fn write_some(&mut self, piece: &[u8]) -> Result<usize, Failed> {
+    fn write_some(&mut self, piece: &[u8]) -> Result<usize, Failed>
+        requires { 0 < length piece.now }
+        ensures count { IfOk result (λ n. n ≡ min (length piece.now) (self.old.room - vec_len self.old.bytes)) }
+        ensures some { IfOk result (λ n. 1 ≤ n) }
+        ensures bytes { IfOk result (λ n. self.new.bytes.items ≡ self.old.bytes.items ++ take n piece.now) }
+        ensures none { OnErr result (self.new.bytes.items ≡ self.old.bytes.items) }
+        ensures cause { HasCause self.old.faults self.new.faults result }
+        ensures fails { OnErr result (Contains self.old.failing.items self.old.calls ⊎ vec_len self.old.bytes ≡ self.old.room) }
+        ensures takes { OnOk result (Contains self.old.failing.items self.old.calls → ⊥) }
+        ensures next { self.new.calls ≡ min (self.old.calls + 1) (2 ^ 64 - 1) }
+        ensures kept { (self.new.failing ≡ self.old.failing) × (self.new.room ≡ self.old.room) }
+        ensures faults { OnOk result (self.new.faults ≡ self.old.faults) }
+    {
         let call = self.calls;
         self.calls = self.calls.saturating_add(1);
         let n = piece.len().min(self.room - self.bytes.len());

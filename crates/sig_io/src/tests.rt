@@ -1,5 +1,5 @@
-// What no clause says: that bytes come from the files of memory and of the system as they are, and that calls fail
-// where they are to.
+// What no clause says: that want of memory is not answered where there is memory, and that the bytes of the system come
+// as they are.
 use super::*;
 use std::alloc::{AllocError, Global};
 use std::fmt::Display;
@@ -28,25 +28,11 @@ fn a_file_is_read_in_small_pieces(rt: HostRuntime) -> Result<(), Fail> {
 }
 
 #[test]
-fn a_call_that_is_to_fail_fails(rt: HostRuntime) -> Result<(), Fail> {
+fn a_sink_takes_a_text(rt: HostRuntime) -> Result<(), Fail> {
     let alloc = rt.alloc();
-    let file = memory_file(alloc, "a", b"hello")?;
-    let mut files = MemFiles::new(vec![in alloc; file]?, vec![in alloc; 1]?, 2);
-    assert!(rt; read_whole(alloc, &mut files, "a", 5) == Err(ReadRefusal::Fault));
-    assert!(rt; read_whole(alloc, &mut files, "a", 5).is_ok());
-    let mut sink = MemSink::new(alloc, 9, vec![in alloc; 0]?)?;
-    assert_eq!(rt; put_all(&mut sink, b"hello"), Err(PutFault { taken: 0 }));
+    let mut sink = MemSink::new(alloc, 9, Vec::new(alloc))?;
     assert_eq!(rt; put_all(&mut sink, b"hello"), Ok(()));
     assert_eq!(rt; sink.bytes(), b"hello".as_slice());
-    Ok(())
-}
-
-#[test]
-fn a_sink_without_room_fails(rt: HostRuntime) -> Result<(), Fail> {
-    let alloc = rt.alloc();
-    let mut sink = MemSink::new(alloc, 3, Vec::new(alloc))?;
-    assert_eq!(rt; put_all(&mut sink, b"hello"), Err(PutFault { taken: 3 }));
-    assert_eq!(rt; sink.bytes(), b"hel".as_slice());
     Ok(())
 }
 
