@@ -17,6 +17,3 @@ mod stop;
 
 pub use run::junction;
 pub use status::Status;
-
-#[cfg(test)]
-mod tests;

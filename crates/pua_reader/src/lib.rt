@@ -14,6 +14,3 @@ mod words;
 
 pub use reader::read_plan;
 pub use refusal::{PuaRefusal, PuaWhy};
-
-#[cfg(test)]
-mod tests;

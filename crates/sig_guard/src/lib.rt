@@ -12,6 +12,3 @@ pub mod laws;
 mod turn;
 
 pub use guard::Guard;
-
-#[cfg(test)]
-mod tests;

@@ -12,6 +12,3 @@ pub use draft::Draft;
 pub use memory::{MemFiles, MemSink};
 pub use outside::{Failed, Files, Sink};
 pub use whole::{PutFault, ReadRefusal, put_all, read_whole};
-
-#[cfg(test)]
-mod tests;

@@ -17,6 +17,3 @@ pub use intergreens_reader::read_intergreens;
 pub use refusal::{TableRefusal, TableWhy};
 pub use times::{Times, TimesRow};
 pub use times_reader::read_times;
-
-#[cfg(test)]
-mod tests;

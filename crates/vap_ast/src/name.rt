@@ -116,17 +116,3 @@ pub struct Entry {
     pub name: Name,
     pub meaning: Meaning,
 }
-
-#[cfg(test)]
-mod tests {
-    use super::*;
-    use std::test::Fail;
-
-    #[test]
-    fn any_case_is_one_name(rt: HostRuntime) -> Result<(), Fail> {
-        let name = Name::make(rt.alloc(), b"Stage_2")?;
-        assert_eq!(rt; name.bytes(), b"stage_2".as_slice());
-        assert_eq!(rt; name.copy(rt.alloc())?, name);
-        Ok(())
-    }
-}

@@ -131,23 +131,3 @@ pub enum BinaryOp {
     Mul,
     Div,
 }
-
-#[cfg(test)]
-mod tests {
-    use super::*;
-    use std::test::Fail;
-
-    fn negated(rt: HostRuntime, value: i32) -> Result<Expr, Fail> {
-        Ok(Expr::Unary {
-            op: UnaryOp::Neg,
-            arg: Box::new(rt.alloc(), Expr::Literal(value))?,
-        })
-    }
-
-    #[test]
-    fn trees_compare(rt: HostRuntime) -> Result<(), Fail> {
-        assert_eq!(rt; negated(rt, 1)?, negated(rt, 1)?);
-        assert_ne!(rt; negated(rt, 1)?, negated(rt, 2)?);
-        Ok(())
-    }
-}

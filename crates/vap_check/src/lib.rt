@@ -54,6 +54,3 @@ pub fn check(alloc: Global, program: Program) -> Result<Checked, CheckRefusal>
         }),
     }
 }
-
-#[cfg(test)]
-mod tests;

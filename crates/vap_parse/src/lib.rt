@@ -10,6 +10,3 @@ mod statement;
 mod stop;
 
 pub use program::{ParseRefusal, ParseWhy, one_answer, parse};
-
-#[cfg(test)]
-mod tests;

@@ -18,6 +18,3 @@ mod world;
 pub use passes::{PassEnd, Vm};
 pub use steps::Steps;
 pub use world::World;
-
-#[cfg(test)]
-mod tests;

@@ -1,5 +1,5 @@
 use Rattle.std.proofs.Common.{◌≡◌}
-use Rattle.vap_vm.proofs.tests.seconds.Given as goal
+use Rattle.worked_runs.proofs.passes.seconds.Given as goal
 
 abbrev pub invariant-loop-second : goal.invariant-loop-second
 invariant-loop-second g l = l.vm.seconds ≡ l.second

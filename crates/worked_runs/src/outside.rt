@@ -1,6 +1,8 @@
 // What no clause says: that want of memory is not answered where there is memory, and that the bytes of the system come
 // as they are.
-use super::*;
+use sig_io::{
+    DiskFiles, ErrSink, Failed, Files, MemFiles, MemSink, OutSink, ReadRefusal, put_all, read_whole,
+};
 use std::alloc::{AllocError, Global};
 use std::fmt::Display;
 use std::fs::File;

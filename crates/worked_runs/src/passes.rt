@@ -1,7 +1,6 @@
 // Passes in worlds that are tables of answers.
 ghost use Rattle.std.specs.Prelude.{◌≡◌, ◌<◌};
 
-use crate::{PassEnd, Steps, Vm, World};
 use code_verify::{Verified, verify};
 use sig_types::{Command, CommandKind, DetNo, Fault, FaultKind, ReadingKind};
 use std::alloc::{AllocError, Global};
@@ -13,6 +12,7 @@ use vap_code::Instr::{
     Store, Sub, Tick, Timer,
 };
 use vap_code::{Code, Instr};
+use vap_vm::{PassEnd, Steps, Vm, World};
 
 // Detector 1 has this number, and it alone can be cleared; nothing else has a name.
 #[derive(Drop)]

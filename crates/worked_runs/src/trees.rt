@@ -1,9 +1,9 @@
 // Worked programs, and refused ones.
-use crate::{ParseRefusal, ParseWhy, parse};
 use std::alloc::Global;
 use std::test::Fail;
 use vap_ast::{Expr, Item, Name, Stmt};
 use vap_lex::tokens;
+use vap_parse::{ParseRefusal, ParseWhy, parse};
 
 fn put_name(out: &mut String, name: &Name) -> Result<(), Fail> {
     for byte in name.bytes() {

@@ -5,7 +5,7 @@ ghost use Rattle.pua_model.specs.Plan.{groups_in};
 ghost use Rattle.controller.specs.Controls.{StandsFor, plan_of, last_record};
 ghost use Rattle.controller.specs.Past.{Past};
 
-use crate::Controller;
+use controller::Controller;
 use pua_model::{Group, Interstage, Plan, Stage};
 use sig_tables::{read_intergreens, read_times};
 use sig_types::Aspect::{Green, Red, RedAmber};

@@ -1,5 +1,5 @@
 // The texts of whole runs, over files and sinks in memory.
-use super::*;
+use junction_run::{Status, junction};
 use sig_io::{MemFiles, MemSink};
 use std::alloc::{AllocError, Global};
 use std::test::Fail;

@@ -1,6 +1,6 @@
 // Texts of plans, accepted and refused.
-use super::*;
 use pua_model::Plan;
+use pua_reader::{PuaRefusal, PuaWhy, read_plan};
 use sig_types::{GroupNo, InterNo, StageNo};
 use std::alloc::{AllocError, Global};
 use std::test::Fail;

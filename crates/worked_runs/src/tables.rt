@@ -1,6 +1,6 @@
 // The tables of a plan of two groups.
-use crate::{TableRefusal, TableWhy, read_intergreens, read_times};
 use pua_model::{Group, Plan, Stage};
+use sig_tables::{TableRefusal, TableWhy, read_intergreens, read_times};
 use sig_types::{GroupNo, ShortName, StageNo, Wishes};
 use std::alloc::Global;
 use std::test::Fail;

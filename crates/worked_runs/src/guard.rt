@@ -3,8 +3,8 @@ ghost use Rattle.std.specs.Prelude.{◌≡◌, IfOk};
 ghost use Rattle.pua_model.specs.Plan.{groups_in};
 ghost use Rattle.sig_guard.specs.Stands.{rules, seconds_made};
 
-use crate::Guard;
 use pua_model::{Group, Plan, Stage};
+use sig_guard::Guard;
 use sig_tables::{read_intergreens, read_times};
 use sig_types::Aspect::{Amber, Green, Red, RedAmber};
 use sig_types::{

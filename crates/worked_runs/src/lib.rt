@@ -1,0 +1,27 @@
+//! Tests alone: worked runs of every layer, and each call that may answer want of memory on its happy path.
+//!
+//! They stand in a crate of their own since a crate with tests is proved twice.
+#![tactic(auto)]
+
+#[cfg(test)]
+mod checks;
+#[cfg(test)]
+mod codes;
+#[cfg(test)]
+mod guard;
+#[cfg(test)]
+mod outside;
+#[cfg(test)]
+mod passes;
+#[cfg(test)]
+mod plans;
+#[cfg(test)]
+mod runs;
+#[cfg(test)]
+mod seconds;
+#[cfg(test)]
+mod tables;
+#[cfg(test)]
+mod tokens;
+#[cfg(test)]
+mod trees;
