@@ -1,16 +1,13 @@
 // Wishes, pictures and refused turns of two groups, second by second.
-ghost use Rattle.std.specs.Prelude.{◌≡◌, IfOk};
-ghost use Rattle.pua_model.specs.Plan.{groups_in};
+ghost use Rattle.std.specs.Prelude.{◌≡◌};
 ghost use Rattle.sig_guard.specs.Stands.{rules, seconds_made};
 
-use pua_model::{Group, Plan, Stage};
+use crate::texts::{DARK, INTERGREENS, TIMES};
+use pua_reader::read_plan;
 use sig_guard::Guard;
 use sig_tables::{read_intergreens, read_times};
 use sig_types::Aspect::{Amber, Green, Red, RedAmber};
-use sig_types::{
-    Aspect, GroupNo, Memory, Rule, ShortName, StageNo, TurnRefusal, TurnRefusals, Wishes,
-};
-use std::alloc::{AllocError, Global};
+use sig_types::{Aspect, GroupNo, Memory, Rule, TurnRefusal, TurnRefusals, Wishes};
 use std::test::Fail;
 
 // What is wished in each second up to that one, what the groups show then, and the turn that is refused.
@@ -79,33 +76,10 @@ fn first_other(guard: &mut Guard, rows: &[Row]) -> Result<Option<u8>, Memory>
     Ok(None)
 }
 
-// A plan with the groups K1 and K2 and one stage, in which both are red.
-fn plan_of_two(alloc: Global) -> Result<Plan, AllocError>
-    ensures { IfOk result (λ plan. groups_in plan ≡ 2) }
-{
-    let first = Group {
-        name: ShortName::of(b"K1"),
-        number: 1,
-    };
-    let second = Group {
-        name: ShortName::of(b"K2"),
-        number: 2,
-    };
-    let stage = Stage {
-        name: ShortName::of(b"S0"),
-        greens: Wishes::all_red(2),
-    };
-    let mut groups = Vec::new(alloc);
-    groups.push(first)?;
-    groups.push(second)?;
-    let mut stages = Vec::new(alloc);
-    stages.push(stage)?;
-    Ok(Plan::of(groups, stages, StageNo(1), Vec::new(alloc)))
-}
-
 #[test]
 fn wished_turns_wait_for_their_rules(rt: HostRuntime) -> Result<(), Fail> {
-    let plan = plan_of_two(rt.alloc())?;
+    let plan = read_plan(rt.alloc(), DARK)?;
+    assert!(rt; plan.groups() == 2);
     let both_red = (Red, Red);
     let long = [
         row_of(
@@ -150,13 +124,11 @@ fn wished_turns_wait_for_their_rules(rt: HostRuntime) -> Result<(), Fail> {
         row_of(1, (true, false), (Green, Red), None),
         row_of(2, (false, true), (Red, Green), None),
     ];
-    let times = b"group,min_green,red_amber,amber\nK1,10,1,3\nK2,8,1,3\n";
-    let pairs = b"from,to,seconds\nK1,K2,5\nK2,K1,4\n";
     let no_times = b"group,min_green,red_amber,amber\nK1,1,0,0\nK2,1,0,0\n";
     let no_waits = b"from,to,seconds\nK1,K2,0\nK2,K1,0\n";
     for (times, pairs, rows, green, red) in [
-        (&times[..], &pairs[..], &long[..], 0, 1),
-        (&times[..], &pairs[..], &together[..], 2, 0),
+        (TIMES, INTERGREENS, &long[..], 0, 1),
+        (TIMES, INTERGREENS, &together[..], 2, 0),
         (&no_times[..], &no_waits[..], &at_once[..], 0, 1),
     ] {
         let times = read_times(rt.alloc(), times, &plan)?;

@@ -1,12 +1,10 @@
 // Texts of plans, accepted and refused.
+use crate::texts::TWO_STAGES;
 use pua_model::Plan;
 use pua_reader::{PuaRefusal, PuaWhy, read_plan};
 use sig_types::{GroupNo, InterNo, StageNo};
 use std::alloc::{AllocError, Global};
 use std::test::Fail;
-
-const TWO_STAGES: &[u8] =
-    b"$SIGNAL_GROUPS\nK1 1\nK2 2\n$STAGES\nS1 K1\nred K2\nS2 K2\nred K1\n$STARTING_STAGE\nS1\n$INTERSTAGE1\nLength [s]: 6\nFrom Stage: 1\nTo Stage: 2\n$ redend grend\nK1 -127 0\nK2 4 127\n$INTERSTAGE2\nLength [s]: 5\nFrom Stage: 2\nTo Stage: 1\nK2 -127 0\nK1 3 127\n$END\n";
 
 const KEPT_GREEN: &[u8] =
     b"$SIGNAL_GROUPS\nK1 1\nK2 2\n$STAGES\nS1 K1\nS2 K1 K2\n$STARTING_STAGE\nS1\n$INTERSTAGE\nto_stage 2\nLENGTH 6\nFrom Stage = S1\nk1 -127 127\nk2 4 127\n";

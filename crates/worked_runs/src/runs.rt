@@ -1,4 +1,5 @@
 // The texts of whole runs, over files and sinks in memory.
+use crate::texts::{DARK, INTERGREENS, TIMES, TWO_STAGES};
 use junction_run::{Status, junction};
 use sig_io::{MemFiles, MemSink};
 use std::alloc::{AllocError, Global};
@@ -14,19 +15,10 @@ const NO_GROUP: &[u8] = b"PROGRAM p;\nSg_red(1);\nSg_green(3);\nPROG_ENDE: .\n";
 
 const NO_STAGE: &[u8] = b"PROGRAM p;\nInterstage(1,3);\nPROG_ENDE: .\n";
 
-const PLAN: &[u8] =
-    b"$SIGNAL_GROUPS\nK1 1\nK2 2\n$STAGES\nS1 K1\nred K2\nS2 K2\nred K1\n$STARTING_STAGE\nS1\n$INTERSTAGE1\nLength [s]: 6\nFrom Stage: 1\nTo Stage: 2\n$ redend grend\nK1 -127 0\nK2 4 127\n$END\n";
-
-const DARK: &[u8] = b"$SIGNAL_GROUPS\nK1 1\nK2 2\n$STAGES\nS0\n$STARTING_STAGE\nS0\n$END\n";
-
 const WRONG: &[u8] =
     b"$SIGNAL_GROUPS\nK1 1\nK2 2\n$STAGES\nS1 K1\nS2 K1 K2\n$STARTING_STAGE\nS1\n$INTERSTAGE\nto_stage 2\nLENGTH 6\nFrom Stage = S1\nK1 5 127\nk2 4 127\n";
 
-const TIMES: &[u8] = b"group,min_green,red_amber,amber\nK1,10,1,3\nK2,8,1,3\n";
-
 const ONE_TIME: &[u8] = b"group,min_green,red_amber,amber\nK1,10,1,3\n";
-
-const PAIRS: &[u8] = b"from,to,seconds\nK1,K2,5\nK2,K1,4\n";
 
 const ONE_WAY: &[u8] = b"from,to,seconds\nK1,K2,5\n";
 
@@ -88,7 +80,7 @@ fn done<'a>(words: &'a [&'a str], program: &'a [u8], plan: &'a [u8], out: &'a [u
         program,
         plan,
         times: TIMES,
-        intergreens: PAIRS,
+        intergreens: INTERGREENS,
         status: Status::Done,
         out,
         note: b"",
@@ -118,17 +110,17 @@ fn refused<'a>(
 #[test]
 fn logs_are_as_they_must(rt: HostRuntime) -> Result<(), Fail> {
     let cases = [
-        done(&RUN, NONE, PLAN, LOG),
+        done(&RUN, NONE, TWO_STAGES, LOG),
         done(
             &["run", "p.vap", "p.pua", "t.csv", "g.csv", "0"],
             NONE,
-            PLAN,
+            TWO_STAGES,
             b"VAPLOG 1 K1 K2\n",
         ),
         done(
             &["run", "p.vap", "p.pua", "t.csv", "g.csv", "7"],
             GO,
-            PLAN,
+            TWO_STAGES,
             b"VAPLOG 1 K1 K2\n1|I1-2+0|RR|-|-|-\n2|I1-2+1|RR|-|1-2:Running|-\n3|I1-2+2|RR|-|1-2:Running|-\n4|I1-2+3|RR|-|1-2:Running|-\n5|I1-2+4|RU|-|1-2:Running|-\n6|I1-2+5|RG|-|1-2:Running|-\n7|S2|RG|-|1-2:WrongStage|-\n",
         ),
         done(
@@ -157,20 +149,32 @@ fn files_are_refused_in_their_order(rt: HostRuntime) -> Result<(), Fail> {
         ),
         refused(
             NO_GROUP,
-            PLAN,
+            TWO_STAGES,
             ONE_TIME,
             ONE_WAY,
             b"junction: t.csv:0: Missing K2\n",
         ),
         refused(
             NO_GROUP,
-            PLAN,
+            TWO_STAGES,
             TIMES,
             ONE_WAY,
             b"junction: g.csv:2: OneWay K1 K2\n",
         ),
-        refused(NO_GROUP, PLAN, TIMES, PAIRS, b"junction: p.vap:3: Plain\n"),
-        refused(NO_STAGE, PLAN, TIMES, PAIRS, b"junction: p.vap:2: Plain\n"),
+        refused(
+            NO_GROUP,
+            TWO_STAGES,
+            TIMES,
+            INTERGREENS,
+            b"junction: p.vap:3: Plain\n",
+        ),
+        refused(
+            NO_STAGE,
+            TWO_STAGES,
+            TIMES,
+            INTERGREENS,
+            b"junction: p.vap:2: Plain\n",
+        ),
     ];
     for (i, case) in cases.iter().enumerate() {
         assert!(rt; !fails(rt.alloc(), case)?, "case {i}");
@@ -184,9 +188,9 @@ fn other_runs_tell_why_they_stop(rt: HostRuntime) -> Result<(), Fail> {
         Case {
             words: &["run", "p.vap", "p.pua", "x.csv", "g.csv", "3"],
             program: NONE,
-            plan: PLAN,
+            plan: TWO_STAGES,
             times: TIMES,
-            intergreens: PAIRS,
+            intergreens: INTERGREENS,
             status: Status::ReadFault,
             out: b"",
             note: b"junction: x.csv: ReadFault\n",
@@ -194,9 +198,9 @@ fn other_runs_tell_why_they_stop(rt: HostRuntime) -> Result<(), Fail> {
         Case {
             words: &["run", "p.vap", "t.csv", "3"],
             program: NONE,
-            plan: PLAN,
+            plan: TWO_STAGES,
             times: TIMES,
-            intergreens: PAIRS,
+            intergreens: INTERGREENS,
             status: Status::Words,
             out: b"",
             note: b"junction: Words\n",
@@ -213,7 +217,7 @@ fn other_runs_tell_why_they_stop(rt: HostRuntime) -> Result<(), Fail> {
 fn a_record_is_one_write(rt: HostRuntime) -> Result<(), Fail> {
     let alloc = rt.alloc();
     let words = texts(alloc, &RUN)?;
-    let mut files = files(alloc, &done(&RUN, NONE, PLAN, LOG))?;
+    let mut files = files(alloc, &done(&RUN, NONE, TWO_STAGES, LOG))?;
     let mut out = MemSink::new(alloc, 1000, vec![in alloc; 2]?)?;
     let mut notes = MemSink::new(alloc, 1000, Vec::new(alloc))?;
     let status = junction(alloc, &words, &mut files, &mut out, &mut notes);

@@ -1,53 +1,15 @@
 // Runs of a controller of a junction of two groups and two stages.
-ghost use Rattle.std.specs.Prelude.{◌≡◌, ◌<◌, length, OnOk, IfOk};
-ghost use Rattle.sig_types.specs.Recorded.{IsRecord};
-ghost use Rattle.pua_model.specs.Plan.{groups_in};
-ghost use Rattle.controller.specs.Controls.{StandsFor, plan_of, last_record};
+ghost use Rattle.controller.specs.Controls.{StandsFor};
 ghost use Rattle.controller.specs.Past.{Past};
 
+use crate::texts::{INTERGREENS, TIMES, TWO_STAGES};
 use controller::Controller;
-use pua_model::{Group, Interstage, Plan, Stage};
+use pua_reader::read_plan;
 use sig_tables::{read_intergreens, read_times};
 use sig_types::Aspect::{Green, Red, RedAmber};
 use sig_types::StagePlace::{Inter, Stage as In};
-use sig_types::{Aspect, Command, Frame, Record, Rule, ShortName, StageNo, StagePlace, Wishes};
-use std::alloc::{AllocError, Global};
+use sig_types::{Aspect, Command, Frame, Record, Rule, StageNo, StagePlace};
 use std::test::Fail;
-
-// K1 is green in stage 1, and K2 in stage 2; six seconds lead from the one to the other, and five back.
-fn plan_of_two(alloc: Global) -> Result<Plan, AllocError> {
-    let groups = vec![in alloc;
-        Group {
-            name: ShortName::of(b"K1"),
-            number: 1,
-        },
-        Group {
-            name: ShortName::of(b"K2"),
-            number: 2,
-        },
-    ]?;
-    let mut first = Wishes::all_red(2);
-    first.set(0, true);
-    let mut second = Wishes::all_red(2);
-    second.set(1, true);
-    let stages = vec![in alloc;
-        Stage {
-            name: ShortName::of(b"S1"),
-            greens: first,
-        },
-        Stage {
-            name: ShortName::of(b"S2"),
-            greens: second,
-        },
-    ]?;
-    let there = vec![in alloc; Some((-127, 0)), Some((4, 127))]?;
-    let back = vec![in alloc; Some((3, 127)), Some((-127, 0))]?;
-    let ways = vec![in alloc;
-        Interstage::of(StageNo(1), StageNo(2), 6, there),
-        Interstage::of(StageNo(2), StageNo(1), 5, back),
-    ]?;
-    Ok(Plan::of(groups, stages, StageNo(1), ways))
-}
 
 // What a second tells: its place, what K1 and K2 show, and the rule by which a stage command was refused.
 #[derive(Clone, Copy)]
@@ -123,12 +85,10 @@ fn seconds_of_listed_commands(rt: HostRuntime) -> Result<(), Fail> {
         told(inter(5), (Red, Green), Some(Rule::Running)),
         told(In(StageNo(2)), (Red, Green), Some(Rule::WrongStage)),
     ];
-    let times = b"group,min_green,red_amber,amber\nK1,10,1,3\nK2,8,1,3\n";
-    let pairs = b"from,to,seconds\nK1,K2,5\nK2,K1,4\n";
     for (goes, rows) in [(false, &still[..]), (true, &going[..])] {
-        let plan = plan_of_two(rt.alloc())?;
-        let times = read_times(rt.alloc(), times, &plan)?;
-        let intergreens = read_intergreens(rt.alloc(), pairs, &plan)?;
+        let plan = read_plan(rt.alloc(), TWO_STAGES)?;
+        let times = read_times(rt.alloc(), TIMES, &plan)?;
+        let intergreens = read_intergreens(rt.alloc(), INTERGREENS, &plan)?;
         let mut commands = Vec::new(rt.alloc());
         if let (Some(from), Some(to)) = (plan.find_stage(1), plan.find_stage(2)) {
             if goes {

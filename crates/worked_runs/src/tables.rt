@@ -1,28 +1,9 @@
-// The tables of a plan of two groups.
-use pua_model::{Group, Plan, Stage};
+// Tables of two groups.
+use crate::texts::DARK;
+use pua_reader::read_plan;
 use sig_tables::{TableRefusal, TableWhy, read_intergreens, read_times};
-use sig_types::{GroupNo, ShortName, StageNo, Wishes};
-use std::alloc::Global;
+use sig_types::GroupNo;
 use std::test::Fail;
-
-// Two groups, K1 and K2, and a stage without a green.
-fn plan(alloc: Global) -> Result<Plan, Fail> {
-    let first = Group {
-        name: ShortName::of(b"K1"),
-        number: 1,
-    };
-    let second = Group {
-        name: ShortName::of(b"K2"),
-        number: 2,
-    };
-    let stage = Stage {
-        name: ShortName::of(b"S0"),
-        greens: Wishes::all_red(2),
-    };
-    let groups = vec![in alloc; first, second]?;
-    let stages = vec![in alloc; stage]?;
-    Ok(Plan::of(groups, stages, StageNo(1), Vec::new(alloc)))
-}
 
 fn at(line: u32, why: TableWhy) -> TableRefusal {
     TableRefusal::At { line, why }
@@ -30,7 +11,7 @@ fn at(line: u32, why: TableWhy) -> TableRefusal {
 
 #[test]
 fn reads_the_numbers_of_each_group(rt: HostRuntime) -> Result<(), Fail> {
-    let plan = plan(rt.alloc())?;
+    let plan = read_plan(rt.alloc(), DARK)?;
     let text = b"GROUP,min_green,red_amber,amber\nk2,8,0,9\n\n\"K1\",10,1,3\r\n";
     let times = read_times(rt.alloc(), text, &plan)?;
     assert!(rt; times.groups() == 2);
@@ -49,7 +30,7 @@ fn reads_the_numbers_of_each_group(rt: HostRuntime) -> Result<(), Fail> {
 
 #[test]
 fn reads_the_seconds_of_each_pair(rt: HostRuntime) -> Result<(), Fail> {
-    let plan = plan(rt.alloc())?;
+    let plan = read_plan(rt.alloc(), DARK)?;
     let table = read_intergreens(rt.alloc(), b"from,to,SECONDS\nK1,K2,5\nk2,k1,0", &plan)?;
     assert!(rt; table.groups() == 2);
     assert!(rt; table.between(GroupNo(0), GroupNo(1)) == Some(5));
@@ -60,7 +41,7 @@ fn reads_the_seconds_of_each_pair(rt: HostRuntime) -> Result<(), Fail> {
 
 #[test]
 fn refuses_times(rt: HostRuntime) -> Result<(), Fail> {
-    let plan = plan(rt.alloc())?;
+    let plan = read_plan(rt.alloc(), DARK)?;
     let cases: [(&[u8], TableRefusal); 6] = [
         (b"", at(1, TableWhy::Header)),
         (
@@ -92,7 +73,7 @@ fn refuses_times(rt: HostRuntime) -> Result<(), Fail> {
 
 #[test]
 fn refuses_intergreens(rt: HostRuntime) -> Result<(), Fail> {
-    let plan = plan(rt.alloc())?;
+    let plan = read_plan(rt.alloc(), DARK)?;
     let cases: [(&[u8], TableRefusal); 5] = [
         (
             b"from,to,seconds\nK1,K2,5\nK1,K3,5",
