@@ -149,18 +149,24 @@ fn many(alloc: Global, front: &str, n: u32, part: (&str, &str), end: &str) -> Re
 fn there_are_limits(rt: HostRuntime) -> Result<(), Fail> {
     let alloc = rt.alloc();
     let cells = many(alloc, "[1024] = [-0", 1023, (", ", ""), "];\n")?;
-    let rest = " PROG_ENDE: .";
-    for (part, most, which) in [
-        (("v", " := 0; "), 256, Which::Variables),
-        (("START(t", "); "), 64, Which::Timers),
-        (("ARRAY a", "[1] = [0]; "), 32, Which::Arrays),
-        (("ARRAY a", cells.as_str()), 4, Which::Cells),
-        (("SUBROUTINE s", "; PROG_ENDE: . "), 64, Which::Subroutines),
-        (("l", ": TRACE(1); "), 4096, Which::Labels),
+    let full = many(alloc, "PROGRAM p; ", 4, ("ARRAY a", cells.as_str()), "")?;
+    let plain = "PROGRAM p; ";
+    for (front, part, most, which) in [
+        (plain, ("v", " := 0; "), 256, Which::Variables),
+        (plain, ("START(t", "); "), 64, Which::Timers),
+        (plain, ("ARRAY a", "[1] = [0]; "), 32, Which::Arrays),
+        (full.as_str(), ("ARRAY b", "[1] = [0]; "), 0, Which::Cells),
+        (
+            plain,
+            ("SUBROUTINE s", "; PROG_ENDE: . "),
+            64,
+            Which::Subroutines,
+        ),
+        (plain, ("l", ": TRACE(1); "), 4096, Which::Labels),
     ] {
-        let text = many(alloc, "PROGRAM p; ", most, part, rest)?;
+        let text = many(alloc, front, most, part, " PROG_ENDE: .")?;
         assert!(rt; refused(alloc, text.as_bytes())? == None, "{which:?}");
-        let text = many(alloc, "PROGRAM p; ", most + 1, part, rest)?;
+        let text = many(alloc, front, most + 1, part, " PROG_ENDE: .")?;
         let found = refused(alloc, text.as_bytes())?;
         assert!(rt; found == Some((0, CheckWhy::Limit(which))), "{which:?}");
     }

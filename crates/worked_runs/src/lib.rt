@@ -27,3 +27,5 @@ mod texts;
 mod tokens;
 #[cfg(test)]
 mod trees;
+#[cfg(test)]
+mod types;
