@@ -1,5 +1,5 @@
 use Rattle.std.proofs.Common.{◌≡◌}
-use Rattle.worked_runs.proofs.passes.seconds.Given as goal
+use Rattle.layer_tests.proofs.passes.seconds.Given as goal
 
 abbrev pub invariant-loop-second : goal.invariant-loop-second
 invariant-loop-second g l = l.vm.seconds ≡ l.second

@@ -1,4 +1,4 @@
-//! Tests alone: worked runs of every layer, and each call that may answer want of memory on its happy path.
+//! Tests of the layers below the top call: worked examples, and each call that may answer want of memory on its happy path.
 //!
 //! They stand in a crate of their own since a crate with tests is proved twice.
 #![tactic(auto)]
@@ -16,13 +16,10 @@ mod passes;
 #[cfg(test)]
 mod plans;
 #[cfg(test)]
-mod runs;
-#[cfg(test)]
 mod seconds;
 #[cfg(test)]
 mod tables;
-#[cfg(test)]
-mod texts;
+pub mod texts;
 #[cfg(test)]
 mod tokens;
 #[cfg(test)]

@@ -1,6 +1,6 @@
 use Rattle.std.proofs.Common.{length, arith}
-use Rattle.worked_runs.proofs.Lines.{lines_within}
-use Rattle.worked_runs.proofs.checks.checked.Goals as goal
+use Rattle.layer_tests.proofs.Lines.{lines_within}
+use Rattle.layer_tests.proofs.checks.checked.Goals as goal
 
 pub check-requires : goal.check-requires
 check-requires c =

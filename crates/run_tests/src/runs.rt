@@ -1,5 +1,5 @@
 // The texts of whole runs, over files and sinks in memory.
-use crate::texts::{DARK, INTERGREENS, TIMES, TWO_STAGES};
+use layer_tests::texts::{DARK, INTERGREENS, TIMES, TWO_STAGES};
 use junction_run::{Status, junction};
 use sig_io::{MemFiles, MemSink};
 use std::alloc::{AllocError, Global};

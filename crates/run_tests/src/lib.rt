@@ -1,0 +1,5 @@
+//! Tests of the top call: whole runs over files and sinks in memory, compared byte for byte.
+#![tactic(auto)]
+
+#[cfg(test)]
+mod runs;
