@@ -1,12 +1,11 @@
 pub mod Name
-pub mod Bytes
 pub mod Syntax
 pub mod Tree
 pub mod Names
 pub mod Value
 pub mod Rest
 pub mod Mean
-pub mod Shape
+pub mod Passes
 pub mod Sizes
 pub mod Sound
 pub mod Parsed

@@ -1,5 +1,5 @@
 -- What a program does.
-use Rattle.std.specs.Prelude.{ℕ, zero, suc, List, Option, Some, Result, Ok, Err, if◌then◌else◌}
+use Rattle.std.specs.Prelude.{◌≡◌, ◌≤◌, ℕ, zero, suc, List, Option, Some, Result, Ok, Err, if◌then◌else◌}
 use Rattle.sig_types.specs.declared.aspect.FaultKind.{FaultKind}
 use Rattle.sig_types.specs.declared.aspect.FaultKind.TheVariants.{Budget}
 use Rattle.sig_types.specs.Number.{holds}
@@ -79,3 +79,9 @@ module _ (source : Source) (world : World) where
 
   abbrev pub mean : Items → Items → Store → ℕ → Outcome
   mean todo routine s units = mean_within units routine todo s units
+
+-- the meaning is the same at all depths that are at least the units
+abbrev pub OneMeaning : Type 0
+OneMeaning =
+    (source : Source) (world : World) (depth : ℕ) (routine todo : Items) (s : Store) (units : ℕ) → units ≤ depth
+    → mean_within source world depth routine todo s units ≡ mean source world todo routine s units

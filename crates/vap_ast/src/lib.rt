@@ -1,12 +1,14 @@
-//! The trees of a program, the names in it, and what a program means.
+//! The trees of a program, the names in it, how many instructions it takes, and what it means.
 #![tactic(auto)]
 
-pub mod name;
-pub mod names;
-pub mod tree;
+mod laws;
+mod name;
+mod sizes;
+mod tree;
 
+pub use laws::{first_store_fits, one_meaning};
 pub use name::{Entry, Meaning, Name};
-pub use names::Names;
+pub use sizes::{add_capped, expr_size, exprs_size, item_size, items_size, own_size, stmt_size};
 pub use tree::{
     ArrayDecl, BinaryOp, ConstDecl, Expr, Item, Items, Program, Routine, Stmt, UnaryOp,
 };

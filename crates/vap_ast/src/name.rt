@@ -1,7 +1,7 @@
 // Names of a program, and what they are.
 ghost use Rattle.std.specs.Prelude.{◌≡◌, IfOk};
+ghost use Rattle.std.specs.Str.{bytes_eq};
 ghost use Rattle.vap_ast.specs.Name.{lowered, IsWord};
-ghost use Rattle.vap_ast.specs.Bytes.{same_name};
 
 use sig_types::Memory;
 use std::alloc::Global;
@@ -57,7 +57,7 @@ impl Name {
 
     /// Whether two names are the same.
     pub fn same(&self, other: &Name) -> bool
-        ensures { result ≡ same_name self.now other.now }
+        ensures { result ≡ bytes_eq self.now other.now }
     {
         self.bytes() == other.bytes()
     }

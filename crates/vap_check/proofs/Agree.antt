@@ -1,13 +1,12 @@
 -- Names that are kept once tell what all of them tell.
 use Rattle.std.proofs.Common.{◌≡◌, ℕ, Bool, true, false, ◌||◌, cond, List, [], ◌∷◌, ◌++◌, map, Option, None, Some, is_some, refl, sym, ap, ◌∙◌, subst, true≢false, if◌then◌else◌}
 use Rattle.std.specs.Map.{lookup}
-use Rattle.std.specs.Option.{option_map}
+use Rattle.std.specs.Option.{option_map, option_or}
 use Rattle.std.proofs.lemmas.Slice.Eq.{bytes_eq-Decides}
 use Rattle.std.proofs.lemmas.List.{map-append}
 use Rattle.std.proofs.lemmas.List.Folds.{list_any-append}
-use Rattle.vap_ast.specs.Bytes.{same_name}
+use Rattle.std.specs.Str.{bytes_eq}
 use Rattle.vap_ast.specs.Syntax.{Items, Constant, Program}
-use Rattle.vap_ast.specs.Rest.{first_some}
 use Rattle.vap_check.specs.declared.refusal.Finding.{Finding}
 use Rattle.vap_check.specs.declared.kinds.First.{First}
 use Rattle.vap_check.specs.declared.kinds.Kind.{Kind}
@@ -34,27 +33,27 @@ or_swap true false = refl
 or_swap false true = refl
 or_swap false false = refl
 
-pub same_is : (a b : List ℕ) → same_name a b ≡ true → a ≡ b
+pub same_is : (a b : List ℕ) → bytes_eq a b ≡ true → a ≡ b
 same_is a b e = (bytes_eq-Decides a b).0 e
 
 -- a name that is equal to one of these is one of these
-absorbed : (names : List (List ℕ)) (x n : List ℕ) → among names x ≡ true → among names n ≡ (same_name n x || among names n)
-absorbed names x n there = elim (same_name n x) as (λ b. same_name n x ≡ b → among names n ≡ (b || among names n)) [
+absorbed : (names : List (List ℕ)) (x n : List ℕ) → among names x ≡ true → among names n ≡ (bytes_eq n x || among names n)
+absorbed names x n there = elim (bytes_eq n x) as (λ b. bytes_eq n x ≡ b → among names n ≡ (b || among names n)) [
   | true ↦ λ e. subst (λ y. among names y ≡ true) (sym (same_is n x e)) there
   | false ↦ λ e. refl
 ] refl
 
-with_one : (names : List (List ℕ)) (x n : List ℕ) → among (with_name names x) n ≡ (same_name n x || among names n)
-with_one names x n = elim (among names x) as (λ b. among names x ≡ b → among (if b then names else names ++ x ∷ []) n ≡ (same_name n x || among names n)) [
+with_one : (names : List (List ℕ)) (x n : List ℕ) → among (with_name names x) n ≡ (bytes_eq n x || among names n)
+with_one names x n = elim (among names x) as (λ b. among names x ≡ b → among (if b then names else names ++ x ∷ []) n ≡ (bytes_eq n x || among names n)) [
   | true ↦ λ e. absorbed names x n e
-  | false ↦ λ e. list_any-append (same_name n) names (x ∷ []) ∙ ap (λ c. among names n || c) (or_false (same_name n x)) ∙ or_swap (among names n) (same_name n x)
+  | false ↦ λ e. list_any-append (bytes_eq n) names (x ∷ []) ∙ ap (λ c. among names n || c) (or_false (bytes_eq n x)) ∙ or_swap (among names n) (bytes_eq n x)
 ] refl
 
 with_more : (xs names : List (List ℕ)) (n : List ℕ) → among (with_names names xs) n ≡ (among xs n || among names n)
 with_more [] names n = refl
 with_more (x ∷ xs) names n =
-    with_more xs (with_name names x) n ∙ ap (λ c. among xs n || c) (with_one names x n) ∙ or_assoc (among xs n) (same_name n x) (among names n)
-    ∙ ap (λ c. c || among names n) (or_swap (among xs n) (same_name n x))
+    with_more xs (with_name names x) n ∙ ap (λ c. among xs n || c) (with_one names x n) ∙ or_assoc (among xs n) (bytes_eq n x) (among names n)
+    ∙ ap (λ c. c || among names n) (or_swap (among xs n) (bytes_eq n x))
 
 -- among names that are kept once are the same as among all of them
 pub among_distinct : (xs : List (List ℕ)) → among (distinct xs) ≡ among xs
@@ -72,23 +71,23 @@ keys_with_all : (cs : List Constant) (es : List (List ℕ × First)) → const_k
 keys_with_all [] es = refl
 keys_with_all (c ∷ cs) es = keys_with_all cs (with_const es c) ∙ ap (λ ks. with_names ks (map (λ c. c.name) cs)) (keys_with es c)
 
-line_behind : (es : List (List ℕ × First)) (k n : List ℕ) (f : First) → line_in (es ++ (k, f) ∷ []) n ≡ first_some (line_in es n) (if same_name n k then Some f.line else None)
-line_behind [] k n f = elim (same_name n k) as (λ b. option_map (λ f. f.line) (cond b (Some f) None) ≡ (if b then Some f.line else None)) [ true ↦ refl | false ↦ refl ]
+line_behind : (es : List (List ℕ × First)) (k n : List ℕ) (f : First) → line_in (es ++ (k, f) ∷ []) n ≡ option_or (line_in es n) (if bytes_eq n k then Some f.line else None)
+line_behind [] k n f = elim (bytes_eq n k) as (λ b. option_map (λ f. f.line) (cond b (Some f) None) ≡ (if b then Some f.line else None)) [ true ↦ refl | false ↦ refl ]
 line_behind (e ∷ es) k n f =
-    elim (same_name n e.0) as (λ b. option_map (λ f. f.line) (cond b (Some e.1) (lookup (same_name n) (es ++ (k, f) ∷ []))) ≡ first_some (option_map (λ f. f.line) (cond b (Some e.1) (lookup (same_name n) es))) (if same_name n k then Some f.line else None)) [
+    elim (bytes_eq n e.0) as (λ b. option_map (λ f. f.line) (cond b (Some e.1) (lookup (bytes_eq n) (es ++ (k, f) ∷ []))) ≡ option_or (option_map (λ f. f.line) (cond b (Some e.1) (lookup (bytes_eq n) es))) (if bytes_eq n k then Some f.line else None)) [
       | true ↦ refl
       | false ↦ line_behind es k n f
     ]
 
-first_none : (a : Option ℕ) → first_some a None ≡ a
+first_none : (a : Option ℕ) → option_or a None ≡ a
 first_none None = refl
 first_none (Some x) = refl
 
-first_kept : (a b : Option ℕ) → is_some a ≡ true → first_some a b ≡ a
+first_kept : (a b : Option ℕ) → is_some a ≡ true → option_or a b ≡ a
 first_kept None b e = absurd (true≢false (sym e))
 first_kept (Some x) b e = refl
 
-first_assoc : (a b c : Option ℕ) → first_some (first_some a b) c ≡ first_some a (first_some b c)
+first_assoc : (a b c : Option ℕ) → option_or (option_or a b) c ≡ option_or a (option_or b c)
 first_assoc None b c = refl
 first_assoc (Some x) b c = refl
 
@@ -96,25 +95,25 @@ some_line : (r : Option First) → is_some (option_map (λ f. f.line) r) ≡ is_
 some_line None = refl
 some_line (Some f) = refl
 
-line_with : (es : List (List ℕ × First)) (c : Constant) (n : List ℕ) → line_in (with_const es c) n ≡ first_some (line_in es n) (if same_name n c.name then Some c.line else None)
-line_with es c n = elim (among (const_keys es) c.name) as (λ b. among (const_keys es) c.name ≡ b → line_in (if b then es else es ++ (c.name, record { line = c.line; value = c.value }) ∷ []) n ≡ first_some (line_in es n) (if same_name n c.name then Some c.line else None)) [
-  | true ↦ λ there. (elim (same_name n c.name) as (λ b. same_name n c.name ≡ b → line_in es n ≡ first_some (line_in es n) (if b then Some c.line else None)) [
-    | true ↦ λ e. sym (first_kept (line_in es n) (Some c.line) (some_line (lookup (same_name n) es) ∙ some_found (same_name n) es ∙ subst (λ m. among (const_keys es) m ≡ true) (sym (same_is n c.name e)) there))
+line_with : (es : List (List ℕ × First)) (c : Constant) (n : List ℕ) → line_in (with_const es c) n ≡ option_or (line_in es n) (if bytes_eq n c.name then Some c.line else None)
+line_with es c n = elim (among (const_keys es) c.name) as (λ b. among (const_keys es) c.name ≡ b → line_in (if b then es else es ++ (c.name, record { line = c.line; value = c.value }) ∷ []) n ≡ option_or (line_in es n) (if bytes_eq n c.name then Some c.line else None)) [
+  | true ↦ λ there. (elim (bytes_eq n c.name) as (λ b. bytes_eq n c.name ≡ b → line_in es n ≡ option_or (line_in es n) (if b then Some c.line else None)) [
+    | true ↦ λ e. sym (first_kept (line_in es n) (Some c.line) (some_line (lookup (bytes_eq n) es) ∙ some_found (bytes_eq n) es ∙ subst (λ m. among (const_keys es) m ≡ true) (sym (same_is n c.name e)) there))
     | false ↦ λ e. sym (first_none (line_in es n))
   ]) refl
   | false ↦ λ e. line_behind es c.name n record { line = c.line; value = c.value }
 ] refl
 
-line_first : (b : Bool) (l : ℕ) (o : Option ℕ) → first_some (if b then Some l else None) o ≡ (if b then Some l else o)
+line_first : (b : Bool) (l : ℕ) (o : Option ℕ) → option_or (if b then Some l else None) o ≡ (if b then Some l else o)
 line_first true l o = refl
 line_first false l o = refl
 
-line_with_all : (cs : List Constant) (es : List (List ℕ × First)) (n : List ℕ) → line_in (with_consts es cs) n ≡ first_some (line_in es n) (const_line cs n)
+line_with_all : (cs : List Constant) (es : List (List ℕ × First)) (n : List ℕ) → line_in (with_consts es cs) n ≡ option_or (line_in es n) (const_line cs n)
 line_with_all [] es n = sym (first_none (line_in es n))
 line_with_all (c ∷ cs) es n =
-    line_with_all cs (with_const es c) n ∙ ap (λ a. first_some a (const_line cs n)) (line_with es c n)
-    ∙ first_assoc (line_in es n) (if same_name n c.name then Some c.line else None) (const_line cs n)
-    ∙ ap (first_some (line_in es n)) (line_first (same_name n c.name) c.line (const_line cs n))
+    line_with_all cs (with_const es c) n ∙ ap (λ a. option_or a (const_line cs n)) (line_with es c n)
+    ∙ first_assoc (line_in es n) (if bytes_eq n c.name then Some c.line else None) (const_line cs n)
+    ∙ ap (option_or (line_in es n)) (line_first (bytes_eq n c.name) c.line (const_line cs n))
 
 -- ---- what is kept of a program tells what its names are
 

@@ -10,5 +10,4 @@ mod Meanings
 mod Sums
 mod Seen
 mod Usability
-mod Room
 mod Sounding

@@ -4,14 +4,13 @@ use Rattle.std.specs.Prelude.{position, nat_lt}
 use Rattle.std.specs.List.{position_or_len}
 use Rattle.std.proofs.lemmas.Bool.Decides.{nat_tests}
 use Rattle.std.specs.Map.{lookup}
-use Rattle.std.specs.Option.{option_map}
+use Rattle.std.specs.Option.{option_map, option_or}
 use Rattle.std.specs.Str.{bytes_eq}
 use Rattle.std.proofs.lemmas.Slice.Eq.{bytes_eq-Decides}
 use Rattle.vap_ast.specs.declared.name.Entry.{Entry}
 use Rattle.vap_ast.specs.declared.name.Meaning.{Meaning}
 use Rattle.vap_ast.specs.declared.name.Meaning.TheVariants.{Constant, Array, Sub, Timer, Variable}
-use Rattle.vap_ast.specs.Names.{meaning_in, same_name}
-use Rattle.vap_ast.specs.Rest.{first_some}
+use Rattle.vap_ast.specs.Names.{meaning_in}
 use Rattle.vap_check.specs.declared.kinds.First.{First}
 use Rattle.vap_check.specs.Numbers.{numbered, entries, consts_in}
 
@@ -20,7 +19,7 @@ same_truth true c f g = sym (f refl)
 same_truth false true f g = g refl
 same_truth false false f g = refl
 
-pub turned : (a b : List ℕ) → same_name a b ≡ bytes_eq b a
+pub turned : (a b : List ℕ) → bytes_eq a b ≡ bytes_eq b a
 turned a b = same_truth (bytes_eq a b) (bytes_eq b a) (λ e. (bytes_eq-Decides b a).1 (sym ((bytes_eq-Decides a b).0 e))) (λ e. (bytes_eq-Decides a b).1 (sym ((bytes_eq-Decides b a).0 e)))
 
 pub const_found : (es : List (List ℕ × First)) (n : List ℕ) → meaning_in (consts_in es) n ≡ option_map (λ f. Constant f.value) (lookup (bytes_eq n) es)
@@ -68,18 +67,18 @@ from_zero f (Some i) = let e : 0 + i ≡ i = omega arith in ap (λ j. Some (f j)
 pub numbers_found : (f : ℕ → Meaning) (ns : List (List ℕ)) (n : List ℕ) → meaning_in (numbered f 0 ns) n ≡ option_map f (position (bytes_eq n) ns)
 numbers_found f ns n = number_found f ns 0 n ∙ from_zero f (position (bytes_eq n) ns)
 
-meaning_on : (a b : List Entry) (n : List ℕ) → meaning_in (a ++ b) n ≡ first_some (meaning_in a n) (meaning_in b n)
+meaning_on : (a b : List Entry) (n : List ℕ) → meaning_in (a ++ b) n ≡ option_or (meaning_in a n) (meaning_in b n)
 meaning_on [] b n = refl
-meaning_on (e ∷ a) b n = elim (same_name e.name n) as (λ c. (if c then Some e.meaning else meaning_in (a ++ b) n) ≡ first_some (if c then Some e.meaning else meaning_in a n) (meaning_in b n)) [ true ↦ refl | false ↦ meaning_on a b n ]
+meaning_on (e ∷ a) b n = elim (bytes_eq e.name n) as (λ c. (if c then Some e.meaning else meaning_in (a ++ b) n) ≡ option_or (if c then Some e.meaning else meaning_in a n) (meaning_in b n)) [ true ↦ refl | false ↦ meaning_on a b n ]
 
 -- a name is the first of what it may be
 pub meaning_is : (consts : List Entry) (arrays subs timers variables : List (List ℕ)) (n : List ℕ) → meaning_in (entries consts arrays subs timers variables) n
-    ≡ first_some (meaning_in consts n) (first_some (option_map Array (position (bytes_eq n) arrays)) (first_some (option_map Sub (position (bytes_eq n) subs))
-    (first_some (option_map Timer (position (bytes_eq n) timers)) (option_map Variable (position (bytes_eq n) variables)))))
+    ≡ option_or (meaning_in consts n) (option_or (option_map Array (position (bytes_eq n) arrays)) (option_or (option_map Sub (position (bytes_eq n) subs))
+    (option_or (option_map Timer (position (bytes_eq n) timers)) (option_map Variable (position (bytes_eq n) variables)))))
 meaning_is consts arrays subs timers variables n =
     let a = numbered Array 0 arrays in
     let s = numbered Sub 0 subs in
     let t = numbered Timer 0 timers in
     let v = numbered Variable 0 variables in
     meaning_on consts (a ++ (s ++ (t ++ v))) n
-    ∙ ap (first_some (meaning_in consts n)) (meaning_on a (s ++ (t ++ v)) n ∙ (λ i. first_some (numbers_found Array arrays n i) ((meaning_on s (t ++ v) n ∙ (λ j. first_some (numbers_found Sub subs n j) ((meaning_on t v n ∙ (λ k. first_some (numbers_found Timer timers n k) (numbers_found Variable variables n k))) j))) i)))
+    ∙ ap (option_or (meaning_in consts n)) (meaning_on a (s ++ (t ++ v)) n ∙ (λ i. option_or (numbers_found Array arrays n i) ((meaning_on s (t ++ v) n ∙ (λ j. option_or (numbers_found Sub subs n j) ((meaning_on t v n ∙ (λ k. option_or (numbers_found Timer timers n k) (numbers_found Variable variables n k))) j))) i)))

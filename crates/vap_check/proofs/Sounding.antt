@@ -17,7 +17,7 @@ use Rattle.vap_ast.specs.Syntax.{Expr, Exprs, Item, Items, Stmt, Routine, Progra
 use Rattle.vap_check.specs.Names.{variables, timers}
 use Rattle.vap_check.specs.Numbers.{names_of}
 use Rattle.vap_check.specs.Usable.{IsSub, UsableExpr, UsableExprs, UsableStmt, UsableItem, UsableItems, Usable}
-use Rattle.vap_check.proofs.Room.{waiting_within, arguments_within}
+use Rattle.vap_ast.proofs.Room.{waiting_within, arguments_within}
 
 few_commands : (kind : CommandKind) → command_arity kind ≤ 2
 few_commands command.Interstage = omega arith

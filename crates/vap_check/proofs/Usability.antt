@@ -2,7 +2,7 @@
 use Rattle.std.proofs.Common.{◌≡◌, ℕ, zero, suc, ◌+◌, ◌<◌, ◌≤◌, Bool, true, false, not, ◌||◌, ◌==◌, cond, List, [], ◌∷◌, ◌++◌, map, length, Option, None, Some, refl, sym, ap, ◌∙◌, subst, true≢false, if◌then◌else◌, arith, append_assoc, append-nil, length-append}
 use Rattle.std.specs.Prelude.{position, nat_lt, filter, flat_map, ℤ, pos, negsuc, ◌&&◌, slice_index_or as get_or}
 use Rattle.std.specs.List.{AllByRecursion}
-use Rattle.std.specs.Option.{option_map}
+use Rattle.std.specs.Option.{option_map, option_or}
 use Rattle.std.specs.Str.{bytes_eq}
 use Rattle.std.proofs.lemmas.Bool.{ltb-false}
 use Rattle.std.proofs.lemmas.Slice.Eq.{bytes_eq-Decides}
@@ -13,9 +13,8 @@ use Rattle.sig_types.specs.Arity.{reading_arity, command_arity}
 use Rattle.vap_ast.specs.declared.name.Entry.{Entry}
 use Rattle.vap_ast.specs.declared.name.Meaning.{Meaning}
 use Rattle.vap_ast.specs.declared.name.Meaning.TheVariants.{Constant as Const_is, Array as Array_is, Sub as Sub_is, Timer as Timer_is, Variable as Variable_is}
-use Rattle.vap_ast.specs.Bytes.{same_name}
 use Rattle.vap_ast.specs.Names.{meaning_in}
-use Rattle.vap_ast.specs.Rest.{first_some}
+use Rattle.vap_ast.specs.Sizes.{own_size}
 use Rattle.vap_ast.specs.Sound.{count_arguments}
 use Rattle.vap_ast.specs.Syntax.{Expr, Exprs, Item, Items, Stmt, Routine, Constant, Array, Program}
 use Rattle.vap_check.specs.declared.refusal.CheckWhy.TheVariants.{NameKind, ArraySize, NoSub, Arity, StatementTooLong, SubTwice}
@@ -23,7 +22,7 @@ use Rattle.vap_check.specs.declared.kinds.Kind.{Kind}
 use Rattle.vap_check.specs.declared.kinds.Kind.TheVariants as kind
 use Rattle.vap_check.specs.Found.{when}
 use Rattle.vap_check.specs.Names.{among, with_name, kind_of, uses, expr_uses, exprs_uses, stmt_uses, item_uses, stmt_timers, item_timers, items_timers, items_uses, is_timer, is_variable, variables, timers, array_names, sub_names, const_names, timer_names, items_labels, label_names}
-use Rattle.vap_check.specs.Findings.{is_misread, is_no_array, is_no_timer, assign_findings, own_size, expr_findings, exprs_findings, stmt_findings, item_findings, items_findings, body_findings, label_findings, subs_findings, is_declared, findings, array_findings, clash_findings, is_odd_size, const_line}
+use Rattle.vap_check.specs.Findings.{is_misread, is_no_array, is_no_timer, assign_findings, expr_findings, exprs_findings, stmt_findings, item_findings, items_findings, body_findings, label_findings, subs_findings, is_declared, findings, array_findings, clash_findings, is_odd_size, const_line}
 use Rattle.vap_check.specs.Accepted.{passed}
 use Rattle.vap_check.specs.Numbers.{consts_of, names_of}
 use Rattle.vap_check.specs.Usable.{IsValue, IsVariable, IsTimer, IsArray, IsSub, UsableExpr, UsableExprs, UsableStmt, UsableItem, UsableItems, Usable}
@@ -58,7 +57,7 @@ entry_of c = record { name = c.name; meaning = Const_is c.value }
 const_there : (cs : List Constant) (n : List ℕ) → among (map (λ c. c.name) cs) n ≡ true → (v : ℤ) × (meaning_in (map entry_of cs) n ≡ Some (Const_is v))
 const_there [] n e = absurd (true≢false (sym e))
 const_there (c ∷ cs) n e =
-    (elim (bytes_eq n c.name) as (λ b. bytes_eq n c.name ≡ b → (b || among (map (λ c. c.name) cs) n) ≡ true → (v : ℤ) × ((if same_name c.name n then Some (Const_is c.value) else meaning_in (map entry_of cs) n) ≡ Some (Const_is v))) [
+    (elim (bytes_eq n c.name) as (λ b. bytes_eq n c.name ≡ b → (b || among (map (λ c. c.name) cs) n) ≡ true → (v : ℤ) × ((if bytes_eq c.name n then Some (Const_is c.value) else meaning_in (map entry_of cs) n) ≡ Some (Const_is v))) [
       | true ↦ λ t h. (c.value, ap (λ b. if b then Some (Const_is c.value) else meaning_in (map entry_of cs) n) (turned c.name n ∙ t))
       | false ↦ λ t h. let r = const_there cs n h in (r.0, ap (λ b. if b then Some (Const_is c.value) else meaning_in (map entry_of cs) n) (turned c.name n ∙ t) ∙ r.1)
     ]) refl e
@@ -66,7 +65,7 @@ const_there (c ∷ cs) n e =
 const_absent : (cs : List Constant) (n : List ℕ) → among (map (λ c. c.name) cs) n ≡ false → meaning_in (map entry_of cs) n ≡ None
 const_absent [] n e = refl
 const_absent (c ∷ cs) n e =
-    (elim (bytes_eq n c.name) as (λ b. bytes_eq n c.name ≡ b → (b || among (map (λ c. c.name) cs) n) ≡ false → (if same_name c.name n then Some (Const_is c.value) else meaning_in (map entry_of cs) n) ≡ None) [
+    (elim (bytes_eq n c.name) as (λ b. bytes_eq n c.name ≡ b → (b || among (map (λ c. c.name) cs) n) ≡ false → (if bytes_eq c.name n then Some (Const_is c.value) else meaning_in (map entry_of cs) n) ≡ None) [
       | true ↦ λ t h. absurd (true≢false h)
       | false ↦ λ t h. ap (λ b. if b then Some (Const_is c.value) else meaning_in (map entry_of cs) n) (turned c.name n ∙ t) ∙ const_absent cs n h
     ]) refl e
@@ -113,8 +112,8 @@ not_false false e = absurd (true≢false e)
 module _ (p : Program) where
   -- what the name n means, part by part
   parts : (n : List ℕ) (c a s t v : Option Meaning) → meaning_in (consts_of p) n ≡ c → option_map Array_is (position (bytes_eq n) (array_names p)) ≡ a → option_map Sub_is (position (bytes_eq n) (sub_names p)) ≡ s
-      → option_map Timer_is (position (bytes_eq n) (timers p)) ≡ t → option_map Variable_is (position (bytes_eq n) (variables p)) ≡ v → meaning_in (names_of p) n ≡ first_some c (first_some a (first_some s (first_some t v)))
-  parts n c a s t v ec ea es et ev = meaning_is (consts_of p) (array_names p) (sub_names p) (timers p) (variables p) n ∙ (λ i. first_some (ec i) (first_some (ea i) (first_some (es i) (first_some (et i) (ev i)))))
+      → option_map Timer_is (position (bytes_eq n) (timers p)) ≡ t → option_map Variable_is (position (bytes_eq n) (variables p)) ≡ v → meaning_in (names_of p) n ≡ option_or c (option_or a (option_or s (option_or t v)))
+  parts n c a s t v ec ea es et ev = meaning_is (consts_of p) (array_names p) (sub_names p) (timers p) (variables p) n ∙ (λ i. option_or (ec i) (option_or (ea i) (option_or (es i) (option_or (et i) (ev i)))))
 
   abbrev Is : List ℕ → Kind → Type 0
   Is n kind.Constant = (v : ℤ) × (meaning_in (names_of p) n ≡ Some (Const_is v))
@@ -178,8 +177,8 @@ right_true true = refl
 right_true false = refl
 
 last_within : (f : Items → List (List ℕ)) (bs : List Items) (b : Items) (n : List ℕ) → among (f b) n ≡ true → among (flat_map f (bs ++ b ∷ [])) n ≡ true
-last_within f [] b n e = list_any-append (same_name n) (f b) [] ∙ ap (λ c. c || false) e
-last_within f (x ∷ bs) b n e = list_any-append (same_name n) (f x) (flat_map f (bs ++ b ∷ [])) ∙ ap (λ c. among (f x) n || c) (last_within f bs b n e) ∙ right_true (among (f x) n)
+last_within f [] b n e = list_any-append (bytes_eq n) (f b) [] ∙ ap (λ c. c || false) e
+last_within f (x ∷ bs) b n e = list_any-append (bytes_eq n) (f x) (flat_map f (bs ++ b ∷ [])) ∙ ap (λ c. among (f x) n || c) (last_within f bs b n e) ∙ right_true (among (f x) n)
 
 -- a name in a timer command that isn't declared is no variable
 never_variable : (a b c : Bool) → (if a then kind.Constant else if b then kind.Array else if c then kind.Sub else kind.Timer) ≡ kind.Variable → ⊥
@@ -198,10 +197,10 @@ module _ (p : Program) where
   Within names = (n : List ℕ) → among names n ≡ true → among (uses p) n ≡ true
 
   left_within : (a b : List (List ℕ)) → Within (a ++ b) → Within a
-  left_within a b w n e = w n (list_any-append (same_name n) a b ∙ ap (λ c. c || among b n) e)
+  left_within a b w n e = w n (list_any-append (bytes_eq n) a b ∙ ap (λ c. c || among b n) e)
 
   right_within : (a b : List (List ℕ)) → Within (a ++ b) → Within b
-  right_within a b w n e = w n (list_any-append (same_name n) a b ∙ ap (λ c. among a n || c) e ∙ right_true (among a n))
+  right_within a b w n e = w n (list_any-append (bytes_eq n) a b ∙ ap (λ c. among a n || c) e ∙ right_true (among a n))
 
   itself : (n : List ℕ) → Within (n ∷ []) → among (uses p) n ≡ true
   itself n w = w n (ap (λ b. b || false) ((bytes_eq-Decides n n).1 refl))
@@ -258,10 +257,10 @@ module _ (p : Program) where
   Timers_within names = (n : List ℕ) → among names n ≡ true → among (timer_names p) n ≡ true
 
   left_timers : (a b : List (List ℕ)) → Timers_within (a ++ b) → Timers_within a
-  left_timers a b w n e = w n (list_any-append (same_name n) a b ∙ ap (λ c. c || among b n) e)
+  left_timers a b w n e = w n (list_any-append (bytes_eq n) a b ∙ ap (λ c. c || among b n) e)
 
   right_timers : (a b : List (List ℕ)) → Timers_within (a ++ b) → Timers_within b
-  right_timers a b w n e = w n (list_any-append (same_name n) a b ∙ ap (λ c. among a n || c) e ∙ right_true (among a n))
+  right_timers a b w n e = w n (list_any-append (bytes_eq n) a b ∙ ap (λ c. among a n || c) e ∙ right_true (among a n))
 
   abbrev Expr_ok : Expr → Type 0
   Expr_ok = UsableExpr (names_of p) (length (variables p)) (length (timers p)) (length p.arrays)
@@ -403,7 +402,7 @@ module _ (p : Program) (clean : findings p ≡ []) where
   above_ok : (before more : List (List ℕ)) (q : ℕ) → length before ≡ q → sub_names p ≡ before ++ more → (n : List ℕ) → among before n ≡ true → Sub_ok p q n
   above_ok before more q l s n e =
       let r = found_front before more n e in
-      let there : among (sub_names p) n ≡ true = ap (λ ns. among ns n) s ∙ list_any-append (same_name n) before more ∙ ap (λ c. c || among more n) e in
+      let there : among (sub_names p) n ≡ true = ap (λ ns. among ns n) s ∙ list_any-append (bytes_eq n) before more ∙ ap (λ c. c || among more n) e in
       let no = free n there in
       let at = ap (position (bytes_eq n)) s ∙ r.2 in
       let is = is_sub p n r.0 (no_or_first (among (const_names p) n) (among (array_names p) n) no) (no_or_second (among (const_names p) n) (among (array_names p) n) no) at in

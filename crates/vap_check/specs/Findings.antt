@@ -1,9 +1,9 @@
 -- What is wrong with a program.
 use Rattle.std.specs.Prelude.{ℕ, ◌+◌, Bool, true, false, not, ◌||◌, ◌&&◌, ◌==◌, nat_lt, max, ℤ, pos, negsuc, List, [], ◌∷◌, ◌++◌, length, Option, None, Some, if◌then◌else◌, codes}
 use Rattle.sig_types.specs.Arity.{reading_arity, command_arity}
-use Rattle.vap_ast.specs.Bytes.{same_name}
+use Rattle.std.specs.Str.{bytes_eq}
 use Rattle.vap_ast.specs.Syntax.{Expr, Exprs, Item, Items, Stmt, Routine, Constant, Array, Program}
-use Rattle.vap_ast.specs.Sizes.{expr_size, exprs_size}
+use Rattle.vap_ast.specs.Sizes.{own_size}
 use Rattle.vap_ast.specs.Sound.{count_arguments}
 use Rattle.vap_check.specs.declared.refusal.CheckWhy.TheVariants.{ConstTwice, NameKind, LabelTwice, NoLabel, SubTwice, NoSub, ArraySize, AssignConst, Arity, StatementTooLong}
 use Rattle.vap_check.specs.declared.refusal.Finding.{Finding}
@@ -48,17 +48,6 @@ assign_findings kind.Variable line = []
 
 -- ---- statements
 
--- the size of a statement without its branches
-abbrev pub own_size : Stmt → ℕ
-own_size (Stmt.Assign target value) = expr_size value + 2
-own_size (Stmt.Cell array index value) = expr_size index + expr_size value + 2
-own_size (Stmt.If test first second) = expr_size test + 3
-own_size (Stmt.Goto label) = 2
-own_size (Stmt.Gosub sub) = 3
-own_size (Stmt.Do kind args) = exprs_size args + 2
-own_size (Stmt.Timer kind timer) = 2
-own_size Stmt.Trace = 1
-
 -- where a name has the kind that `kind` tells
 module _ (kind : List ℕ → Kind) where
   abbrev mutual
@@ -85,7 +74,7 @@ module _ (kind : List ℕ → Kind) where
       stmt_findings line (Stmt.Cell array index value) =
           when (is_no_array (kind array)) line NameKind ++ (expr_findings line index ++ expr_findings line value)
       stmt_findings line (Stmt.If test first second) = expr_findings line test ++ (items_findings first ++ items_findings second)
-      stmt_findings line (Stmt.Goto label) = when (not (same_name label (codes "prog_ende") || labels label)) line NoLabel
+      stmt_findings line (Stmt.Goto label) = when (not (bytes_eq label (codes "prog_ende") || labels label)) line NoLabel
       stmt_findings line (Stmt.Gosub sub) = when (not (calls sub)) line NoSub
       stmt_findings line (Stmt.Do word args) =
           when (not (count_arguments args == command_arity word)) line Arity ++ exprs_findings line args
@@ -129,7 +118,7 @@ const_findings before (c ∷ cs) = when (among before c.name) c.line ConstTwice 
 -- the line of the first constant of this name
 abbrev pub const_line : List Constant → List ℕ → Option ℕ
 const_line [] name = None
-const_line (c ∷ cs) name = if same_name name c.name then Some c.line else const_line cs name
+const_line (c ∷ cs) name = if bytes_eq name c.name then Some c.line else const_line cs name
 
 -- An array with the name of a constant whose first declaration has this line: the later of the two is wrong.
 abbrev pub clash_findings : Option ℕ → ℕ → List Finding

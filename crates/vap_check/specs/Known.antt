@@ -2,7 +2,7 @@
 use Rattle.std.specs.Prelude.{◌≡◌, ℕ, Bool, true, false, ◌||◌, if◌then◌else◌, List, [], ◌∷◌, ◌++◌, map, filter, fold, Option}
 use Rattle.std.specs.Option.{option_map}
 use Rattle.std.specs.Map.{lookup}
-use Rattle.vap_ast.specs.Bytes.{same_name}
+use Rattle.std.specs.Str.{bytes_eq}
 use Rattle.vap_ast.specs.Syntax.{Constant, Program}
 use Rattle.vap_check.specs.declared.kinds.First.{First}
 use Rattle.vap_check.specs.declared.kinds.Kind.{Kind}
@@ -15,7 +15,7 @@ const_keys entries = map (λ e. e.0) entries
 
 -- the line of the first constant of a name
 abbrev pub line_in : List (List ℕ × First) → List ℕ → Option ℕ
-line_in entries name = option_map (λ f. f.line) (lookup (same_name name) entries)
+line_in entries name = option_map (λ f. f.line) (lookup (bytes_eq name) entries)
 
 -- these constants, and then this one unless its name is there
 abbrev pub with_const : List (List ℕ × First) → Constant → List (List ℕ × First)

@@ -9,3 +9,4 @@ pub mod Kept
 pub mod Judged
 pub mod Usable
 pub mod Is
+pub mod Passes

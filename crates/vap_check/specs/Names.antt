@@ -1,14 +1,14 @@
 -- The names that a program declares, its labels and the names that it uses.
 use Rattle.std.specs.Prelude.{ℕ, Bool, true, false, if◌then◌else◌, List, [], ◌∷◌, ◌++◌, map, filter, fold, flat_map}
 use Rattle.std.specs.List.{list_any}
-use Rattle.vap_ast.specs.Bytes.{same_name}
+use Rattle.std.specs.Str.{bytes_eq}
 use Rattle.vap_ast.specs.Syntax.{Expr, Exprs, Item, Items, Stmt, Program}
 use Rattle.vap_check.specs.declared.kinds.Kind.{Kind}
 use Rattle.vap_check.specs.declared.kinds.Kind.TheVariants as kind
 
 -- whether a name is one of these
 abbrev pub among : List (List ℕ) → List ℕ → Bool
-among names name = list_any (same_name name) names
+among names name = list_any (bytes_eq name) names
 
 -- these names, and then this one unless it is among them
 abbrev pub with_name : List (List ℕ) → List ℕ → List (List ℕ)

@@ -9,7 +9,7 @@ use Rattle.vap_ast.specs.Names.{meaning_in}
 use Rattle.vap_ast.specs.Sound.{count_arguments, IsSound, source_of, Low_items}
 use Rattle.vap_ast.specs.Syntax.{Expr, Exprs, Item, Items, Stmt, Program}
 use Rattle.vap_check.specs.Names.{variables, timers}
-use Rattle.vap_check.specs.Findings.{own_size}
+use Rattle.vap_ast.specs.Sizes.{own_size}
 use Rattle.vap_check.specs.Accepted.{cells, labels}
 use Rattle.vap_check.specs.Numbers.{names_of}
 

@@ -3,7 +3,6 @@ ghost use Rattle.std.specs.Prelude.{◌≡◌, ◌≤◌, length, position};
 ghost use Rattle.std.specs.Option.{option_map};
 ghost use Rattle.std.specs.Str.{bytes_eq};
 ghost use Rattle.vap_ast.specs.Names.{meaning_in};
-ghost use Rattle.vap_ast.specs.Rest.{first_some};
 ghost use Rattle.vap_ast.specs.declared.name.Meaning.TheVariants.{Array, Sub, Timer, Variable};
 ghost use Rattle.vap_check.specs.Numbers.{consts_in, entries};
 ghost use Rattle.vap_check.specs.Is.{IsChecked};
@@ -86,16 +85,6 @@ fn variable(names: &IndexSet<Name>, name: &Name) -> Option<Meaning>
     Some(Meaning::Variable(number))
 }
 
-// What was found first, if anything.
-fn first_some(first: Option<Meaning>, other: Option<Meaning>) -> Option<Meaning>
-    ensures { result ≡ first_some first other }
-{
-    match first {
-        Some(meaning) => Some(meaning),
-        None => other,
-    }
-}
-
 // What a name is among these constants, arrays, subroutines, timers and variables.
 #[tactic(auto, using(crate::proofs::Meanings::meaning_is))]
 fn meaning_among(
@@ -109,9 +98,9 @@ fn meaning_among(
     requires { (length arrays.now.keys ≤ 256) × (length subs.now.keys ≤ 256) × (length timers.now.keys ≤ 256) × (length variables.now.keys ≤ 256) }
     ensures { result ≡ meaning_in (entries (consts_in consts.now.entries) arrays.now.keys subs.now.keys timers.now.keys variables.now.keys) name.now }
 {
-    let used = first_some(timer(timers, name), variable(variables, name));
-    let declared = first_some(array(arrays, name), first_some(sub(subs, name), used));
-    first_some(constant(consts, name), declared)
+    let used = timer(timers, name).or(variable(variables, name));
+    let declared = array(arrays, name).or(sub(subs, name).or(used));
+    constant(consts, name).or(declared)
 }
 
 impl Checked {

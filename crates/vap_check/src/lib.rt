@@ -9,7 +9,6 @@ mod kinds;
 mod labels;
 mod limits;
 mod refusal;
-mod sizes;
 mod uses;
 
 ghost use Rattle.std.specs.Prelude.{◌≡◌, ℕ, IfOk, IfErr};
@@ -24,6 +23,7 @@ pub use checked::Checked;
 use judge::judge;
 pub use refusal::{CheckRefusal, CheckWhy, Which};
 use std::alloc::Global;
+pub use vap_ast::Meaning;
 use vap_ast::Program;
 
 /// A program has one first refusal at most, and none where it is accepted.

@@ -5,8 +5,7 @@ ghost use Rattle.vap_check.specs.Accepted as whole;
 ghost use Rattle.vap_check.specs.Names as names;
 
 use crate::refusal::Which;
-use crate::sizes::{items_size, plus};
-use vap_ast::{ArrayDecl, Item, Program, Routine, Stmt};
+use vap_ast::{ArrayDecl, Item, Program, Routine, Stmt, add_capped, items_size};
 
 // The cells of arrays, counted up to 65,536.
 #[tactic(auto, using(crate::proofs::Sums::length_on))]
@@ -15,7 +14,7 @@ fn cells(arrays: &[ArrayDecl]) -> usize
 {
     let mut total = 0;
     for array in arrays {
-        total = plus(total, array.values.len().min(65536));
+        total = add_capped(total, array.values.len().min(65536));
     }
     total
 }
@@ -38,7 +37,7 @@ fn stmt_labels(what: &Stmt) -> usize
     ensures { result ≡ min (length (names.stmt_labels (stmt_of what.now))) 65536 }
 {
     match what {
-        Stmt::If { yes, no, .. } => plus(items_labels(&yes.0), items_labels(&no.0)),
+        Stmt::If { yes, no, .. } => add_capped(items_labels(&yes.0), items_labels(&no.0)),
         _ => 0,
     }
 }
@@ -50,7 +49,7 @@ fn items_labels(items: &[Item]) -> usize
 {
     let mut total = 0;
     for item in items {
-        total = plus(total, item_labels(item));
+        total = add_capped(total, item_labels(item));
     }
     total
 }
@@ -61,7 +60,7 @@ fn subs_labels(subs: &[Routine]) -> usize
 {
     let mut total = 0;
     for sub in subs {
-        total = plus(total, items_labels(&sub.body.0));
+        total = add_capped(total, items_labels(&sub.body.0));
     }
     total
 }
@@ -71,7 +70,7 @@ fn subs_labels(subs: &[Routine]) -> usize
 fn labels(program: &Program) -> usize
     ensures { result ≡ min (whole.labels (program_of program.now)) 65536 }
 {
-    plus(
+    add_capped(
         subs_labels(&program.subs),
         items_labels(&program.main.body.0),
     )
@@ -82,7 +81,7 @@ fn subs_size(subs: &[Routine]) -> usize
 {
     let mut total = 0;
     for sub in subs {
-        total = plus(total, plus(items_size(&sub.body.0), 1));
+        total = add_capped(total, add_capped(items_size(&sub.body.0), 1));
     }
     total
 }
@@ -92,9 +91,9 @@ fn subs_size(subs: &[Routine]) -> usize
 pub fn program_size(program: &Program) -> usize
     ensures { result ≡ min (whole.program_size (program_of program.now)) 65536 }
 {
-    plus(
+    add_capped(
         subs_size(&program.subs),
-        plus(items_size(&program.main.body.0), 1),
+        add_capped(items_size(&program.main.body.0), 1),
     )
 }
 

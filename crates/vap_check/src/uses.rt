@@ -10,10 +10,9 @@ ghost use Rattle.vap_check.specs.Scope as scoped;
 
 use crate::kinds::{Kind, Known, has};
 use crate::refusal::{CheckWhy, Finding, found, found_if};
-use crate::sizes::own_size;
 use indexmap::IndexSet;
 use sig_types::{CommandKind, ReadingKind};
-use vap_ast::{Expr, Item, Name, Stmt};
+use vap_ast::{Expr, Item, Name, Stmt, own_size};
 
 /// What a statement's routine knows: the names of the program, the subroutines above the routine, and its labels.
 #[derive(Drop)]

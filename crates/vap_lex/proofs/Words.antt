@@ -4,7 +4,8 @@ use Rattle.std.specs.Prelude.{slice_index}
 use Rattle.std.specs.List.{AllPass, prefix_len}
 use Rattle.std.proofs.lemmas.List.{length-take, get_or-take}
 use Rattle.std.proofs.lemmas.List.Sums.{prefix_len_passes}
-use Rattle.vap_ast.specs.Name.{is_letter, is_word_byte, IsWord}
+use Rattle.sig_types.specs.Text.{is_letter}
+use Rattle.vap_ast.specs.Name.{is_word_byte, IsWord}
 use Rattle.vap_lex.specs.Piece.{run_len}
 
 run_passes : (p : ℕ → Bool) (bytes : List ℕ) → AllPass p (take (run_len p bytes) bytes)

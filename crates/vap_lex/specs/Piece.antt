@@ -1,7 +1,8 @@
 -- What stands at the front of a text.
 use Rattle.std.specs.Prelude.{pos, ℕ, ◌+◌, ◌-◌, ◌*◌, Bool, false, ◌||◌, ◌&&◌, if◌then◌else◌, ◌==◌, nat_le, List, [], ◌∷◌, length, take, drop, fold, slice_index, take_while, Option, Some, None, Result, Ok, Err}
 use Rattle.std.specs.Option.{option_map}
-use Rattle.vap_ast.specs.Name.{is_letter, is_digit, is_word_byte}
+use Rattle.sig_types.specs.Text.{is_digit, is_letter}
+use Rattle.vap_ast.specs.Name.{is_word_byte}
 use Rattle.vap_lex.specs.declared.piece.LexWhy.{LexWhy}
 use Rattle.vap_lex.specs.declared.piece.LexWhy.TheVariants.{Byte, OpenComment, Decimal, NumberRange}
 use Rattle.vap_lex.specs.declared.piece.Piece.{Piece}

@@ -1,10 +1,10 @@
 //! The tokens of a program's text.
 #![tactic(auto)]
 
-pub mod piece;
-pub mod scan;
-pub mod token;
+mod piece;
+mod scan;
+mod token;
 
 pub use piece::LexWhy;
-pub use scan::{LexRefusal, tokens};
+pub use scan::{LexRefusal, one_answer, tokens};
 pub use token::{Sign, Token, TokenKind, Tokens};

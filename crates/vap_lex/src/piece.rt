@@ -1,12 +1,13 @@
 // What stands at the front of a text.
 ghost use Rattle.std.specs.Prelude.{◌≡◌, ◌<◌, ◌≤◌, ◌^◌, length, take, IfOk, IfSome};
-ghost use Rattle.vap_ast.specs.Name as name;
-ghost use Rattle.vap_ast.specs.Name.{IsWord};
+ghost use Rattle.sig_types.specs.Text.{is_digit};
+ghost use Rattle.vap_ast.specs.Name.{is_word_byte, IsWord};
 ghost use Rattle.vap_lex.specs.Piece as spec;
 ghost use Rattle.vap_lex.specs.Piece.{IsNumbered};
 ghost use Rattle.vap_lex.specs.declared.piece.Piece.TheVariants.{Word};
 
 use crate::token::Sign;
+use sig_types::text::{is_digit, is_letter};
 
 /// Why a text has no token at a place.
 #[derive(Clone, Copy, Debug, PartialEq, Eq)]
@@ -39,33 +40,21 @@ fn is_blank(b: u8) -> bool
     b == b' ' || b == b'\t' || b == b'\r' || b == b'\n'
 }
 
-fn is_letter(b: u8) -> bool
-    ensures { result ≡ name.is_letter b }
-{
-    (b >= b'a' && b <= b'z') || (b >= b'A' && b <= b'Z') || b == b'_'
-}
-
-fn is_digit(b: u8) -> bool
-    ensures { result ≡ name.is_digit b }
-{
-    b >= b'0' && b <= b'9'
-}
-
 fn is_word_byte(b: u8) -> bool
-    ensures { result ≡ name.is_word_byte b }
+    ensures { result ≡ is_word_byte b }
 {
     is_letter(b) || is_digit(b)
 }
 
 fn word_len(bytes: &[u8]) -> usize
-    ensures len { result ≡ spec.run_len name.is_word_byte bytes.now }
+    ensures len { result ≡ spec.run_len is_word_byte bytes.now }
     ensures within { result ≤ length bytes.now }
 {
     bytes.iter().take_while(|b| is_word_byte(**b)).count()
 }
 
 fn digits_len(bytes: &[u8]) -> usize
-    ensures len { result ≡ spec.run_len name.is_digit bytes.now }
+    ensures len { result ≡ spec.run_len is_digit bytes.now }
     ensures within { result ≤ length bytes.now }
 {
     bytes.iter().take_while(|b| is_digit(**b)).count()

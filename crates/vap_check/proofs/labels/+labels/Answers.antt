@@ -1,6 +1,6 @@
 use Rattle.std.proofs.Common.{rules, ◌∙◌, sym, ap, drop, map, ◌+◌}
 use Rattle.vap_ast.specs.Tree.{item_of, items_of}
-use Rattle.vap_ast.specs.Shape.{items_at}
+use Rattle.vap_ast.proofs.Shape.{items_at}
 use Rattle.vap_ast.specs.declared.tree.Item.TheFolds.{the_lemmas}
 use Rattle.vap_check.specs.Found.{first_of_all}
 use Rattle.vap_check.specs.Findings.{label_findings}

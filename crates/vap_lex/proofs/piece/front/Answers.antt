@@ -1,6 +1,6 @@
 use Rattle.std.proofs.Common.{◌≡◌, sym, ap, ◌∙◌, true}
 use Rattle.std.specs.Prelude.{slice_index}
-use Rattle.vap_ast.specs.Name.{is_letter}
+use Rattle.sig_types.specs.Text.{is_letter}
 use Rattle.vap_lex.proofs.Words.{word_is}
 use Rattle.vap_lex.proofs.piece.front.Goals as goal
 
