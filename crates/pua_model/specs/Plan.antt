@@ -8,7 +8,7 @@ use Rattle.sig_types.specs.Text.{is_name, same_name}
 use Rattle.pua_model.specs.Wish.{wished_by, leads}
 
 -- an interstage: its stages, its length in seconds, and for each group its red end and its green end where it has a row
-pub record Way : Type 0 where
+pub record InterstageOf : Type 0 where
   pub from : ℕ
   pub to : ℕ
   pub length : ℕ
@@ -22,10 +22,10 @@ pub record PlanOf : Type 0 where
   pub stage_names : List (List ℕ)
   pub stages : List (List Bool)
   pub start : ℕ
-  pub ways : List Way
+  pub interstages : List InterstageOf
 
-abbrev pub no_way : Way
-no_way = record { from = 0; to = 0; length = 0; rows = [] }
+abbrev pub no_interstage : InterstageOf
+no_interstage = record { from = 0; to = 0; length = 0; rows = [] }
 
 abbrev pub groups_in : PlanOf → ℕ
 groups_in p = length p.names
@@ -39,31 +39,31 @@ abbrev pub in_stage : PlanOf → ℕ → ℕ → Bool
 in_stage p s g = slice_index_or (slice_index_or p.stages (s - 1) []) g false
 
 -- the interstage leads from the one stage to the other
-abbrev pub joins : ℕ → ℕ → Way → Bool
+abbrev pub joins : ℕ → ℕ → InterstageOf → Bool
 joins a b w = (w.from == a) && (w.to == b)
 
 -- the number of the interstage of a pair of stages
-abbrev pub way_between : PlanOf → ℕ → ℕ → Option ℕ
-way_between p a b = position (joins a b) p.ways
+abbrev pub interstage_between : PlanOf → ℕ → ℕ → Option ℕ
+interstage_between p a b = position (joins a b) p.interstages
 
-abbrev pub way_at : PlanOf → ℕ → Way
-way_at p i = slice_index_or p.ways i no_way
+abbrev pub interstage_at : PlanOf → ℕ → InterstageOf
+interstage_at p i = slice_index_or p.interstages i no_interstage
 
 abbrev pub length_at : PlanOf → Option ℕ → Option ℕ
 length_at p None = None
-length_at p (Some i) = Some (way_at p i).length
+length_at p (Some i) = Some (interstage_at p i).length
 
 -- the length of the interstage of a pair of stages
 abbrev pub length_between : PlanOf → ℕ → ℕ → Option ℕ
-length_between p a b = length_at p (way_between p a b)
+length_between p a b = length_at p (interstage_between p a b)
 
 -- the row of a group in an interstage
 abbrev pub row_at : PlanOf → ℕ → ℕ → Option (ℤ × ℤ)
-row_at p i g = slice_index_or (way_at p i).rows g None
+row_at p i g = slice_index_or (interstage_at p i).rows g None
 
 -- the wish of a group in second t of an interstage
 abbrev pub wish_in : PlanOf → ℕ → ℕ → ℕ → Bool
-wish_in p i t g = wished_by (row_at p i g) (pos t) (in_stage p (way_at p i).from g)
+wish_in p i t g = wished_by (row_at p i g) (pos t) (in_stage p (interstage_at p i).from g)
 
 -- the group with this number, and the group with this name in any case
 abbrev pub group_with : PlanOf → ℕ → Option ℕ
@@ -121,18 +121,18 @@ is_row None = true
 is_row (Some row) = is_end row.0 && is_end row.1
 
 -- no two interstages are of one pair of stages
-abbrev pub has_pair : ℕ → ℕ → List Way → Bool
+abbrev pub has_pair : ℕ → ℕ → List InterstageOf → Bool
 has_pair a b [] = false
 has_pair a b (w ∷ ws) = joins a b w || has_pair a b ws
 
-abbrev pub are_pairs_apart : List Way → Bool
+abbrev pub are_pairs_apart : List InterstageOf → Bool
 are_pairs_apart [] = true
 are_pairs_apart (w ∷ ws) = not (has_pair w.from w.to ws) && are_pairs_apart ws
 
 -- an interstage of a plan
-pub record IsWay (p : PlanOf) (w : Way) : Type 0 where
-  pub some : 1 ≤ w.length
-  pub few : w.length ≤ 126
+pub record IsInterstageOf (p : PlanOf) (w : InterstageOf) : Type 0 where
+  pub at_least : 1 ≤ w.length
+  pub at_most : w.length ≤ 126
   pub from : HasStage p w.from
   pub to : HasStage p w.to
   pub apart : (w.from == w.to) ≡ false
@@ -143,18 +143,18 @@ pub record IsWay (p : PlanOf) (w : Way) : Type 0 where
 
 -- what a plan keeps
 pub record IsPlan (p : PlanOf) : Type 0 where
-  pub some_groups : 1 ≤ length p.names
-  pub few_groups : length p.names ≤ 64
+  pub has_groups : 1 ≤ length p.names
+  pub groups_at_most : length p.names ≤ 64
   pub numbered : length p.numbers ≡ length p.names
   pub names : are_names p.names ≡ true
   pub apart : are_apart p.names ≡ true
   pub rising : is_above 0 p.numbers ≡ true
-  pub few_stages : length p.stages ≤ 32
+  pub stages_at_most : length p.stages ≤ 32
   pub named_stages : length p.stage_names ≡ length p.stages
   pub stages : (s : ℕ) → s < length p.stages → length (slice_index_or p.stages s []) ≡ length p.names
   pub stage_names : are_names p.stage_names ≡ true
   pub stages_apart : are_apart p.stage_names ≡ true
   pub start : HasStage p p.start
-  pub few_ways : length p.ways ≤ 256
-  pub pairs_apart : are_pairs_apart p.ways ≡ true
-  pub ways : (i : ℕ) → i < length p.ways → IsWay p (way_at p i)
+  pub interstages_at_most : length p.interstages ≤ 256
+  pub pairs_apart : are_pairs_apart p.interstages ≡ true
+  pub interstages : (i : ℕ) → i < length p.interstages → IsInterstageOf p (interstage_at p i)

@@ -27,9 +27,10 @@ pub fn place_named(groups: &[Group], name: &[u8]) -> Option<usize>
 }
 
 // The place of the interstage of the pair.
-pub(crate) fn place_between(ways: &[Interstage], a: StageNo, b: StageNo) -> Option<usize>
-    ensures { result ≡ position (joins a.0 b.0) ways.now }
+pub(crate) fn place_between(interstages: &[Interstage], a: StageNo, b: StageNo) -> Option<usize>
+    ensures { result ≡ position (joins a.0 b.0) interstages.now }
 {
-    ways.iter()
-        .position(|way| way.from_stage() == a && way.to_stage() == b)
+    interstages
+        .iter()
+        .position(|each| each.from_stage() == a && each.to_stage() == b)
 }

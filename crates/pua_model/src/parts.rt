@@ -28,9 +28,9 @@ pub struct Interstage {
 }
 
 impl Model for Interstage {
-    ghost use Rattle.pua_model.specs.Plan.{Way};
+    ghost use Rattle.pua_model.specs.Plan.{InterstageOf};
 
-    ghost Value = { Way };
+    ghost Value = { InterstageOf };
 
     ghost view = { λ i. record { from = i.from.0; to = i.to.0; length = i.length; rows = i.rows.items } };
 }

@@ -1,6 +1,6 @@
 // A plan and what it answers.
 ghost use Rattle.std.specs.Prelude.{◌≡◌, ◌≤◌, ◌<◌, length, pos, Some, None, Option, IfSome, ℕ, slice_index_or, []};
-ghost use Rattle.pua_model.specs.Plan.{PlanOf, IsPlan, HasStage, groups_in, in_stage, way_between, way_at, wish_in, group_of, group_named, stage_of, group_number, stage_number, inter_number};
+ghost use Rattle.pua_model.specs.Plan.{PlanOf, IsPlan, HasStage, groups_in, in_stage, interstage_between, interstage_at, wish_in, group_of, group_named, stage_of, group_number, stage_number, inter_number};
 ghost use Rattle.pua_model.specs.Parts.{plan_of};
 
 use crate::finds::{place_between, place_named, place_numbered};
@@ -53,8 +53,8 @@ impl Plan {
     /// The number of signal groups, 1 to 64.
     pub fn groups(&self) -> u8
         ensures count { result ≡ groups_in self.now }
-        ensures some { 1 ≤ result }
-        ensures few { result ≤ 64 }
+        ensures at_least { 1 ≤ result }
+        ensures at_most { result ≤ 64 }
         ensures plan { IsPlan self.now }
     {
         self.groups.len() as u8
@@ -63,8 +63,8 @@ impl Plan {
     /// The number of stages, 1 to 32. They are numbered from 1 in the order of the file.
     pub fn stages(&self) -> u8
         ensures count { result ≡ length self.now.stages }
-        ensures some { 1 ≤ result }
-        ensures few { result ≤ 32 }
+        ensures at_least { 1 ≤ result }
+        ensures at_most { result ≤ 32 }
     {
         self.stages.len() as u8
     }
@@ -81,8 +81,8 @@ impl Plan {
     pub fn group_name(&self, g: GroupNo) -> &str
         requires { g.0 < groups_in self.now }
         ensures name { result.now ≡ slice_index_or self.now.names g.0 [] }
-        ensures some { 1 ≤ length result.now }
-        ensures few { length result.now ≤ 32 }
+        ensures not_empty { 1 ≤ length result.now }
+        ensures at_most { length result.now ≤ 32 }
     {
         let group = &self.groups[g.0 as usize];
         match str::from_utf8(group.name.bytes()) {
@@ -141,9 +141,9 @@ impl Plan {
 
     /// The interstage from stage `a` to stage `b`; None where the plan has none.
     pub fn interstage(&self, a: StageNo, b: StageNo) -> Option<InterNo>
-        ensures found { inter_number result ≡ way_between self.now a.0 b.0 }
-        ensures none { result ≡ None → way_between self.now a.0 b.0 ≡ None }
-        ensures some { IfSome result (λ i. (way_between self.now a.0 b.0 ≡ Some i.0) × (i.0 < length self.now.ways)) }
+        ensures found { inter_number result ≡ interstage_between self.now a.0 b.0 }
+        ensures none { result ≡ None → interstage_between self.now a.0 b.0 ≡ None }
+        ensures inside { IfSome result (λ i. (interstage_between self.now a.0 b.0 ≡ Some i.0) × (i.0 < length self.now.interstages)) }
     {
         match place_between(&self.interstages, a, b) {
             Some(place) => Some(InterNo(place as u16)),
@@ -153,43 +153,43 @@ impl Plan {
 
     /// The number of interstages, at most 256. They are numbered from 0 in the order of the file.
     pub fn interstages(&self) -> u16
-        ensures count { result ≡ length self.now.ways }
-        ensures few { result ≤ 256 }
+        ensures count { result ≡ length self.now.interstages }
+        ensures at_most { result ≤ 256 }
     {
         self.interstages.len() as u16
     }
 
     /// The stage from which an interstage leads, and the stage to which it leads.
     pub fn ends(&self, i: InterNo) -> (StageNo, StageNo)
-        requires { i.0 < length self.now.ways }
-        ensures from { result.0.0 ≡ (way_at self.now i.0).from }
-        ensures to { result.1.0 ≡ (way_at self.now i.0).to }
+        requires { i.0 < length self.now.interstages }
+        ensures from { result.0.0 ≡ (interstage_at self.now i.0).from }
+        ensures to { result.1.0 ≡ (interstage_at self.now i.0).to }
         ensures from_stage { HasStage self.now result.0.0 }
         ensures to_stage { HasStage self.now result.1.0 }
     {
-        let way = &self.interstages[i.0 as usize];
-        (way.from_stage(), way.to_stage())
+        let interstage = &self.interstages[i.0 as usize];
+        (interstage.from_stage(), interstage.to_stage())
     }
 
     /// The length of an interstage in seconds, 1 to 126.
     pub fn length(&self, i: InterNo) -> u8
-        requires { i.0 < length self.now.ways }
-        ensures length { result ≡ (way_at self.now i.0).length }
-        ensures some { 1 ≤ result }
-        ensures few { result ≤ 126 }
+        requires { i.0 < length self.now.interstages }
+        ensures length { result ≡ (interstage_at self.now i.0).length }
+        ensures at_least { 1 ≤ result }
+        ensures at_most { result ≤ 126 }
     {
         self.interstages[i.0 as usize].seconds()
     }
 
     /// Whether the group is wished green in second `t` of an interstage, its first being second 0.
     pub fn wish(&self, i: InterNo, t: u8, g: GroupNo) -> bool
-        requires way { i.0 < length self.now.ways }
-        requires second { t < (way_at self.now i.0).length }
+        requires interstage { i.0 < length self.now.interstages }
+        requires second { t < (interstage_at self.now i.0).length }
         requires group { g.0 < groups_in self.now }
         ensures { result ≡ wish_in self.now i.0 t g.0 }
     {
-        let way = &self.interstages[i.0 as usize];
-        let before = self.in_stage(way.from_stage(), g);
-        wished(way.row(g), i16::from(t), before)
+        let interstage = &self.interstages[i.0 as usize];
+        let before = self.in_stage(interstage.from_stage(), g);
+        wished(interstage.row(g), i16::from(t), before)
     }
 }

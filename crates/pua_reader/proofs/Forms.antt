@@ -7,7 +7,7 @@ use Rattle.pua_reader.specs.declared.form.Form.{Form}
 use Rattle.pua_reader.specs.declared.form.Form.TheVariants as form
 use Rattle.pua_reader.specs.Words.{Text, signed_of}
 use Rattle.pua_reader.specs.Stages.{is_stage_word}
-use Rattle.pua_reader.specs.Ways.{form_of, form_of_two, form_of_three, stage_form, word, last_word}
+use Rattle.pua_reader.specs.Interstages.{form_of, form_of_two, form_of_three, stage_form, word, last_word}
 
 -- a key has a value, its last word, and a group's row has its ends
 abbrev pub FormIs : Form → List Text → Type 0

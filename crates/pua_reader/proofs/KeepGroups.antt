@@ -136,7 +136,7 @@ with_row groups None named legal none = absurd (refuses_none groups none)
 with_row groups (Some g) named legal none =
     let fit = accepted groups g none in
     record {
-      few = omega (arith, length_put g groups, fit.room);
+      at_most = omega (arith, length_put g groups, fit.room);
       names = names_put g groups (named g refl) legal.names;
       apart = apart_put g groups fit.free legal.apart;
       rising = above_put 0 g groups (omega (arith, fit.least)) fit.most fit.unused legal.rising;

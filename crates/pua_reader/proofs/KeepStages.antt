@@ -59,7 +59,7 @@ one_stage_more groups stages name named legal fits =
     let new : Stage = record { name = name; greens = greens_of groups named } in
     let split : map (λ (s : Stage). s.name) (stages ++ new ∷ []) ≡ map (λ (s : Stage). s.name) stages ++ name ∷ [] = map-append (λ (s : Stage). s.name) stages (new ∷ []) in
     record {
-      few = omega (arith, length_push stages new, fits.room);
+      at_most = omega (arith, length_push stages new, fits.room);
       names = rw split (names_push (map (λ s. s.name) stages) name legal.names fits.is);
       apart = rw split (apart_push (map (λ s. s.name) stages) name legal.apart (stage_name_free stages name fits.free));
       greens = λ i lt. elim (cases_lt i (length stages)) [

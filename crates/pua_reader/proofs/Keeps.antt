@@ -1,4 +1,4 @@
--- A line that is not refused leaves what was gathered legal, and a file that ends well has a plan.
+-- A line that is not refused leaves the draft legal, and a file that ends well has a plan.
 use Rattle.std.proofs.Common.{◌≡◌, ℕ, suc, zero, ◌-◌, ◌≤◌, ◌==◌, Bool, true, false, not, ◌&&◌, ◌||◌, List, [], ◌∷◌, length, get_or, map, refl, sym, ap, subst, ◌∙◌, arith, Option, Some, None, if◌then◌else◌, nat_le, is_some, is_none}
 use Rattle.std.specs.Prelude.{IfSome}
 use Rattle.std.proofs.lemmas.Bool.{or_parts, leb-false}
@@ -6,7 +6,7 @@ use Rattle.std.proofs.lemmas.List.{length-map}
 use Rattle.sig_types.specs.declared.numbers.StageNo.{StageNo}
 use Rattle.pua_model.specs.declared.parts.Group.{Group}
 use Rattle.pua_model.specs.declared.parts.Stage.{Stage}
-use Rattle.pua_model.specs.Plan.{Way, IsPlan, IsWay, no_way}
+use Rattle.pua_model.specs.Plan.{InterstageOf, IsPlan, IsInterstageOf, no_interstage}
 use Rattle.pua_model.specs.Parts.{plan_of}
 use Rattle.pua_reader.specs.declared.refusal.PuaWhy.{PuaWhy}
 use Rattle.pua_reader.specs.declared.section.Section.{Section}
@@ -17,63 +17,63 @@ use Rattle.pua_reader.specs.Words.{Text, words, kind_of, may_follow, is_text}
 use Rattle.pua_reader.specs.Rules.{at_line}
 use Rattle.pua_reader.specs.Groups.{group_why, groups_with}
 use Rattle.pua_reader.specs.Stages.{stage_row_why, stages_with, is_stage_row, start_with}
-use Rattle.pua_reader.specs.Ways.{opened, way_row_why, opened_with, way_of, way_reasons, ways_with}
-use Rattle.pua_reader.specs.Gathered.{Gathered, nothing, row_why, row_why_in, row_added, row_added_in, is_interstage, end_of_way, closed, section_why, begun, counted, why_of_kind, added_of_kind, is_over, line_why, line_added, lacks}
+use Rattle.pua_reader.specs.Interstages.{open_at, interstage_row_why, open_after, interstage_of, interstage_reasons, interstages_with}
+use Rattle.pua_reader.specs.PlanDraft.{PlanDraftOf, empty_draft, row_why, row_why_in, after_row, after_row_in, is_interstage, interstage_end_why, after_section_end, section_why, after_section_line, at_next_line, kind_why, after_kind, is_over, line_why, after_line, lacks}
 use Rattle.pua_reader.specs.Accepted.{plan_in, start_number}
-use Rattle.pua_reader.specs.Legal.{AreGroups, AreStages, IsStage, Leads, AreWays, rank, Legal}
+use Rattle.pua_reader.specs.Legal.{AreGroups, AreStages, IsStage, Leads, AreInterstages, rank, Legal}
 use Rattle.pua_reader.proofs.Small.{none_first, none_next, not_true}
 use Rattle.pua_reader.proofs.KeepGroups.{groups_keep}
 use Rattle.pua_reader.proofs.KeepStages.{stages_keep, stages_grow, still_stage, start_is}
-use Rattle.pua_reader.proofs.KeepWays.{open_keeps, open_begins, one_way_more, whole_way}
+use Rattle.pua_reader.proofs.KeepInterstages.{open_keeps, open_begins, one_interstage_more, whole_interstage}
 
-no_ways_legal : (n : ℕ) (stages : List Stage) (ways : List Way) → ways ≡ [] → AreWays n stages ways
-no_ways_legal n stages [] e = record { few = omega arith; apart = refl; each = λ i lt. absurd (omega arith) }
-no_ways_legal n stages (w ∷ ws) e = absurd (cc)
+no_interstages_legal : (n : ℕ) (stages : List Stage) (interstages : List InterstageOf) → interstages ≡ [] → AreInterstages n stages interstages
+no_interstages_legal n stages [] e = record { at_most = omega arith; apart = refl; each = λ i lt. absurd (omega arith) }
+no_interstages_legal n stages (w ∷ ws) e = absurd (cc)
 
 no_stages_legal : (n : ℕ) (stages : List Stage) → stages ≡ [] → AreStages n stages
-no_stages_legal n [] e = record { few = omega arith; names = refl; apart = refl; greens = λ i lt. absurd (omega arith) }
+no_stages_legal n [] e = record { at_most = omega arith; names = refl; apart = refl; greens = λ i lt. absurd (omega arith) }
 no_stages_legal n (s ∷ ss) e = absurd (cc)
 
-pub nothing_legal : Legal nothing
-nothing_legal = record {
-  groups = record { few = omega arith; names = refl; apart = refl; rising = refl };
+pub empty_draft_legal : Legal empty_draft
+empty_draft_legal = record {
+  groups = record { at_most = omega arith; names = refl; apart = refl; rising = refl };
   stages = no_stages_legal 0 [] refl;
   start = tt;
-  ways = no_ways_legal 0 [] [] refl;
+  interstages = no_interstages_legal 0 [] [] refl;
   no_stages = λ le. refl;
-  no_ways = λ le. refl;
+  no_interstages = λ le. refl;
   current = λ e. absurd (omega arith);
   room = λ e. absurd (omega arith);
 }
 
-counted_legal : (g : Gathered) → Legal g → Legal (counted g)
-counted_legal g legal = record {
+next_line_legal : (g : PlanDraftOf) → Legal g → Legal (at_next_line g)
+next_line_legal g legal = record {
   groups = legal.groups;
   stages = legal.stages;
   start = legal.start;
-  ways = legal.ways;
+  interstages = legal.interstages;
   no_stages = legal.no_stages;
-  no_ways = legal.no_ways;
+  no_interstages = legal.no_interstages;
   current = legal.current;
   room = legal.room;
 }
 
 -- a row, by the section in which it stands
-group_row_legal : (g : Gathered) (ws : List Text) → g.section ≡ section.Groups → Legal g → group_why g.groups ws ≡ None → Legal (record g { groups = groups_with g.groups ws })
+group_row_legal : (g : PlanDraftOf) (ws : List Text) → g.section ≡ section.Groups → Legal g → group_why g.groups ws ≡ None → Legal (record g { groups = groups_with g.groups ws })
 group_row_legal g ws here legal none =
     let early : rank g.section ≡ 1 = ap rank here in
     record {
       groups = groups_keep g.groups ws legal.groups none;
       stages = no_stages_legal (length (groups_with g.groups ws)) g.stages (legal.no_stages (omega (arith, early)));
       start = legal.start;
-      ways = no_ways_legal (length (groups_with g.groups ws)) g.stages g.ways (legal.no_ways (omega (arith, early)));
+      interstages = no_interstages_legal (length (groups_with g.groups ws)) g.stages g.interstages (legal.no_interstages (omega (arith, early)));
       no_stages = legal.no_stages;
-      no_ways = legal.no_ways;
+      no_interstages = legal.no_interstages;
       current = λ e. absurd (omega (arith, early, e));
       room = legal.room;
     }
 
-stage_row_legal : (g : Gathered) (ws : List Text) → g.section ≡ section.Stages → Legal g → stage_row_why g.groups g.stages g.after_stage ws ≡ None →
+stage_row_legal : (g : PlanDraftOf) (ws : List Text) → g.section ≡ section.Stages → Legal g → stage_row_why g.groups g.stages g.after_stage ws ≡ None →
     Legal (record g { stages = stages_with g.groups g.stages ws; after_stage = is_stage_row ws })
 stage_row_legal g ws here legal none =
     let second : rank g.section ≡ 2 = ap rank here in
@@ -81,72 +81,72 @@ stage_row_legal g ws here legal none =
       groups = legal.groups;
       stages = stages_keep g.groups g.stages g.after_stage ws legal.stages none;
       start = still_stage g.stages (stages_with g.groups g.stages ws) g.start (stages_grow g.groups g.stages ws) legal.start;
-      ways = no_ways_legal (length g.groups) (stages_with g.groups g.stages ws) g.ways (legal.no_ways (omega (arith, second)));
+      interstages = no_interstages_legal (length g.groups) (stages_with g.groups g.stages ws) g.interstages (legal.no_interstages (omega (arith, second)));
       no_stages = λ le. absurd (omega (arith, second, le));
-      no_ways = legal.no_ways;
+      no_interstages = legal.no_interstages;
       current = λ e. absurd (omega (arith, second, e));
       room = legal.room;
     }
 
-start_row_legal : (g : Gathered) (ws : List Text) → Legal g → Legal (record g { start = start_with g.stages ws })
+start_row_legal : (g : PlanDraftOf) (ws : List Text) → Legal g → Legal (record g { start = start_with g.stages ws })
 start_row_legal g ws legal = record {
   groups = legal.groups;
   stages = legal.stages;
   start = start_is g.stages ws;
-  ways = legal.ways;
+  interstages = legal.interstages;
   no_stages = legal.no_stages;
-  no_ways = legal.no_ways;
+  no_interstages = legal.no_interstages;
   current = legal.current;
   room = legal.room;
 }
 
-way_row_legal : (g : Gathered) (ws : List Text) → g.section ≡ section.Interstage → Legal g → way_row_why g.groups g.stages g.current ws ≡ None →
-    Legal (record g { current = opened_with g.groups g.stages g.current ws })
-way_row_legal g ws here legal none =
+interstage_row_legal : (g : PlanDraftOf) (ws : List Text) → g.section ≡ section.Interstage → Legal g → interstage_row_why g.groups g.stages g.current ws ≡ None →
+    Legal (record g { current = open_after g.groups g.stages g.current ws })
+interstage_row_legal g ws here legal none =
     let fourth : rank g.section ≡ 4 = ap rank here in
     record {
       groups = legal.groups;
       stages = legal.stages;
       start = legal.start;
-      ways = legal.ways;
+      interstages = legal.interstages;
       no_stages = legal.no_stages;
-      no_ways = legal.no_ways;
+      no_interstages = legal.no_interstages;
       current = λ e. open_keeps g.groups g.stages g.current ws (legal.current fourth) none;
       room = legal.room;
     }
 
-row_in_legal : (s : Section) (g : Gathered) (line : Text) → g.section ≡ s → Legal g → row_why_in s g line ≡ None → Legal (row_added_in s g line)
+row_in_legal : (s : Section) (g : PlanDraftOf) (line : Text) → g.section ≡ s → Legal g → row_why_in s g line ≡ None → Legal (after_row_in s g line)
 row_in_legal section.Before g line here legal none = legal
 row_in_legal section.Groups g line here legal none = group_row_legal g (words false line) here legal none
 row_in_legal section.Stages g line here legal none = stage_row_legal g (words false line) here legal none
 row_in_legal section.Start g line here legal none = start_row_legal g (words false line) legal
-row_in_legal section.Interstage g line here legal none = way_row_legal g (words true line) here legal none
+row_in_legal section.Interstage g line here legal none = interstage_row_legal g (words true line) here legal none
 row_in_legal section.End g line here legal none = legal
 
-row_legal : (g : Gathered) (line : Text) → Legal g → row_why g line ≡ None → Legal (row_added g line)
-unfolding row_why row_added
+row_legal : (g : PlanDraftOf) (line : Text) → Legal g → row_why g line ≡ None → Legal (after_row g line)
+unfolding row_why after_row
 row_legal g line legal none =
     let one = none_first (not (is_text line)) _ _ none in
     row_in_legal g.section g line refl legal (none_next (row_why_in g.section g line) None one.1).0
 
 -- what the end of a section leaves, whatever section is begun next
-record IsClosed (g h : Gathered) : Type 0 where
+record IsClosed (g h : PlanDraftOf) : Type 0 where
   pub section : h.section ≡ g.section
   pub groups : h.groups ≡ g.groups
   pub stages : h.stages ≡ g.stages
   pub start : h.start ≡ g.start
-  pub ways : AreWays (length h.groups) h.stages h.ways
-  pub same : rank g.section ≤ 3 → h.ways ≡ g.ways
+  pub interstages : AreInterstages (length h.groups) h.stages h.interstages
+  pub same : rank g.section ≤ 3 → h.interstages ≡ g.interstages
 
 at_none : (n : ℕ) (o : Option PuaWhy) → at_line n o ≡ None → o ≡ None
 at_none n None e = refl
 at_none n (Some why) e = cc
 
-whole_of : (g : Gathered) (o : Option Way) → way_of g.current ≡ o → Legal g → rank g.section ≡ 4 → way_reasons g.groups g.stages g.ways o ≡ None →
-    AreWays (length g.groups) g.stages (ways_with g.ways o)
-whole_of g None is legal fourth none = legal.ways
+whole_of : (g : PlanDraftOf) (o : Option InterstageOf) → interstage_of g.current ≡ o → Legal g → rank g.section ≡ 4 → interstage_reasons g.groups g.stages g.interstages o ≡ None →
+    AreInterstages (length g.groups) g.stages (interstages_with g.interstages o)
+whole_of g None is legal fourth none = legal.interstages
 whole_of g (Some w) is legal fourth none =
-    one_way_more g.groups g.stages g.ways w legal.ways (legal.room fourth) (whole_way (length g.groups) g.stages g.current w (legal.current fourth) is) none
+    one_interstage_more g.groups g.stages g.interstages w legal.interstages (legal.room fourth) (whole_interstage (length g.groups) g.stages g.current w (legal.current fourth) is) none
 
 is_fourth : (s : Section) → is_interstage s ≡ true → rank s ≡ 4
 is_fourth section.Before e = cc
@@ -156,37 +156,37 @@ is_fourth section.Start e = cc
 is_fourth section.Interstage e = refl
 is_fourth section.End e = cc
 
-closed_by : (b : Bool) (g : Gathered) → is_interstage g.section ≡ b → Legal g →
-    (if b then at_line g.current.line (way_reasons g.groups g.stages g.ways (way_of g.current)) else None) ≡ None →
-    IsClosed g (if b then record g { ways = ways_with g.ways (way_of g.current); current = opened 0 0 } else g)
-closed_by true g is legal none =
+ended_by : (b : Bool) (g : PlanDraftOf) → is_interstage g.section ≡ b → Legal g →
+    (if b then at_line g.current.line (interstage_reasons g.groups g.stages g.interstages (interstage_of g.current)) else None) ≡ None →
+    IsClosed g (if b then record g { interstages = interstages_with g.interstages (interstage_of g.current); current = open_at 0 0 } else g)
+ended_by true g is legal none =
     let fourth = is_fourth g.section is in
     record {
       section = refl;
       groups = refl;
       stages = refl;
       start = refl;
-      ways = whole_of g (way_of g.current) refl legal fourth (at_none g.current.line _ none);
+      interstages = whole_of g (interstage_of g.current) refl legal fourth (at_none g.current.line _ none);
       same = λ le. absurd (omega (arith, fourth, le));
     }
-closed_by false g is legal none = record { section = refl; groups = refl; stages = refl; start = refl; ways = legal.ways; same = λ le. refl }
+ended_by false g is legal none = record { section = refl; groups = refl; stages = refl; start = refl; interstages = legal.interstages; same = λ le. refl }
 
-closed_well : (g : Gathered) → Legal g → end_of_way g ≡ None → IsClosed g (closed g)
-unfolding end_of_way closed
-closed_well g legal none = closed_by (is_interstage g.section) g refl legal none
+ended_well : (g : PlanDraftOf) → Legal g → interstage_end_why g ≡ None → IsClosed g (after_section_end g)
+unfolding interstage_end_why after_section_end
+ended_well g legal none = ended_by (is_interstage g.section) g refl legal none
 
 record Follows (a b : Section) : Type 0 where
   pub stages : rank b ≤ 1 → rank a ≤ 1
-  pub ways : rank b ≤ 3 → rank a ≤ 3
+  pub interstages : rank b ≤ 3 → rank a ≤ 3
 
 follows : (a b : Section) → may_follow a b ≡ true → Follows a b
-follows section.Before section.Groups e = record { stages = λ le. omega arith; ways = λ le. omega arith }
-follows section.Groups section.Stages e = record { stages = λ le. omega arith; ways = λ le. omega arith }
-follows section.Stages section.Start e = record { stages = λ le. absurd (omega arith); ways = λ le. omega arith }
-follows section.Start section.Interstage e = record { stages = λ le. absurd (omega arith); ways = λ le. omega arith }
-follows section.Start section.End e = record { stages = λ le. absurd (omega arith); ways = λ le. omega arith }
-follows section.Interstage section.Interstage e = record { stages = λ le. absurd (omega arith); ways = λ le. absurd (omega arith) }
-follows section.Interstage section.End e = record { stages = λ le. absurd (omega arith); ways = λ le. absurd (omega arith) }
+follows section.Before section.Groups e = record { stages = λ le. omega arith; interstages = λ le. omega arith }
+follows section.Groups section.Stages e = record { stages = λ le. omega arith; interstages = λ le. omega arith }
+follows section.Stages section.Start e = record { stages = λ le. absurd (omega arith); interstages = λ le. omega arith }
+follows section.Start section.Interstage e = record { stages = λ le. absurd (omega arith); interstages = λ le. omega arith }
+follows section.Start section.End e = record { stages = λ le. absurd (omega arith); interstages = λ le. omega arith }
+follows section.Interstage section.Interstage e = record { stages = λ le. absurd (omega arith); interstages = λ le. absurd (omega arith) }
+follows section.Interstage section.End e = record { stages = λ le. absurd (omega arith); interstages = λ le. absurd (omega arith) }
 follows _ _ e = cc
 
 not_fourth : (s : Section) → is_interstage s ≡ false → rank s ≡ 4 → ⊥
@@ -197,71 +197,71 @@ not_fourth section.Start e is = omega arith
 not_fourth section.Interstage e is = absurd (cc)
 not_fourth section.End e is = omega arith
 
-closed_no_stages : (g h : Gathered) (s : Section) → Legal g → IsClosed g h → may_follow h.section s ≡ true → rank s ≤ 1 → h.stages ≡ []
-closed_no_stages g h s legal is may le =
+ended_no_stages : (g h : PlanDraftOf) (s : Section) → Legal g → IsClosed g h → may_follow h.section s ≡ true → rank s ≤ 1 → h.stages ≡ []
+ended_no_stages g h s legal is may le =
     let before = (follows h.section s may).stages le in
     is.stages ∙ legal.no_stages (omega (arith, before, ap rank is.section))
 
-closed_no_ways : (g h : Gathered) (s : Section) → Legal g → IsClosed g h → may_follow h.section s ≡ true → rank s ≤ 3 → h.ways ≡ []
-closed_no_ways g h s legal is may le =
-    let before = (follows h.section s may).ways le in
+ended_no_interstages : (g h : PlanDraftOf) (s : Section) → Legal g → IsClosed g h → may_follow h.section s ≡ true → rank s ≤ 3 → h.interstages ≡ []
+ended_no_interstages g h s legal is may le =
+    let before = (follows h.section s may).interstages le in
     let early : rank g.section ≤ 3 = omega (arith, before, ap rank is.section) in
-    is.same early ∙ legal.no_ways early
+    is.same early ∙ legal.no_interstages early
 
 -- a section line that is not refused
-begun_by : (b : Bool) (g h : Gathered) (s : Section) → is_interstage s ≡ b → Legal g → IsClosed g h → may_follow h.section s ≡ true → (b && nat_le 256 (length h.ways)) ≡ false →
-    Legal (if b then record h { section = s; current = opened h.lines (length h.groups) } else record h { section = s })
-begun_by true g h s here legal is may room =
+section_line_by : (b : Bool) (g h : PlanDraftOf) (s : Section) → is_interstage s ≡ b → Legal g → IsClosed g h → may_follow h.section s ≡ true → (b && nat_le 256 (length h.interstages)) ≡ false →
+    Legal (if b then record h { section = s; current = open_at h.lines (length h.groups) } else record h { section = s })
+section_line_by true g h s here legal is may room =
     let fourth = is_fourth s here in
     record {
       groups = rw is.groups legal.groups;
       stages = rw (is.groups, is.stages) legal.stages;
       start = rw (is.start, is.stages) legal.start;
-      ways = is.ways;
+      interstages = is.interstages;
       no_stages = λ le. absurd (omega (arith, fourth, le));
-      no_ways = λ le. absurd (omega (arith, fourth, le));
+      no_interstages = λ le. absurd (omega (arith, fourth, le));
       current = λ e. open_begins (length h.groups) h.lines h.stages;
-      room = λ e. leb-false 256 (length h.ways) room;
+      room = λ e. leb-false 256 (length h.interstages) room;
     }
-begun_by false g h s here legal is may room = record {
+section_line_by false g h s here legal is may room = record {
   groups = rw is.groups legal.groups;
   stages = rw (is.groups, is.stages) legal.stages;
   start = rw (is.start, is.stages) legal.start;
-  ways = is.ways;
-  no_stages = closed_no_stages g h s legal is may;
-  no_ways = closed_no_ways g h s legal is may;
+  interstages = is.interstages;
+  no_stages = ended_no_stages g h s legal is may;
+  no_interstages = ended_no_interstages g h s legal is may;
   current = λ e. absurd (not_fourth s here e);
   room = λ e. absurd (not_fourth s here e);
 }
 
-section_legal : (g : Gathered) (s : Section) (line : Text) → Legal g → end_of_way g ≡ None → section_why (closed g) s line ≡ None → Legal (begun (closed g) s)
-unfolding section_why begun
+section_legal : (g : PlanDraftOf) (s : Section) (line : Text) → Legal g → interstage_end_why g ≡ None → section_why (after_section_end g) s line ≡ None → Legal (after_section_line (after_section_end g) s)
+unfolding section_why after_section_line
 section_legal g s line legal ended none =
     let one = none_first (not (is_text line)) _ _ none in
-    let two = none_first (not (may_follow (closed g).section s)) _ _ one.1 in
-    let three = none_first (is_interstage s && nat_le 256 (length (closed g).ways)) _ _ two.1 in
-    begun_by (is_interstage s) g (closed g) s refl legal (closed_well g legal ended) (not_true _ two.0) three.0
+    let two = none_first (not (may_follow (after_section_end g).section s)) _ _ one.1 in
+    let three = none_first (is_interstage s && nat_le 256 (length (after_section_end g).interstages)) _ _ two.1 in
+    section_line_by (is_interstage s) g (after_section_end g) s refl legal (ended_well g legal ended) (not_true _ two.0) three.0
 
-kind_legal : (k : Kind) (g : Gathered) (line : Text) → Legal g → why_of_kind k g line ≡ None → Legal (added_of_kind k g line)
+kind_legal : (k : Kind) (g : PlanDraftOf) (line : Text) → Legal g → kind_why k g line ≡ None → Legal (after_kind k g line)
 kind_legal Passed g line legal none = legal
 kind_legal (Begins s) g line legal none =
-    let both = none_next (end_of_way g) (at_line g.lines (section_why (closed g) s line)) none in
+    let both = none_next (interstage_end_why g) (at_line g.lines (section_why (after_section_end g) s line)) none in
     section_legal g s line legal both.0 (at_none g.lines _ both.1)
 kind_legal Row g line legal none = row_legal g line legal (at_none g.lines _ none)
 
-line_by : (b : Bool) (g : Gathered) (line : Text) → Legal g →
-    (if b then None else why_of_kind (kind_of (words false line)) (counted g) line) ≡ None →
-    Legal (if b then counted g else added_of_kind (kind_of (words false line)) (counted g) line)
-line_by true g line legal none = counted_legal g legal
-line_by false g line legal none = kind_legal (kind_of (words false line)) (counted g) line (counted_legal g legal) none
+line_by : (b : Bool) (g : PlanDraftOf) (line : Text) → Legal g →
+    (if b then None else kind_why (kind_of (words false line)) (at_next_line g) line) ≡ None →
+    Legal (if b then at_next_line g else after_kind (kind_of (words false line)) (at_next_line g) line)
+line_by true g line legal none = next_line_legal g legal
+line_by false g line legal none = kind_legal (kind_of (words false line)) (at_next_line g) line (next_line_legal g legal) none
 
-pub line_legal : (g : Gathered) (line : Text) → Legal g → line_why g line ≡ None → Legal (line_added g line)
-unfolding line_why line_added
+pub line_legal : (g : PlanDraftOf) (line : Text) → Legal g → line_why g line ≡ None → Legal (after_line g line)
+unfolding line_why after_line
 line_legal g line legal none = line_by (is_over g.section) g line legal none
 
 -- what a file lacks, and its plan
 -- nothing is lacking
-pub record IsFull (g : Gathered) : Type 0 where
+pub record IsFull (g : PlanDraftOf) : Type 0 where
   pub groups : 1 ≤ length g.groups
   pub stages : 1 ≤ length g.stages
   pub start : is_some g.start ≡ true
@@ -274,7 +274,7 @@ not_none : {A : Type 0} (o : Option A) → is_none o ≡ false → is_some o ≡
 not_none None e = cc
 not_none (Some x) e = refl
 
-pub is_full : (g : Gathered) → None ≡ lacks g → IsFull g
+pub is_full : (g : PlanDraftOf) → None ≡ lacks g → IsFull g
 unfolding lacks
 is_full g none =
     let one = none_first ((length g.groups == 0) || (length g.stages == 0)) _ _ (sym none) in
@@ -291,13 +291,13 @@ greens_there [] i = refl
 greens_there (s ∷ ss) zero = refl
 greens_there (s ∷ ss) (suc i) = greens_there ss i
 
-way_there : (groups : List Group) (stages : List Stage) (start : ℕ) (ways : List Way) (w : Way) → Leads (length groups) stages w → IsWay (plan_of groups stages start ways) w
-way_there groups stages start ways w is =
+interstage_there : (groups : List Group) (stages : List Stage) (start : ℕ) (interstages : List InterstageOf) (w : InterstageOf) → Leads (length groups) stages w → IsInterstageOf (plan_of groups stages start interstages) w
+interstage_there groups stages start interstages w is =
     let size : length (map (λ (g : Group). g.name) groups) ≡ length groups = length-map groups (λ (g : Group). g.name) in
     let count : length (map (λ (s : Stage). s.greens) stages) ≡ length stages = length-map stages (λ (s : Stage). s.greens) in
     record {
-      some = is.some;
-      few = is.few;
+      at_least = is.at_least;
+      at_most = is.at_most;
       from = (is.from.0, omega (arith, is.from.1, count));
       to = (is.to.0, omega (arith, is.to.1, count));
       apart = is.apart;
@@ -306,35 +306,35 @@ way_there groups stages start ways w is =
       consistent = λ g lt. rw (greens_there stages (w.from - 1), greens_there stages (w.to - 1)) (is.consistent g (omega (arith, lt, size)));
     }
 
-pub plan_is : (g : Gathered) → AreGroups g.groups → AreStages (length g.groups) g.stages → IfSome g.start (λ s. IsStage g.stages s.0) → AreWays (length g.groups) g.stages g.ways →
+pub plan_is : (g : PlanDraftOf) → AreGroups g.groups → AreStages (length g.groups) g.stages → IfSome g.start (λ s. IsStage g.stages s.0) → AreInterstages (length g.groups) g.stages g.interstages →
     IsFull g → IsPlan (plan_in g)
-plan_is g groups stages start ways full =
+plan_is g groups stages start interstages full =
     let size : length (map (λ (g : Group). g.name) g.groups) ≡ length g.groups = length-map g.groups (λ (g : Group). g.name) in
     let numbers : length (map (λ (g : Group). g.number) g.groups) ≡ length g.groups = length-map g.groups (λ (g : Group). g.number) in
     let count : length (map (λ (s : Stage). s.greens) g.stages) ≡ length g.stages = length-map g.stages (λ (s : Stage). s.greens) in
     let called : length (map (λ (s : Stage). s.name) g.stages) ≡ length g.stages = length-map g.stages (λ (s : Stage). s.name) in
     let first = start_there g.stages g.start full.start start in
     record {
-      some_groups = omega (arith, full.groups, size);
-      few_groups = omega (arith, groups.few, size);
+      has_groups = omega (arith, full.groups, size);
+      groups_at_most = omega (arith, groups.at_most, size);
       numbered = numbers ∙ sym size;
       names = groups.names;
       apart = groups.apart;
       rising = groups.rising;
-      few_stages = omega (arith, stages.few, count);
+      stages_at_most = omega (arith, stages.at_most, count);
       named_stages = called ∙ sym count;
       stages = λ s lt. ap length (greens_there g.stages s) ∙ stages.greens s (omega (arith, lt, count)) ∙ sym size;
       stage_names = stages.names;
       stages_apart = stages.apart;
       start = (first.0, omega (arith, first.1, count));
-      few_ways = ways.few;
-      pairs_apart = ways.apart;
-      ways = λ i lt. way_there g.groups g.stages (start_number g.start) g.ways (get_or g.ways i no_way) (ways.each i lt);
+      interstages_at_most = interstages.at_most;
+      pairs_apart = interstages.apart;
+      interstages = λ i lt. interstage_there g.groups g.stages (start_number g.start) g.interstages (get_or g.interstages i no_interstage) (interstages.each i lt);
     }
 
 -- the plan of a file whose last section ended well, and that lacks nothing
-pub closed_plan : (g h : Gathered) → Legal g → end_of_way g ≡ None → h ≡ closed g → None ≡ lacks h → IsPlan (plan_in h) × (is_some h.start ≡ true)
-closed_plan g h legal ended is none =
-    let well : IsClosed g h = subst (λ (x : Gathered). IsClosed g x) (sym is) (closed_well g legal ended) in
+pub ended_plan : (g h : PlanDraftOf) → Legal g → interstage_end_why g ≡ None → h ≡ after_section_end g → None ≡ lacks h → IsPlan (plan_in h) × (is_some h.start ≡ true)
+ended_plan g h legal ended is none =
+    let well : IsClosed g h = subst (λ (x : PlanDraftOf). IsClosed g x) (sym is) (ended_well g legal ended) in
     let full = is_full h none in
-    (plan_is h (rw well.groups legal.groups) (rw (well.groups, well.stages) legal.stages) (rw (well.start, well.stages) legal.start) well.ways full, full.start)
+    (plan_is h (rw well.groups legal.groups) (rw (well.groups, well.stages) legal.stages) (rw (well.start, well.stages) legal.start) well.interstages full, full.start)

@@ -8,7 +8,7 @@ pub mod Small
 pub mod Sections
 pub mod KeepGroups
 pub mod KeepStages
-pub mod KeepWays
+pub mod KeepInterstages
 pub mod Keeps
 pub mod Reading
 pub mod Lowered

@@ -10,7 +10,7 @@ use Rattle.pua_reader.specs.declared.refusal.PuaWhy.{PuaWhy}
 use Rattle.pua_reader.specs.declared.refusal.PuaRefusal.{PuaRefusal}
 use Rattle.pua_reader.specs.declared.refusal.PuaRefusal.TheVariants.{Memory, At}
 use Rattle.pua_reader.specs.Words.{Text}
-use Rattle.pua_reader.specs.Gathered.{Gathered, gathered, judge, end_why, closed}
+use Rattle.pua_reader.specs.PlanDraft.{PlanDraftOf, draft_of, judge, end_why, after_section_end}
 
 -- a byte order mark at the beginning is passed over
 abbrev pub without_mark : Text → Text
@@ -21,18 +21,18 @@ lines_in bytes = lines (without_mark bytes)
 
 -- the first refusal of a text, with its line: that of its first refused line, or that of its end
 unfoldable pub refusal_of : Text → Option (ℕ × PuaWhy)
-refusal_of bytes = or_next (first_refused judge (lines_in bytes) []) (end_why (gathered (lines_in bytes)))
+refusal_of bytes = or_next (first_refused judge (lines_in bytes) []) (end_why (draft_of (lines_in bytes)))
 
 abbrev pub start_number : Option StageNo → ℕ
 start_number None = 0
 start_number (Some s) = s.0
 
-abbrev pub plan_in : Gathered → PlanOf
-plan_in g = plan_of g.groups g.stages (start_number g.start) g.ways
+abbrev pub plan_in : PlanDraftOf → PlanOf
+plan_in g = plan_of g.groups g.stages (start_number g.start) g.interstages
 
 -- the plan of an accepted text
 unfoldable pub plan_of_text : Text → PlanOf
-plan_of_text bytes = plan_in (closed (gathered (lines_in bytes)))
+plan_of_text bytes = plan_in (after_section_end (draft_of (lines_in bytes)))
 
 -- want of memory can come at any text; else the refusal is that of the text
 abbrev pub RefusedAs : PuaRefusal → Option (ℕ × PuaWhy) → Type 0

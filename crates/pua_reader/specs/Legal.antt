@@ -2,21 +2,21 @@
 use Rattle.std.specs.Prelude.{◌≡◌, ℕ, ◌<◌, ◌≤◌, ◌==◌, true, false, List, [], length, map, slice_index_or, None, IfSome}
 use Rattle.pua_model.specs.declared.parts.Group.{Group}
 use Rattle.pua_model.specs.declared.parts.Stage.{Stage}
-use Rattle.pua_model.specs.Plan.{Way, no_way, are_names, are_apart, is_above, is_row, are_pairs_apart}
+use Rattle.pua_model.specs.Plan.{InterstageOf, no_interstage, are_names, are_apart, is_above, is_row, are_pairs_apart}
 use Rattle.pua_model.specs.Wish.{leads}
 use Rattle.pua_reader.specs.declared.section.Section.{Section}
 use Rattle.pua_reader.specs.declared.section.Section.TheVariants as section
-use Rattle.pua_reader.specs.Ways.{Opened, greens_in}
-use Rattle.pua_reader.specs.Gathered.{Gathered}
+use Rattle.pua_reader.specs.Interstages.{OpenInterstageOf, greens_in}
+use Rattle.pua_reader.specs.PlanDraft.{PlanDraftOf}
 
 pub record AreGroups (groups : List Group) : Type 0 where
-  pub few : length groups ≤ 64
+  pub at_most : length groups ≤ 64
   pub names : are_names (map (λ g. g.name) groups) ≡ true
   pub apart : are_apart (map (λ g. g.name) groups) ≡ true
   pub rising : is_above 0 (map (λ g. g.number) groups) ≡ true
 
 pub record AreStages (groups : ℕ) (stages : List Stage) : Type 0 where
-  pub few : length stages ≤ 32
+  pub at_most : length stages ≤ 32
   pub names : are_names (map (λ s. s.name) stages) ≡ true
   pub apart : are_apart (map (λ s. s.name) stages) ≡ true
   pub greens : (s : ℕ) → s < length stages → length (slice_index_or stages s (record { name = []; greens = [] })).greens ≡ groups
@@ -25,9 +25,9 @@ abbrev pub IsStage : List Stage → ℕ → Type 0
 IsStage stages s = (1 ≤ s) × (s ≤ length stages)
 
 -- an interstage between two stages, which leads each group from its place in the one to that in the other
-pub record Leads (groups : ℕ) (stages : List Stage) (w : Way) : Type 0 where
-  pub some : 1 ≤ w.length
-  pub few : w.length ≤ 126
+pub record Leads (groups : ℕ) (stages : List Stage) (w : InterstageOf) : Type 0 where
+  pub at_least : 1 ≤ w.length
+  pub at_most : w.length ≤ 126
   pub from : IsStage stages w.from
   pub to : IsStage stages w.to
   pub apart : (w.from == w.to) ≡ false
@@ -36,12 +36,12 @@ pub record Leads (groups : ℕ) (stages : List Stage) (w : Way) : Type 0 where
   pub consistent : (g : ℕ) → g < groups →
       leads (slice_index_or w.rows g None) (greens_in stages w.from g) (greens_in stages w.to g) w.length ≡ true
 
-pub record AreWays (groups : ℕ) (stages : List Stage) (ways : List Way) : Type 0 where
-  pub few : length ways ≤ 256
-  pub apart : are_pairs_apart ways ≡ true
-  pub each : (i : ℕ) → i < length ways → Leads groups stages (slice_index_or ways i no_way)
+pub record AreInterstages (groups : ℕ) (stages : List Stage) (interstages : List InterstageOf) : Type 0 where
+  pub at_most : length interstages ≤ 256
+  pub apart : are_pairs_apart interstages ≡ true
+  pub each : (i : ℕ) → i < length interstages → Leads groups stages (slice_index_or interstages i no_interstage)
 
-pub record IsOpen (groups : ℕ) (stages : List Stage) (current : Opened) : Type 0 where
+pub record IsOpen (groups : ℕ) (stages : List Stage) (current : OpenInterstageOf) : Type 0 where
   pub seconds : IfSome current.length (λ n. (1 ≤ n) × (n ≤ 126))
   pub from : IfSome current.from (λ s. IsStage stages s.0)
   pub to : IfSome current.to (λ s. IsStage stages s.0)
@@ -56,12 +56,12 @@ rank section.Start = 3
 rank section.Interstage = 4
 rank section.End = 5
 
-pub record Legal (g : Gathered) : Type 0 where
+pub record Legal (g : PlanDraftOf) : Type 0 where
   pub groups : AreGroups g.groups
   pub stages : AreStages (length g.groups) g.stages
   pub start : IfSome g.start (λ s. IsStage g.stages s.0)
-  pub ways : AreWays (length g.groups) g.stages g.ways
+  pub interstages : AreInterstages (length g.groups) g.stages g.interstages
   pub no_stages : rank g.section ≤ 1 → g.stages ≡ []
-  pub no_ways : rank g.section ≤ 3 → g.ways ≡ []
+  pub no_interstages : rank g.section ≤ 3 → g.interstages ≡ []
   pub current : rank g.section ≡ 4 → IsOpen (length g.groups) g.stages g.current
-  pub room : rank g.section ≡ 4 → length g.ways < 256
+  pub room : rank g.section ≡ 4 → length g.interstages < 256

@@ -2,8 +2,8 @@ pub mod Words
 pub mod Rules
 pub mod Groups
 pub mod Stages
-pub mod Ways
-pub mod Gathered
+pub mod Interstages
+pub mod PlanDraft
 pub mod Accepted
-pub mod Seen
+pub mod Views
 pub mod Legal

@@ -1,8 +1,8 @@
 -- Reasons to refuse a line.
 use Rattle.std.specs.Prelude.{◌≡◌, ℕ, Bool, Option, Some, None, if◌then◌else◌}
 use Rattle.pua_reader.specs.declared.refusal.PuaWhy.{PuaWhy}
-use Rattle.pua_reader.specs.declared.refusal.Fault.{Fault}
-use Rattle.pua_reader.specs.declared.refusal.Fault.TheVariants.{Memory, Why}
+use Rattle.pua_reader.specs.declared.refusal.RowStop.{RowStop}
+use Rattle.pua_reader.specs.declared.refusal.RowStop.TheVariants.{Memory, Why}
 
 -- a rule that a line breaks or not
 abbrev pub when : Bool → PuaWhy → Option PuaWhy
@@ -14,6 +14,6 @@ at_line n None = None
 at_line n (Some why) = Some (n, why)
 
 -- what stops a row: want of memory, which can come at any row, or the reason by which the row is refused
-abbrev pub FaultIs : Fault → Option PuaWhy → Type 0
-FaultIs Memory first = Unit {0}
-FaultIs (Why why) first = first ≡ Some why
+abbrev pub RowStopIs : RowStop → Option PuaWhy → Type 0
+RowStopIs Memory first = Unit {0}
+RowStopIs (Why why) first = first ≡ Some why

@@ -2,15 +2,15 @@
 ghost use Rattle.std.specs.Prelude.{◌-◌, ◌≡◌, ◌≤◌, ◌<◌, ◌+◌, ◌^◌, ℕ, MatchResult, None, Some, Option, is_some, true};
 ghost use Rattle.sig_types.specs.FirstRefused.{or_next};
 ghost use Rattle.pua_model.specs.Plan.{IsPlan};
-ghost use Rattle.pua_reader.specs.Rules.{FaultIs, at_line};
+ghost use Rattle.pua_reader.specs.Rules.{RowStopIs, at_line};
 ghost use Rattle.pua_reader.specs.Accepted.{RefusedAs, plan_in};
-ghost use Rattle.pua_reader.specs.Gathered.{Gathered, nothing, row_why, row_added, row_why_in, row_added_in, end_of_way, closed, section_why, begun, line_why, line_added, end_why, lacks, why_of_kind, added_of_kind, counted};
+ghost use Rattle.pua_reader.specs.PlanDraft.{PlanDraftOf, empty_draft, row_why, after_row, row_why_in, after_row_in, interstage_end_why, after_section_end, section_why, after_section_line, line_why, after_line, end_why, lacks, kind_why, after_kind, at_next_line};
 
 use crate::groups::read_group;
-use crate::refusal::{Fault, PuaRefusal, PuaWhy};
+use crate::interstages::{OpenInterstage, interstage_of, interstage_why};
+use crate::refusal::{PuaRefusal, PuaWhy, RowStop};
 use crate::section::{Kind, Section, kind_of, may_follow};
 use crate::stages::{read_stage, read_start};
-use crate::ways::{Open, way_of, way_why};
 use crate::words::{is_text, words};
 use pua_model::{Group, Interstage, Plan, Stage};
 use sig_types::StageNo;
@@ -20,48 +20,48 @@ use std::mem;
 /// What the lines of a file have told so far: the section in which they have arrived, their number, what the rows have
 /// given, whether the last row was a stage's, and the interstage whose section has not ended.
 #[derive(Drop)]
-pub(crate) struct Draft {
+pub(crate) struct PlanDraft {
     section: Section,
     lines: u32,
     groups: Vec<Group>,
     stages: Vec<Stage>,
     after_stage: bool,
     start: Option<StageNo>,
-    ways: Vec<Interstage>,
-    current: Open,
+    interstages: Vec<Interstage>,
+    current: OpenInterstage,
 }
 
-impl Draft {
-    ghost use Rattle.pua_reader.specs.Seen.{seen};
+impl PlanDraft {
+    ghost use Rattle.pua_reader.specs.Views.{draft_value};
     ghost use Rattle.pua_reader.specs.Legal.{Legal};
 
     /// Before the first line.
-    pub(crate) fn nothing(alloc: Global) -> Draft
-        ensures { seen result ≡ nothing }
+    pub(crate) fn empty(alloc: Global) -> PlanDraft
+        ensures { draft_value result ≡ empty_draft }
     {
-        Draft {
+        PlanDraft {
             section: Section::Before,
             lines: 0,
             groups: Vec::new(alloc),
             stages: Vec::new(alloc),
             after_stage: false,
             start: None,
-            ways: Vec::new(alloc),
-            current: Open::none(alloc),
+            interstages: Vec::new(alloc),
+            current: OpenInterstage::none(alloc),
         }
     }
 
     // Takes a row by the section in which it stands.
-    fn take_words(&mut self, alloc: Global, line: &[u8]) -> Result<(), Fault>
-        requires { Legal (seen self.old) }
-        ensures { MatchResult result (λ _. (row_why_in self.old.section (seen self.old) line.now ≡ None) × (seen self.new ≡ row_added_in self.old.section (seen self.old) line.now))
-            (λ fault. FaultIs fault (row_why_in self.old.section (seen self.old) line.now)) }
+    fn take_words(&mut self, alloc: Global, line: &[u8]) -> Result<(), RowStop>
+        requires { Legal (draft_value self.old) }
+        ensures { MatchResult result (λ _. (row_why_in self.old.section (draft_value self.old) line.now ≡ None) × (draft_value self.new ≡ after_row_in self.old.section (draft_value self.old) line.now))
+            (λ stop. RowStopIs stop (row_why_in self.old.section (draft_value self.old) line.now)) }
     {
         let Ok(words) = words(alloc, self.section == Section::Interstage, line) else {
-            return Err(Fault::Memory);
+            return Err(RowStop::Memory);
         };
         match self.section {
-            Section::Before => Err(Fault::Why(PuaWhy::Section)),
+            Section::Before => Err(RowStop::Why(PuaWhy::Section)),
             Section::Groups => read_group(&mut self.groups, &words),
             Section::Stages => read_stage(
                 alloc,
@@ -75,66 +75,71 @@ impl Draft {
                     self.start = Some(stage);
                     Ok(())
                 }
-                Err(why) => Err(Fault::Why(why)),
+                Err(why) => Err(RowStop::Why(why)),
             },
             Section::Interstage => match self.current.read(&self.groups, &self.stages, &words) {
                 Ok(()) => Ok(()),
-                Err(why) => Err(Fault::Why(why)),
+                Err(why) => Err(RowStop::Why(why)),
             },
             Section::End => Ok(()),
         }
     }
 
     // Takes a row.
-    #[tactic(auto, unfolding(crate::specs::Gathered::row_why, crate::specs::Gathered::row_added))]
-    fn take_row(&mut self, alloc: Global, line: &[u8]) -> Result<(), Fault>
-        requires { Legal (seen self.old) }
-        ensures { MatchResult result (λ _. (row_why (seen self.old) line.now ≡ None) × (seen self.new ≡ row_added (seen self.old) line.now))
-            (λ fault. FaultIs fault (row_why (seen self.old) line.now)) }
+    #[tactic(auto, unfolding(crate::specs::PlanDraft::row_why, crate::specs::PlanDraft::after_row))]
+    fn take_row(&mut self, alloc: Global, line: &[u8]) -> Result<(), RowStop>
+        requires { Legal (draft_value self.old) }
+        ensures { MatchResult result (λ _. (row_why (draft_value self.old) line.now ≡ None) × (draft_value self.new ≡ after_row (draft_value self.old) line.now))
+            (λ stop. RowStopIs stop (row_why (draft_value self.old) line.now)) }
     {
         if !is_text(line) {
-            return Err(Fault::Why(PuaWhy::NotText));
+            return Err(RowStop::Why(PuaWhy::NotText));
         }
         self.take_words(alloc, line)
     }
 
     // Ends the section of an interstage, where one is read.
-    #[tactic(auto, unfolding(crate::specs::Gathered::end_of_way, crate::specs::Gathered::closed, crate::specs::Ways::way_reasons))]
+    #[tactic(auto, unfolding(crate::specs::PlanDraft::interstage_end_why, crate::specs::PlanDraft::after_section_end, crate::specs::Interstages::interstage_reasons))]
     fn close(&mut self, alloc: Global) -> Result<(), PuaRefusal>
-        requires { Legal (seen self.old) }
-        ensures { MatchResult result (λ _. (end_of_way (seen self.old) ≡ None) × (seen self.new ≡ closed (seen self.old)))
-            (λ refusal. RefusedAs refusal (end_of_way (seen self.old))) }
+        requires { Legal (draft_value self.old) }
+        ensures { MatchResult result (λ _. (interstage_end_why (draft_value self.old) ≡ None) × (draft_value self.new ≡ after_section_end (draft_value self.old)))
+            (λ refusal. RefusedAs refusal (interstage_end_why (draft_value self.old))) }
     {
         if self.section != Section::Interstage {
             return Ok(());
         }
-        let ended = mem::replace(&mut self.current, Open::none(alloc));
+        let ended = mem::replace(&mut self.current, OpenInterstage::none(alloc));
         let line = ended.line;
-        let Some(way) = way_of(ended) else {
+        let Some(interstage) = interstage_of(ended) else {
             return Err(PuaRefusal::At {
                 line,
                 why: PuaWhy::Row,
             });
         };
-        if let Some(why) = way_why(&self.groups, &self.stages, &self.ways, &way) {
+        if let Some(why) = interstage_why(
+            &self.groups,
+            &self.stages,
+            &self.interstages,
+            &interstage,
+        ) {
             return Err(PuaRefusal::At { line, why });
         }
-        match self.ways.push(way) {
+        match self.interstages.push(interstage) {
             Ok(()) => Ok(()),
             Err(_) => Err(PuaRefusal::Memory),
         }
     }
 
     // Why a section line is refused.
-    #[tactic(auto, unfolding(crate::specs::Gathered::section_why))]
+    #[tactic(auto, unfolding(crate::specs::PlanDraft::section_why))]
     fn section_why(&self, section: Section, line: &[u8]) -> Option<PuaWhy>
-        ensures { result ≡ section_why (seen self.now) section line.now }
+        ensures { result ≡ section_why (draft_value self.now) section line.now }
     {
         if !is_text(line) {
             Some(PuaWhy::NotText)
         } else if !may_follow(self.section, section) {
             Some(PuaWhy::Section)
-        } else if section == Section::Interstage && self.ways.len() >= 256 {
+        } else if section == Section::Interstage && self.interstages.len() >= 256 {
             Some(PuaWhy::Limit)
         } else {
             None
@@ -142,13 +147,13 @@ impl Draft {
     }
 
     // Begins a section.
-    #[tactic(auto, unfolding(crate::specs::Gathered::begun))]
+    #[tactic(auto, unfolding(crate::specs::PlanDraft::after_section_line))]
     fn begin(&mut self, alloc: Global, section: Section) -> Result<(), PuaRefusal>
-        ensures { MatchResult result (λ _. seen self.new ≡ begun (seen self.old) section) (λ refusal. refusal ≡ PuaRefusal.Memory) }
+        ensures { MatchResult result (λ _. draft_value self.new ≡ after_section_line (draft_value self.old) section) (λ refusal. refusal ≡ PuaRefusal.Memory) }
     {
         self.section = section;
         if section == Section::Interstage {
-            match Open::begins(alloc, self.lines, self.groups.len()) {
+            match OpenInterstage::begins(alloc, self.lines, self.groups.len()) {
                 Ok(current) => self.current = current,
                 Err(_) => return Err(PuaRefusal::Memory),
             }
@@ -163,10 +168,10 @@ impl Draft {
         section: Section,
         line: &[u8],
     ) -> Result<(), PuaRefusal>
-        requires { Legal (seen self.old) }
+        requires { Legal (draft_value self.old) }
         ensures { MatchResult result
-            (λ _. (why_of_kind (Kind.Begins section) (seen self.old) line.now ≡ None) × (seen self.new ≡ added_of_kind (Kind.Begins section) (seen self.old) line.now))
-            (λ refusal. RefusedAs refusal (why_of_kind (Kind.Begins section) (seen self.old) line.now)) }
+            (λ _. (kind_why (Kind.Begins section) (draft_value self.old) line.now ≡ None) × (draft_value self.new ≡ after_kind (Kind.Begins section) (draft_value self.old) line.now))
+            (λ refusal. RefusedAs refusal (kind_why (Kind.Begins section) (draft_value self.old) line.now)) }
     {
         self.close(alloc)?;
         if let Some(why) = self.section_why(section, line) {
@@ -179,12 +184,12 @@ impl Draft {
     }
 
     /// Takes the next line, where it is not refused.
-    #[tactic(auto, unfolding(crate::specs::Gathered::line_why, crate::specs::Gathered::line_added))]
+    #[tactic(auto, unfolding(crate::specs::PlanDraft::line_why, crate::specs::PlanDraft::after_line))]
     pub(crate) fn take_line(&mut self, alloc: Global, line: &[u8]) -> Result<(), PuaRefusal>
-        requires legal { Legal (seen self.old) }
+        requires legal { Legal (draft_value self.old) }
         requires lines { self.old.lines < 2 ^ 32 - 1 }
-        ensures { MatchResult result (λ _. (line_why (seen self.old) line.now ≡ None) × (seen self.new ≡ line_added (seen self.old) line.now))
-            (λ refusal. RefusedAs refusal (line_why (seen self.old) line.now)) }
+        ensures { MatchResult result (λ _. (line_why (draft_value self.old) line.now ≡ None) × (draft_value self.new ≡ after_line (draft_value self.old) line.now))
+            (λ refusal. RefusedAs refusal (line_why (draft_value self.old) line.now)) }
     {
         let number = self.lines + 1;
         self.lines = number;
@@ -199,16 +204,16 @@ impl Draft {
             Kind::Begins(section) => self.take_section(alloc, section, line),
             Kind::Row => match self.take_row(alloc, line) {
                 Ok(()) => Ok(()),
-                Err(Fault::Memory) => Err(PuaRefusal::Memory),
-                Err(Fault::Why(why)) => Err(PuaRefusal::At { line: number, why }),
+                Err(RowStop::Memory) => Err(PuaRefusal::Memory),
+                Err(RowStop::Why(why)) => Err(PuaRefusal::At { line: number, why }),
             },
         }
     }
 
     // What the file lacks.
-    #[tactic(auto, unfolding(crate::specs::Gathered::lacks))]
+    #[tactic(auto, unfolding(crate::specs::PlanDraft::lacks))]
     fn lacks(&self) -> Option<PuaWhy>
-        ensures { result ≡ lacks (seen self.now) }
+        ensures { result ≡ lacks (draft_value self.now) }
     {
         if self.groups.is_empty() || self.stages.is_empty() {
             Some(PuaWhy::Section)
@@ -219,33 +224,33 @@ impl Draft {
         }
     }
 
-    // The plan of what was gathered.
+    // The plan of the draft.
     fn into_plan(self) -> Plan
         requires start { is_some self.start ≡ true }
-        requires plan { IsPlan (plan_in (seen self)) }
-        ensures { result ≡ plan_in (seen self) }
+        requires plan { IsPlan (plan_in (draft_value self)) }
+        ensures { result ≡ plan_in (draft_value self) }
     {
-        let Draft {
+        let PlanDraft {
             section: _,
             lines: _,
             groups,
             stages,
             after_stage: _,
             start,
-            ways,
+            interstages,
             current: _,
         } = self;
         match start {
-            Some(start) => Plan::of(groups, stages, start, ways),
+            Some(start) => Plan::of(groups, stages, start, interstages),
             None => unreachable!(),
         }
     }
 
     /// The plan of a file that ends here.
-    #[tactic(auto, unfolding(crate::specs::Gathered::end_why))]
+    #[tactic(auto, unfolding(crate::specs::PlanDraft::end_why))]
     pub(crate) fn finish(mut self, alloc: Global) -> Result<Plan, PuaRefusal>
-        requires { Legal (seen self) }
-        ensures { MatchResult result (λ plan. (end_why (seen self) ≡ None) × (plan ≡ plan_in (closed (seen self)))) (λ refusal. RefusedAs refusal (end_why (seen self))) }
+        requires { Legal (draft_value self) }
+        ensures { MatchResult result (λ plan. (end_why (draft_value self) ≡ None) × (plan ≡ plan_in (after_section_end (draft_value self)))) (λ refusal. RefusedAs refusal (end_why (draft_value self))) }
     {
         self.close(alloc)?;
         if let Some(why) = self.lacks() {

@@ -1,6 +1,6 @@
 // The forms of a row of an interstage.
 ghost use Rattle.std.specs.Prelude.{◌≡◌, map};
-ghost use Rattle.pua_reader.specs.Ways.{number_form, stage_form, ends_form, form_of_two, form_of_three, form_of};
+ghost use Rattle.pua_reader.specs.Interstages.{number_form, stage_form, ends_form, form_of_two, form_of_three, form_of};
 ghost use Rattle.pua_reader.specs.Stages.{is_stage_word};
 
 use crate::words::{Few, is_signed, up_to_three};
@@ -56,7 +56,7 @@ fn ends_form(group: &[u8], red_end: &[u8], green_end: &[u8]) -> Form
     }
 }
 
-#[tactic(auto, unfolding(crate::specs::Ways::form_of_two))]
+#[tactic(auto, unfolding(crate::specs::Interstages::form_of_two))]
 fn form_of_two(a: &[u8], b: &[u8]) -> Form
     ensures { result ≡ form_of_two a.now b.now }
 {
@@ -73,7 +73,7 @@ fn form_of_two(a: &[u8], b: &[u8]) -> Form
     }
 }
 
-#[tactic(auto, unfolding(crate::specs::Ways::form_of_three))]
+#[tactic(auto, unfolding(crate::specs::Interstages::form_of_three))]
 fn form_of_three(a: &[u8], b: &[u8], c: &[u8]) -> Form
     ensures { result ≡ form_of_three a.now b.now c.now }
 {

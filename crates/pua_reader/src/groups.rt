@@ -4,9 +4,9 @@ ghost use Rattle.std.specs.List.{position, position_or_len};
 ghost use Rattle.sig_types.specs.Text.{is_name, within, number_of};
 ghost use Rattle.pua_model.specs.Plan.{is_above};
 ghost use Rattle.pua_reader.specs.Groups.{has_name, has_number, group_reasons, group_why, group_row, put, groups_with};
-ghost use Rattle.pua_reader.specs.Rules.{FaultIs};
+ghost use Rattle.pua_reader.specs.Rules.{RowStopIs};
 
-use crate::refusal::{Fault, PuaWhy};
+use crate::refusal::{PuaWhy, RowStop};
 use crate::words::{Few, up_to_three};
 use pua_model::Group;
 use sig_types::ShortName;
@@ -40,7 +40,7 @@ fn number_in_range(word: &[u8]) -> Option<u8>
 
 // The name of a row, and its number where it is in its range.
 fn row_parts<'a>(place: u8, words: &[&'a [u8]]) -> Option<(&'a [u8], Option<u8>)>
-    requires some { 1 ≤ place }
+    requires at_least { 1 ≤ place }
     ensures { MatchOption result (group_row place (map (λ w. w.now) words.now) ≡ None)
         (λ p. (n : ℕ) × ((group_row place (map (λ w. w.now) words.now) ≡ Some (record { name = p.0.now; number = n })) × (p.1 ≡ within 1 255 (Some n)) × (is_name p.0.now ≡ true))) }
 {
@@ -105,18 +105,18 @@ fn put(groups: &mut Vec<Group>, group: Group) -> Result<(), AllocError>
 
 /// Adds the group of a row, where it is not refused.
 #[tactic(auto, unfolding(crate::specs::Groups::group_reasons))]
-pub(crate) fn read_group(groups: &mut Vec<Group>, words: &[&[u8]]) -> Result<(), Fault>
-    requires few { length groups.old.items ≤ 64 }
+pub(crate) fn read_group(groups: &mut Vec<Group>, words: &[&[u8]]) -> Result<(), RowStop>
+    requires at_most { length groups.old.items ≤ 64 }
     requires rising { is_above 0 (map (λ g. g.number) groups.old.items) ≡ true }
     ensures { MatchResult result (λ _. (group_why groups.old.items (map (λ w. w.now) words.now) ≡ None) × (groups.new.items ≡ groups_with groups.old.items (map (λ w. w.now) words.now)))
-        (λ fault. FaultIs fault (group_why groups.old.items (map (λ w. w.now) words.now))) }
+        (λ stop. RowStopIs stop (group_why groups.old.items (map (λ w. w.now) words.now))) }
 {
     let Some((name, number)) = row_parts(groups.len() as u8 + 1, words) else {
-        return Err(Fault::Why(PuaWhy::Row));
+        return Err(RowStop::Why(PuaWhy::Row));
     };
     let number = match numbered(groups, name, number) {
         Ok(number) => number,
-        Err(why) => return Err(Fault::Why(why)),
+        Err(why) => return Err(RowStop::Why(why)),
     };
     let group = Group {
         name: ShortName::of(name),
@@ -124,6 +124,6 @@ pub(crate) fn read_group(groups: &mut Vec<Group>, words: &[&[u8]]) -> Result<(),
     };
     match put(groups, group) {
         Ok(()) => Ok(()),
-        Err(_) => Err(Fault::Memory),
+        Err(_) => Err(RowStop::Memory),
     }
 }

@@ -4,12 +4,12 @@
 mod draft;
 mod form;
 mod groups;
+mod interstages;
 mod reader;
 mod refusal;
 mod section;
 mod stages;
 mod twins;
-mod ways;
 mod words;
 
 pub use reader::read_plan;

@@ -3,7 +3,7 @@ ghost use Rattle.std.specs.Prelude.{◌≡◌, ◌<◌, ◌^◌, ◌-◌, length
 ghost use Rattle.std.specs.Str.Lines.{lines, strip_carriage_return};
 ghost use Rattle.pua_reader.specs.Accepted.{refusal_of, plan_of_text, RefusedAs, without_mark};
 
-use crate::draft::Draft;
+use crate::draft::PlanDraft;
 use crate::refusal::PuaRefusal;
 use pua_model::Plan;
 use sig_types::text::cut_at;
@@ -52,7 +52,7 @@ pub fn read_plan(alloc: Global, bytes: &[u8]) -> Result<Plan, PuaRefusal>
     ensures refused { IfErr result (λ refusal. RefusedAs refusal (refusal_of bytes.now)) }
 {
     let mut rest = without_mark(bytes);
-    let mut draft = Draft::nothing(alloc);
+    let mut draft = PlanDraft::empty(alloc);
     while !rest.is_empty() {
         let (line, more) = first_line(rest);
         draft.take_line(alloc, line)?;

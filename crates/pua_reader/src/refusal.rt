@@ -64,7 +64,7 @@ pub enum PuaRefusal {
 
 /// What stops a row: no memory, or the reason to refuse it.
 #[derive(Drop)]
-pub(crate) enum Fault {
+pub(crate) enum RowStop {
     Memory,
     Why(PuaWhy),
 }

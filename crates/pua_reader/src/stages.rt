@@ -5,12 +5,12 @@ ghost use Rattle.sig_types.specs.Text.{is_name, same_name};
 ghost use Rattle.pua_model.specs.Plan.{are_apart};
 ghost use Rattle.pua_reader.specs.Stages.{has_stage_name, stage_reasons, greens_of, last_greens, is_green_in, red_reasons, is_red_word, stage_row_why, stages_with, is_stage_row, stage_of, start_reasons, start_why, start_with};
 ghost use Rattle.pua_reader.specs.Groups.{has_name};
-ghost use Rattle.pua_reader.specs.Rules.{FaultIs};
+ghost use Rattle.pua_reader.specs.Rules.{RowStopIs};
 ghost use Rattle.pua_model.specs.Plan.{stands_in};
 
 use crate::form::is_stage_word;
 use crate::groups::has_name;
-use crate::refusal::{Fault, PuaWhy};
+use crate::refusal::{PuaWhy, RowStop};
 use crate::twins::are_apart;
 use crate::words::{Few, up_to_three};
 use pua_model::{Group, Stage, place_named};
@@ -64,31 +64,31 @@ fn is_among(name: &[u8], words: &[&[u8]]) -> bool
 
 // Why a stage's row is refused.
 #[tactic(auto, unfolding(crate::specs::Stages::stage_reasons))]
-fn stage_fault(
+fn stage_stop(
     alloc: Global,
     groups: &[Group],
     stages: &[Stage],
     name: &[u8],
     named: &[&[u8]],
-) -> Result<(), Fault>
+) -> Result<(), RowStop>
     ensures { MatchResult result (λ _. stage_reasons groups.now stages.now name.now (map (λ w. w.now) named.now) ≡ None)
-        (λ fault. FaultIs fault (stage_reasons groups.now stages.now name.now (map (λ w. w.now) named.now))) }
+        (λ stop. RowStopIs stop (stage_reasons groups.now stages.now name.now (map (λ w. w.now) named.now))) }
 {
     if !is_name(name) || !are_names(named) {
-        return Err(Fault::Why(PuaWhy::Row));
+        return Err(RowStop::Why(PuaWhy::Row));
     }
     if has_stage_name(stages, name) {
-        return Err(Fault::Why(PuaWhy::NameTwice));
+        return Err(RowStop::Why(PuaWhy::NameTwice));
     }
     match are_apart(alloc, named) {
         Ok(true) => {}
-        Ok(false) => return Err(Fault::Why(PuaWhy::NameTwice)),
-        Err(_) => return Err(Fault::Memory),
+        Ok(false) => return Err(RowStop::Why(PuaWhy::NameTwice)),
+        Err(_) => return Err(RowStop::Memory),
     }
     if !are_groups(groups, named) {
-        Err(Fault::Why(PuaWhy::UnknownName))
+        Err(RowStop::Why(PuaWhy::UnknownName))
     } else if stages.len() >= 32 {
-        Err(Fault::Why(PuaWhy::Limit))
+        Err(RowStop::Why(PuaWhy::Limit))
     } else {
         Ok(())
     }
@@ -108,7 +108,7 @@ fn greens_of(groups: &[Group], named: &[&[u8]]) -> Wishes
 }
 
 fn is_green_in(groups: &[Group], greens: &Wishes, name: &[u8]) -> bool
-    requires few { length groups.now ≤ 64 }
+    requires at_most { length groups.now ≤ 64 }
     requires greens { length groups.now ≤ length greens.now }
     ensures { result ≡ is_green_in groups.now greens.now name.now }
 {
@@ -119,7 +119,7 @@ fn is_green_in(groups: &[Group], greens: &Wishes, name: &[u8]) -> bool
 }
 
 fn any_green(groups: &[Group], greens: &Wishes, named: &[&[u8]]) -> bool
-    requires few { length groups.now ≤ 64 }
+    requires at_most { length groups.now ≤ 64 }
     requires greens { length groups.now ≤ length greens.now }
     ensures { result ≡ list_any (λ w. is_green_in groups.now greens.now w.now) named.now }
 {
@@ -128,7 +128,7 @@ fn any_green(groups: &[Group], greens: &Wishes, named: &[&[u8]]) -> bool
 
 // Whether a group that is green in the last stage is named.
 fn names_green(groups: &[Group], stages: &[Stage], named: &[&[u8]]) -> bool
-    requires few { length groups.now ≤ 64 }
+    requires at_most { length groups.now ≤ 64 }
     requires greens { length stages.now ≢ 0 → length groups.now ≤ length (last_greens stages.now) }
     ensures { result ≡ list_any (is_green_in groups.now (last_greens stages.now)) (map (λ w. w.now) named.now) }
 {
@@ -141,30 +141,30 @@ fn names_green(groups: &[Group], stages: &[Stage], named: &[&[u8]]) -> bool
 
 // Why a `red` row is refused.
 #[tactic(auto, unfolding(crate::specs::Stages::red_reasons))]
-fn red_fault(
+fn red_stop(
     alloc: Global,
     groups: &[Group],
     stages: &[Stage],
     after_stage: bool,
     named: &[&[u8]],
-) -> Result<(), Fault>
+) -> Result<(), RowStop>
     requires greens { length stages.now ≢ 0 → length groups.now ≤ length (last_greens stages.now) }
-    requires few { length groups.now ≤ 64 }
+    requires at_most { length groups.now ≤ 64 }
     ensures { MatchResult result (λ _. red_reasons groups.now stages.now after_stage (map (λ w. w.now) named.now) ≡ None)
-        (λ fault. FaultIs fault (red_reasons groups.now stages.now after_stage (map (λ w. w.now) named.now))) }
+        (λ stop. RowStopIs stop (red_reasons groups.now stages.now after_stage (map (λ w. w.now) named.now))) }
 {
     if !after_stage || named.is_empty() || !are_names(named) || names_green(groups, stages, named) {
-        return Err(Fault::Why(PuaWhy::Row));
+        return Err(RowStop::Why(PuaWhy::Row));
     }
     match are_apart(alloc, named) {
         Ok(true) => {}
-        Ok(false) => return Err(Fault::Why(PuaWhy::NameTwice)),
-        Err(_) => return Err(Fault::Memory),
+        Ok(false) => return Err(RowStop::Why(PuaWhy::NameTwice)),
+        Err(_) => return Err(RowStop::Memory),
     }
     if are_groups(groups, named) {
         Ok(())
     } else {
-        Err(Fault::Why(PuaWhy::UnknownName))
+        Err(RowStop::Why(PuaWhy::UnknownName))
     }
 }
 
@@ -175,23 +175,23 @@ pub(crate) fn read_stage(
     stages: &mut Vec<Stage>,
     after_stage: &mut bool,
     words: &[&[u8]],
-) -> Result<(), Fault>
+) -> Result<(), RowStop>
     requires greens { length stages.old.items ≢ 0 → length groups.now ≤ length (last_greens stages.old.items) }
-    requires few { length groups.now ≤ 64 }
+    requires at_most { length groups.now ≤ 64 }
     ensures { MatchResult result
         (λ _. (stage_row_why groups.now stages.old.items after_stage.old (map (λ w. w.now) words.now) ≡ None)
         × (stages.new.items ≡ stages_with groups.now stages.old.items (map (λ w. w.now) words.now)) × (after_stage.new ≡ is_stage_row (map (λ w. w.now) words.now)))
-        (λ fault. FaultIs fault (stage_row_why groups.now stages.old.items after_stage.old (map (λ w. w.now) words.now))) }
+        (λ stop. RowStopIs stop (stage_row_why groups.now stages.old.items after_stage.old (map (λ w. w.now) words.now))) }
 {
     let Some((name, named)) = words.split_first() else {
-        return Err(Fault::Why(PuaWhy::Row));
+        return Err(RowStop::Why(PuaWhy::Row));
     };
     if same_name(name, b"red") {
-        red_fault(alloc, groups, stages, *after_stage, named)?;
+        red_stop(alloc, groups, stages, *after_stage, named)?;
         *after_stage = false;
         return Ok(());
     }
-    stage_fault(alloc, groups, stages, name, named)?;
+    stage_stop(alloc, groups, stages, name, named)?;
     let stage = Stage {
         name: ShortName::of(name),
         greens: greens_of(groups, named),
@@ -199,7 +199,7 @@ pub(crate) fn read_stage(
     *after_stage = true;
     match stages.push(stage) {
         Ok(()) => Ok(()),
-        Err(_) => Err(Fault::Memory),
+        Err(_) => Err(RowStop::Memory),
     }
 }
 

@@ -81,7 +81,7 @@ refused_next plan text old new cells pairs row why reads has is =
 
 -- what is known of a record that is accepted
 pub record IsAccepted (plan : PlanOf) (cells : List (Option ℕ)) (row : Row) (from to : GroupNo) (z : ℕ) : Type 0 where
-  pub few : groups_in plan ≤ 64
+  pub at_most : groups_in plan ≤ 64
   pub pair : pair_in plan row ≡ Some (from.0, to.0)
   pub first : from.0 < groups_in plan
   pub second : to.0 < groups_in plan
@@ -95,18 +95,18 @@ pub accepted_next : (plan : PlanOf) (text : List ℕ) (old new : Records) (cells
     more ≡ slice_set cells (64 * from.0 + to.0) (Some z) → listed ≡ pairs ++ (from, to) ∷ [] → (ReadsPairs plan text new more listed) × (empties more + 1 ≡ empties cells)
 unfolding numbered
 accepted_next plan text old new cells more pairs listed row from to z reads has is e cut put =
-    let fills : empties (slice_set cells (64 * from.0 + to.0) (Some z)) + 1 ≡ empties cells = empties_filled cells (64 * from.0 + to.0) z (omega (arith, e.few, e.first, e.second, reads.holds.size)) e.free in (
+    let fills : empties (slice_set cells (64 * from.0 + to.0) (Some z)) + 1 ≡ empties cells = empties_filled cells (64 * from.0 + to.0) z (omega (arith, e.at_most, e.first, e.second, reads.holds.size)) e.free in (
       rw (cut, put) (record {
         header = reads.header;
         rows = reads.rows ++ row ∷ [];
         read = has;
         right = reads.right;
         accepted = accepted_pushed (numbered (intergreen_reason plan)) reads.rows row [] reads.accepted (ap (at (length reads.rows + 2)) is);
-        holds = held_more plan reads.rows cells pairs row from to z reads.holds e.few e.first e.second e.other e.pair e.free e.seconds e.range;
+        holds = held_more plan reads.rows cells pairs row from to z reads.holds e.at_most e.first e.second e.other e.pair e.free e.seconds e.range;
         inside = λ k lt. elim (cases_lt k (length pairs)) [
           | inl before ↦ rw (get_or_append_left pairs ((from, to) ∷ []) no_pair k before) (reads.inside k before)
           | inr last ↦ (let p : k ≡ length pairs = omega (arith, length-append pairs ((from, to) ∷ [])) in
-              rw (ap (λ (n : ℕ). get_or (pairs ++ (from, to) ∷ []) n no_pair) p ∙ get_or-append_seam pairs (from, to) [] no_pair) (omega (arith, e.few, e.first), omega (arith, e.few, e.second)))
+              rw (ap (λ (n : ℕ). get_or (pairs ++ (from, to) ∷ []) n no_pair) p ∙ get_or-append_seam pairs (from, to) [] no_pair) (omega (arith, e.at_most, e.first), omega (arith, e.at_most, e.second)))
         ];
         count = omega (arith, reads.count, fills, reads.read.number, has.number, length-append reads.rows (row ∷ []));
       }),
@@ -126,8 +126,8 @@ last_seconds plan text cells pairs header rows holds all i g = holds.seconds i g
 pub are_pairs : (plan : PlanOf) (rows : List Row) (cells : List (Option ℕ)) (pairs : List (GroupNo × GroupNo)) → HoldsPairs plan rows cells pairs → 1 ≤ groups_in plan → groups_in plan ≤ 64 →
     ((i g z : ℕ) → cell_of cells i g ≡ Some z → is_some (cell_of cells g i) ≡ true) → ArePairs (record { count = groups_in plan; cells = cells })
 are_pairs plan rows cells pairs holds some few both = record {
-  some = some;
-  few = few;
+  at_least = some;
+  at_most = few;
   size = holds.size;
   inside = holds.inside;
   range = holds.range;

@@ -31,8 +31,8 @@ pub record ReadsTimes (plan : PlanOf) (text : List ℕ) (records : Records) (hel
   pub right : is_header (header_of Times) header ≡ true
   pub accepted : first_refused (numbered (times_reason plan)) rows [] ≡ None
   pub holds : HoldsTimes plan rows held
-  pub few : groups_in plan ≤ 64
-  pub some : 1 ≤ groups_in plan
+  pub at_most : groups_in plan ≤ 64
+  pub at_least : 1 ≤ groups_in plan
   pub count : records.number + empties held ≡ groups_in plan + 1
 
 or_none : (r : Option Refusal) → or_next r None ≡ r
@@ -99,8 +99,8 @@ begun plan text records held header read right none some few = record {
   right = right;
   accepted = refl;
   holds = rw none (holds_none plan);
-  few = few;
-  some = some;
+  at_most = few;
+  at_least = some;
   count = rw none (omega (arith, read.number, all_empty (Option TimesRow) (groups_in plan), all_empty TimesRow (groups_in plan)));
 }
 
@@ -126,8 +126,8 @@ accepted_next plan text old new held more row reads has is holds fills = record 
   right = reads.right;
   accepted = accepted_pushed (numbered (times_reason plan)) reads.rows row [] reads.accepted (ap (at (length reads.rows + 2)) is);
   holds = holds;
-  few = reads.few;
-  some = reads.some;
+  at_most = reads.at_most;
+  at_least = reads.at_least;
   count = omega (arith, reads.count, fills, reads.read.number, has.number, length-append reads.rows (row ∷ []));
 }
 

@@ -16,8 +16,8 @@ between p i g = cell_of p.cells i g
 
 -- 1 to 64 groups; pairs of two different groups below the count, listed both ways, with 0 to 99 seconds
 pub record ArePairs (p : Pairs) : Type 0 where
-  pub some : 1 ≤ p.count
-  pub few : p.count ≤ 64
+  pub at_least : 1 ≤ p.count
+  pub at_most : p.count ≤ 64
   pub size : length p.cells ≡ 4096
   pub inside : (i g z : ℕ) → between p i g ≡ Some z → (i < p.count) × (g < p.count)
   pub range : (i g z : ℕ) → between p i g ≡ Some z → z ≤ 99

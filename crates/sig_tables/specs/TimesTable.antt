@@ -16,14 +16,14 @@ use Rattle.sig_tables.specs.Groups.{group_at, is_group}
 -- minimum green 1 to 255, red-amber and amber 0 to 9
 pub record IsRow (row : TimesRow) : Type 0 where
   pub min : 1 ≤ row.min
-  pub min_most : row.min ≤ 255
+  pub min_at_most : row.min ≤ 255
   pub red_amber : row.red_amber ≤ 9
   pub amber : row.amber ≤ 9
 
 -- 1 to 64 rows, in range
 pub record AreTimes (rows : List TimesRow) : Type 0 where
-  pub some : 1 ≤ length rows
-  pub few : length rows ≤ 64
+  pub at_least : 1 ≤ length rows
+  pub at_most : length rows ≤ 64
   pub range : All IsRow rows
 
 abbrev pub no_times : TimesRow

@@ -58,7 +58,7 @@ impl Intergreens {
         requires from { from.0 < self.now.count }
         requires to { to.0 < self.now.count }
         ensures seconds { result ≡ between self.now from.0 to.0 }
-        ensures few { IfSome result (λ z. z ≤ 99) }
+        ensures at_most { IfSome result (λ z. z ≤ 99) }
     {
         self.cells[place_of(from, to)]
     }

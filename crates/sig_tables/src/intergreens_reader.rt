@@ -33,7 +33,7 @@ struct Entry {
 fn seconds_in(row: &ByteRecord) -> Option<u8>
     requires { length (fields_of row.now) ≡ 3 }
     ensures seconds { result ≡ seconds_in (fields_of row.now) }
-    ensures few { IfSome result (λ z. z ≤ 99) }
+    ensures at_most { IfSome result (λ z. z ≤ 99) }
 {
     let seconds = number(field(row, 2), 0, 99)?;
     Some(seconds as u8)
@@ -43,12 +43,12 @@ fn seconds_in(row: &ByteRecord) -> Option<u8>
 #[tactic(auto, unfolding(crate::specs::IntergreenTable::intergreen_form, crate::specs::IntergreenTable::pair_in))]
 fn entry_of(row: &ByteRecord, plan: &Plan) -> Result<Entry, TableWhy>
     ensures refused { IfErr result (λ why. intergreen_form plan.now (fields_of row.now) ≡ Some why) }
-    ensures right { IfOk result (λ e. intergreen_form plan.now (fields_of row.now) ≡ None) }
+    ensures accepted { IfOk result (λ e. intergreen_form plan.now (fields_of row.now) ≡ None) }
     ensures pair { IfOk result (λ e. pair_in plan.now (fields_of row.now) ≡ Some (e.from.0, e.to.0)) }
     ensures from { IfOk result (λ e. e.from.0 < groups_in plan.now) }
     ensures to { IfOk result (λ e. e.to.0 < groups_in plan.now) }
     ensures seconds { IfOk result (λ e. seconds_in (fields_of row.now) ≡ Some e.seconds) }
-    ensures few { IfOk result (λ e. e.seconds ≤ 99) }
+    ensures at_most { IfOk result (λ e. e.seconds ≤ 99) }
 {
     if row.len() != 3 {
         return Err(TableWhy::Fields);
@@ -68,16 +68,16 @@ fn entry_of(row: &ByteRecord, plan: &Plan) -> Result<Entry, TableWhy>
 // The entry of a record that is accepted after those whose seconds stand in the cells.
 fn accepted(cells: &[Option<u8>], row: &ByteRecord, plan: &Plan) -> Result<Entry, TableWhy>
     requires size { length cells.now ≡ 4096 }
-    requires few { groups_in plan.now ≤ 64 }
+    requires at_most { groups_in plan.now ≤ 64 }
     ensures refused { IfErr result (λ why. (rows : List Row) (pairs : List (GroupNo × GroupNo)) → HoldsPairs plan.now rows cells.now pairs → intergreen_reason plan.now rows (fields_of row.now) ≡ Some why) }
-    ensures right { IfOk result (λ e. (rows : List Row) (pairs : List (GroupNo × GroupNo)) → HoldsPairs plan.now rows cells.now pairs → intergreen_reason plan.now rows (fields_of row.now) ≡ None) }
+    ensures accepted { IfOk result (λ e. (rows : List Row) (pairs : List (GroupNo × GroupNo)) → HoldsPairs plan.now rows cells.now pairs → intergreen_reason plan.now rows (fields_of row.now) ≡ None) }
     ensures pair { IfOk result (λ e. pair_in plan.now (fields_of row.now) ≡ Some (e.from.0, e.to.0)) }
     ensures from { IfOk result (λ e. e.from.0 < groups_in plan.now) }
     ensures to { IfOk result (λ e. e.to.0 < groups_in plan.now) }
     ensures other { IfOk result (λ e. e.from.0 ≢ e.to.0) }
     ensures free { IfOk result (λ e. slice_index_or cells.now (64 * e.from.0 + e.to.0) None ≡ None) }
     ensures seconds { IfOk result (λ e. seconds_in (fields_of row.now) ≡ Some e.seconds) }
-    ensures seconds_few { IfOk result (λ e. e.seconds ≤ 99) }
+    ensures seconds_at_most { IfOk result (λ e. e.seconds ≤ 99) }
 {
     let entry = entry_of(row, plan)?;
     if cells[place_of(entry.from, entry.to)].is_some() {
@@ -130,7 +130,7 @@ impl Listed {
     // Whether each pair is listed the other way too; the first that isn't is refused.
     fn both_ways(&self) -> Result<(), TableRefusal>
         requires size { length self.now.cells.items ≡ 4096 }
-        requires few { length self.now.pairs.items ≤ 4096 }
+        requires at_most { length self.now.pairs.items ≤ 4096 }
         requires inside { (k : ℕ) → k < length self.now.pairs.items → IsPairOf 64 (slice_index_or self.now.pairs.items k no_pair) }
         ensures refused { IfErr result (λ e. (plan : PlanOf) (rows : List Row) → HoldsPairs plan rows self.now.cells.items self.now.pairs.items → IsRefusal (first_refused (numbered (one_way_reason plan rows)) rows []) e) }
         ensures none { IfOk result (λ _. (plan : PlanOf) (rows : List Row) → HoldsPairs plan rows self.now.cells.items self.now.pairs.items → first_refused (numbered (one_way_reason plan rows)) rows [] ≡ None) }

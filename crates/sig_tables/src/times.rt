@@ -52,7 +52,7 @@ impl Times {
     pub fn min(&self, g: GroupNo) -> u8
         requires { g.0 < length self.now }
         ensures min { result ≡ (row_of self.now g.0).min }
-        ensures some { 1 ≤ result }
+        ensures at_least { 1 ≤ result }
     {
         self.rows[g.0 as usize].min
     }
@@ -61,7 +61,7 @@ impl Times {
     pub fn red_amber(&self, g: GroupNo) -> u8
         requires { g.0 < length self.now }
         ensures red_amber { result ≡ (row_of self.now g.0).red_amber }
-        ensures few { result ≤ 9 }
+        ensures at_most { result ≤ 9 }
     {
         self.rows[g.0 as usize].red_amber
     }
@@ -70,7 +70,7 @@ impl Times {
     pub fn amber(&self, g: GroupNo) -> u8
         requires { g.0 < length self.now }
         ensures amber { result ≡ (row_of self.now g.0).amber }
-        ensures few { result ≤ 9 }
+        ensures at_most { result ≤ 9 }
     {
         self.rows[g.0 as usize].amber
     }

@@ -39,7 +39,7 @@ fn times_in(row: &ByteRecord) -> Option<TimesRow>
 #[tactic(auto, unfolding(crate::specs::TimesTable::times_form))]
 fn times_record(row: &ByteRecord, plan: &Plan) -> Result<(GroupNo, TimesRow), TableWhy>
     ensures refused { IfErr result (λ why. times_form plan.now (fields_of row.now) ≡ Some why) }
-    ensures right { IfOk result (λ r. times_form plan.now (fields_of row.now) ≡ None) }
+    ensures accepted { IfOk result (λ r. times_form plan.now (fields_of row.now) ≡ None) }
     ensures group { IfOk result (λ r. group_at plan.now (fields_of row.now) 0 ≡ Some r.0.0) }
     ensures inside { IfOk result (λ r. r.0.0 < groups_in plan.now) }
     ensures times { IfOk result (λ r. times_in (fields_of row.now) ≡ Some r.1) }
@@ -61,7 +61,7 @@ fn times_record(row: &ByteRecord, plan: &Plan) -> Result<(GroupNo, TimesRow), Ta
 fn add_times(held: &mut [Option<TimesRow>], row: &ByteRecord, plan: &Plan) -> Result<(), TableWhy>
     requires { length held.old ≡ groups_in plan.now }
     ensures refused { IfErr result (λ why. (rows : List Row) → HoldsTimes plan.now rows held.old → times_reason plan.now rows (fields_of row.now) ≡ Some why) }
-    ensures right { IfOk result (λ _. (rows : List Row) → HoldsTimes plan.now rows held.old → times_reason plan.now rows (fields_of row.now) ≡ None) }
+    ensures accepted { IfOk result (λ _. (rows : List Row) → HoldsTimes plan.now rows held.old → times_reason plan.now rows (fields_of row.now) ≡ None) }
     ensures held { IfOk result (λ _. (rows : List Row) → HoldsTimes plan.now rows held.old → HoldsTimes plan.now (rows ++ fields_of row.now ∷ []) held.new) }
     ensures fills { IfOk result (λ _. empties held.new + 1 ≡ empties held.old) }
 {
@@ -77,8 +77,8 @@ fn add_times(held: &mut [Option<TimesRow>], row: &ByteRecord, plan: &Plan) -> Re
 // A place for each group of the plan, all empty.
 fn no_times(alloc: Global, plan: &Plan) -> Result<Vec<Option<TimesRow>>, TableRefusal>
     ensures empty { IfOk result (λ v. v.items ≡ replicate (groups_in plan.now) None) }
-    ensures some { 1 ≤ groups_in plan.now }
-    ensures few { groups_in plan.now ≤ 64 }
+    ensures at_least { 1 ≤ groups_in plan.now }
+    ensures at_most { groups_in plan.now ≤ 64 }
     ensures memory { IfErr result (λ e. e ≡ TableRefusal.Memory) }
 {
     let groups = plan.groups() as usize;
@@ -88,8 +88,8 @@ fn no_times(alloc: Global, plan: &Plan) -> Result<Vec<Option<TimesRow>>, TableRe
 
 // The times of the groups, where each has some.
 fn complete(alloc: Global, held: &[Option<TimesRow>]) -> Result<Times, TableRefusal>
-    requires some { 1 ≤ length held.now }
-    requires few { length held.now ≤ 64 }
+    requires at_least { 1 ≤ length held.now }
+    requires at_most { length held.now ≤ 64 }
     requires range { (g : ℕ) → g < length held.now → IsRowOrNone (slice_index_or held.now g None) }
     ensures missing { IfErr result (λ e. (plan : PlanOf) (rows : List Row) → HoldsTimes plan rows held.now → IsRefusal (missing_times plan rows) e) }
     ensures complete { IfOk result (λ _. (plan : PlanOf) (rows : List Row) → HoldsTimes plan rows held.now → missing_times plan rows ≡ None) }

@@ -5,7 +5,7 @@ use Rattle.sig_types.specs.declared.numbers.StagePlace.TheVariants.{NoPlan, Stag
 use Rattle.sig_types.specs.declared.numbers.StageNo.{StageNo}
 use Rattle.sig_types.specs.declared.aspect.Rule.{Rule}
 use Rattle.sig_types.specs.declared.aspect.Rule.TheVariants.{Running, WrongStage, NoInterstage}
-use Rattle.pua_model.specs.Plan.{PlanOf, HasStage, in_stage, way_between, length_between, wish_in}
+use Rattle.pua_model.specs.Plan.{PlanOf, HasStage, in_stage, interstage_between, length_between, wish_in}
 
 -- an obeyed command: in this second, from this stage to that
 pub record Order : Type 0 where
@@ -47,7 +47,7 @@ refused_without (Some i) = None
 abbrev pub refused_order : PlanOf → StagePlace → ℕ → ℕ → Option Rule
 refused_order plan NoPlan a b = Some WrongStage
 refused_order plan (Inter from to t) a b = Some Running
-refused_order plan (Stage s) a b = if s.0 == a then refused_without (way_between plan a b) else Some WrongStage
+refused_order plan (Stage s) a b = if s.0 == a then refused_without (interstage_between plan a b) else Some WrongStage
 
 abbrev pub wish_by : PlanOf → Option ℕ → ℕ → ℕ → Bool
 wish_by plan None t g = false
@@ -57,7 +57,7 @@ wish_by plan (Some i) t g = wish_in plan i t g
 unfoldable pub stage_wish : PlanOf → StagePlace → ℕ → Bool
 stage_wish plan NoPlan g = false
 stage_wish plan (Stage s) g = in_stage plan s.0 g
-stage_wish plan (Inter from to t) g = wish_by plan (way_between plan from.0 to.0) t g
+stage_wish plan (Inter from to t) g = wish_by plan (interstage_between plan from.0 to.0) t g
 
 -- the last order's second is not past k, it was of stages of the plan, and its interstage has a length
 abbrev pub Until : PlanOf → List Order → ℕ → Type 0

@@ -20,7 +20,7 @@ fn length_between(plan: &Plan, from: StageNo, to: StageNo) -> Option<u8>
 {
     match plan.interstage(from, to) {
         None => None,
-        Some(way) => Some(plan.length(way)),
+        Some(interstage) => Some(plan.length(interstage)),
     }
 }
 
@@ -115,7 +115,7 @@ impl StageState {
             StagePlace::Stage(stage) => plan.in_stage(stage, g),
             StagePlace::Inter { from, to, t } => match plan.interstage(from, to) {
                 None => false,
-                Some(way) => plan.wish(way, t, g),
+                Some(interstage) => plan.wish(interstage, t, g),
             },
         }
     }

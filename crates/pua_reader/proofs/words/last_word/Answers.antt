@@ -1,6 +1,6 @@
 use Rattle.std.proofs.Common.{ℕ, ◌-◌, List, sym, ap, ◌∙◌, Bor}
 use Rattle.std.proofs.lemmas.List.{length-map}
-use Rattle.pua_reader.specs.Ways.{word}
+use Rattle.pua_reader.specs.Interstages.{word}
 use Rattle.pua_reader.proofs.Texts.{texts}
 use Rattle.pua_reader.proofs.words.last_word.Goals as goal
 

@@ -14,21 +14,21 @@ pub returns-then-is_some-clause-refused : goal.returns-then-is_some-clause-refus
 returns-then-is_some-clause-refused c = λ rows pairs holds.
     let entry = c.in_ok-entry in
     let held : is_some (get_or c.args.cells.now (64 * entry.entry.from.0 + entry.entry.to.0) None) ≡ true = search rules in
-    reason_twice c.args.plan.now rows (fields_of c.args.row.now) entry.entry.from.0 entry.entry.to.0 entry.ensures.right entry.ensures.pair
-    (held_listed c.args.plan.now rows c.args.cells.now pairs entry.entry.from.0 entry.entry.to.0 holds (omega (arith, entry.ensures.from, c.requires.few)) (omega (arith, entry.ensures.to, c.requires.few)) true held)
+    reason_twice c.args.plan.now rows (fields_of c.args.row.now) entry.entry.from.0 entry.entry.to.0 entry.ensures.accepted entry.ensures.pair
+    (held_listed c.args.plan.now rows c.args.cells.now pairs entry.entry.from.0 entry.entry.to.0 holds (omega (arith, entry.ensures.from, c.requires.at_most)) (omega (arith, entry.ensures.to, c.requires.at_most)) true held)
 
 pub returns-then-eq-clause-refused : goal.returns-then-eq-clause-refused
 returns-then-eq-clause-refused c = λ rows pairs holds.
     let entry = c.in_ok-entry in
     let held : is_some (get_or c.args.cells.now (64 * entry.entry.from.0 + entry.entry.to.0) None) ≡ false = search rules in
     let self : (entry.entry.from.0 == entry.entry.to.0) ≡ true = search rules in
-    reason_self c.args.plan.now rows (fields_of c.args.row.now) entry.entry.from.0 entry.entry.to.0 entry.ensures.right entry.ensures.pair
-    (held_listed c.args.plan.now rows c.args.cells.now pairs entry.entry.from.0 entry.entry.to.0 holds (omega (arith, entry.ensures.from, c.requires.few)) (omega (arith, entry.ensures.to, c.requires.few)) false held) self
+    reason_self c.args.plan.now rows (fields_of c.args.row.now) entry.entry.from.0 entry.entry.to.0 entry.ensures.accepted entry.ensures.pair
+    (held_listed c.args.plan.now rows c.args.cells.now pairs entry.entry.from.0 entry.entry.to.0 holds (omega (arith, entry.ensures.from, c.requires.at_most)) (omega (arith, entry.ensures.to, c.requires.at_most)) false held) self
 
-pub returns-clause-right : goal.returns-clause-right
-returns-clause-right c = λ rows pairs holds.
+pub returns-clause-accepted : goal.returns-clause-accepted
+returns-clause-accepted c = λ rows pairs holds.
     let entry = c.in_ok-entry in
     let held : is_some (get_or c.args.cells.now (64 * entry.entry.from.0 + entry.entry.to.0) None) ≡ false = search rules in
     let self : (entry.entry.from.0 == entry.entry.to.0) ≡ false = search rules in
-    reason_none c.args.plan.now rows (fields_of c.args.row.now) entry.entry.from.0 entry.entry.to.0 entry.ensures.right entry.ensures.pair
-    (held_listed c.args.plan.now rows c.args.cells.now pairs entry.entry.from.0 entry.entry.to.0 holds (omega (arith, entry.ensures.from, c.requires.few)) (omega (arith, entry.ensures.to, c.requires.few)) false held) self
+    reason_none c.args.plan.now rows (fields_of c.args.row.now) entry.entry.from.0 entry.entry.to.0 entry.ensures.accepted entry.ensures.pair
+    (held_listed c.args.plan.now rows c.args.cells.now pairs entry.entry.from.0 entry.entry.to.0 holds (omega (arith, entry.ensures.from, c.requires.at_most)) (omega (arith, entry.ensures.to, c.requires.at_most)) false held) self

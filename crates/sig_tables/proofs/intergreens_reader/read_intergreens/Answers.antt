@@ -23,17 +23,17 @@ loop-listed-smaller c =
     let has = c.in_ok-next.ensures.more (search rules) c.args.bytes.now (reads.header ∷ reads.rows) reads.read in
     let holds : HoldsPairs c.args.plan.now reads.rows c.deref.result.now c.loop-listed.listed.pairs.items = rw c.deref.ensures.value reads.holds in
     let entry : IsAccepted c.args.plan.now c.loop-listed.listed.cells.items (fields_of c.next.new.self.row) c.in-Ok.entry.from c.in-Ok.entry.to c.in-Ok.entry.seconds = record {
-      few = c.groups-groups.ensures.plan.few_groups;
+      at_most = c.groups-groups.ensures.plan.groups_at_most;
       pair = c.in-Ok.ensures.pair;
       first = c.in-Ok.ensures.from;
       second = c.in-Ok.ensures.to;
       other = c.in-Ok.ensures.other;
       free = rw c.deref.ensures.value at c.in-Ok.ensures.free;
       seconds = c.in-Ok.ensures.seconds;
-      range = c.in-Ok.ensures.seconds_few;
+      range = c.in-Ok.ensures.seconds_at_most;
     } in
     let next = accepted_next c.args.plan.now c.args.bytes.now c.loop-listed.records c.next.new.self c.loop-listed.listed.cells.items c.put.new.self.cells.items c.loop-listed.listed.pairs.items
-    c.put.new.self.pairs.items (fields_of c.next.new.self.row) c.in-Ok.entry.from c.in-Ok.entry.to c.in-Ok.entry.seconds reads has (c.in-Ok.ensures.right reads.rows c.loop-listed.listed.pairs.items holds)
+    c.put.new.self.pairs.items (fields_of c.next.new.self.row) c.in-Ok.entry.from c.in-Ok.entry.to c.in-Ok.entry.seconds reads has (c.in-Ok.ensures.accepted reads.rows c.loop-listed.listed.pairs.items holds)
     entry c.in_ok-put-in-Ok.ensures.cells c.in_ok-put-in-Ok.ensures.pairs in
     let fills : empties c.put.new.self.cells.items + 1 ≡ empties c.loop-listed.listed.cells.items = next.1 in
     omega (arith, fills)
@@ -44,17 +44,17 @@ loop-listed-preserved c =
     let has = c.in_ok-next.ensures.more (search rules) c.args.bytes.now (reads.header ∷ reads.rows) reads.read in
     let holds : HoldsPairs c.args.plan.now reads.rows c.deref.result.now c.loop-listed.listed.pairs.items = rw c.deref.ensures.value reads.holds in
     let entry : IsAccepted c.args.plan.now c.loop-listed.listed.cells.items (fields_of c.next.new.self.row) c.in-Ok.entry.from c.in-Ok.entry.to c.in-Ok.entry.seconds = record {
-      few = c.groups-groups.ensures.plan.few_groups;
+      at_most = c.groups-groups.ensures.plan.groups_at_most;
       pair = c.in-Ok.ensures.pair;
       first = c.in-Ok.ensures.from;
       second = c.in-Ok.ensures.to;
       other = c.in-Ok.ensures.other;
       free = rw c.deref.ensures.value at c.in-Ok.ensures.free;
       seconds = c.in-Ok.ensures.seconds;
-      range = c.in-Ok.ensures.seconds_few;
+      range = c.in-Ok.ensures.seconds_at_most;
     } in
     (accepted_next c.args.plan.now c.args.bytes.now c.loop-listed.records c.next.new.self c.loop-listed.listed.cells.items c.put.new.self.cells.items c.loop-listed.listed.pairs.items
-    c.put.new.self.pairs.items (fields_of c.next.new.self.row) c.in-Ok.entry.from c.in-Ok.entry.to c.in-Ok.entry.seconds reads has (c.in-Ok.ensures.right reads.rows c.loop-listed.listed.pairs.items holds)
+    c.put.new.self.pairs.items (fields_of c.next.new.self.row) c.in-Ok.entry.from c.in-Ok.entry.to c.in-Ok.entry.seconds reads has (c.in-Ok.ensures.accepted reads.rows c.loop-listed.listed.pairs.items holds)
     entry c.in_ok-put-in-Ok.ensures.cells c.in_ok-put-in-Ok.ensures.pairs).0
 
 pub returns-in-Err-clause-refused : goal.returns-in-Err-clause-refused
@@ -76,8 +76,8 @@ returns-in_err-both_ways-clause-refused c =
 pub of-requires : goal.of-requires
 of-requires c =
     let reads = c.loop-listed.invariant in
-    rw c.groups-groups.ensures.count (are_pairs c.args.plan.now reads.rows c.loop-listed.listed.cells.items c.loop-listed.listed.pairs.items reads.holds c.groups-groups.ensures.plan.some_groups
-    c.groups-groups.ensures.plan.few_groups (c.in_ok-both_ways.ensures.both c.args.plan.now reads.rows reads.holds))
+    rw c.groups-groups.ensures.count (are_pairs c.args.plan.now reads.rows c.loop-listed.listed.cells.items c.loop-listed.listed.pairs.items reads.holds c.groups-groups.ensures.plan.has_groups
+    c.groups-groups.ensures.plan.groups_at_most (c.in_ok-both_ways.ensures.both c.args.plan.now reads.rows reads.holds))
 
 pub returns-clause-accepted : goal.returns-clause-accepted
 returns-clause-accepted c =

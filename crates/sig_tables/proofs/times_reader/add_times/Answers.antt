@@ -14,13 +14,13 @@ returns-in_err-group-clause-refused c =
 pub returns-then-is_some-clause-refused : goal.returns-then-is_some-clause-refused
 returns-then-is_some-clause-refused c = λ rows holds.
     let held : is_some (get_or c.args.held.now c.in_ok-group.group.0 None) ≡ true = search rules in
-    reason_twice c.args.plan.now rows (fields_of c.args.row.now) c.in_ok-group.group.0 c.in_ok-group.ensures.right c.in_ok-group.ensures.group
+    reason_twice c.args.plan.now rows (fields_of c.args.row.now) c.in_ok-group.group.0 c.in_ok-group.ensures.accepted c.in_ok-group.ensures.group
     (held_listed c.args.plan.now rows c.args.held.now c.in_ok-group.group.0 holds c.in_ok-group.ensures.inside true held)
 
-pub returns-clause-right : goal.returns-clause-right
-returns-clause-right c = λ rows holds.
+pub returns-clause-accepted : goal.returns-clause-accepted
+returns-clause-accepted c = λ rows holds.
     let held : is_some (get_or c.args.held.now c.in_ok-group.group.0 None) ≡ false = search rules in
-    reason_none c.args.plan.now rows (fields_of c.args.row.now) c.in_ok-group.group.0 c.in_ok-group.ensures.right c.in_ok-group.ensures.group
+    reason_none c.args.plan.now rows (fields_of c.args.row.now) c.in_ok-group.group.0 c.in_ok-group.ensures.accepted c.in_ok-group.ensures.group
     (held_listed c.args.plan.now rows c.args.held.now c.in_ok-group.group.0 holds c.in_ok-group.ensures.inside false held)
 
 pub returns-clause-held : goal.returns-clause-held

@@ -18,7 +18,7 @@ returns-in_err-records-clause-refused c =
 pub loop-held-init : goal.loop-held-init
 loop-held-init c =
     let read = c.in_ok-records.ensures.read in
-    begun c.args.plan.now c.args.bytes.now c.in_ok-records.records c.in_ok-held.held.items read.0 read.1.0 read.1.1 c.in_ok-held.ensures.empty c.in_ok-held.ensures.some c.in_ok-held.ensures.few
+    begun c.args.plan.now c.args.bytes.now c.in_ok-records.records c.in_ok-held.held.items read.0 read.1.0 read.1.1 c.in_ok-held.ensures.empty c.in_ok-held.ensures.at_least c.in_ok-held.ensures.at_most
 
 pub returns-in-Err-clause-refused : goal.returns-in-Err-clause-refused
 returns-in-Err-clause-refused c =
@@ -37,7 +37,7 @@ loop-held-preserved c =
     let written : take c.loop-held.held.len (c.add_times.new.held ++ drop (length c.add_times.new.held) c.loop-held.held.items) ≡ c.add_times.new.held =
     ap (λ n. take n (c.add_times.new.held ++ drop (length c.add_times.new.held) c.loop-held.held.items)) size ∙ take-append_seam c.add_times.new.held _ in
     rw written (accepted_next c.args.plan.now c.args.bytes.now c.loop-held.records c.next.new.self c.loop-held.held.items c.add_times.new.held (fields_of c.next.new.self.row) reads has
-    (c.in_default.ensures.right reads.rows holds) (c.in_default.ensures.held reads.rows holds) (c.in_default.ensures.fills ∙ ap empties c.deref_mut.ensures.value))
+    (c.in_default.ensures.accepted reads.rows holds) (c.in_default.ensures.held reads.rows holds) (c.in_default.ensures.fills ∙ ap empties c.deref_mut.ensures.value))
 
 pub returns-clause-refused : goal.returns-clause-refused
 returns-clause-refused c =

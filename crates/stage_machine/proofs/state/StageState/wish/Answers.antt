@@ -15,4 +15,4 @@ unfolding StandsFor
 wish-requires-clause-second c =
     let s = c.requires.stands in
     let h : HasOrders c.args.self.now c.args.plan.now s.0 s.1 = s.2 in
-    inter_is c.args.plan.now s.0 s.1 c.in-Inter.from c.in-Inter.to c.in-Inter.t c.in-Some.way.0 h.until (sym h.place ∙ c.in-Inter.is) (c.in-Some.ensures.some.0)
+    inter_is c.args.plan.now s.0 s.1 c.in-Inter.from c.in-Inter.to c.in-Inter.t c.in-Some.interstage.0 h.until (sym h.place ∙ c.in-Inter.is) (c.in-Some.ensures.inside.0)

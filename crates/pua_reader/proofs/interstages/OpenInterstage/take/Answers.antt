@@ -3,7 +3,7 @@ use Rattle.std.proofs.lemmas.List.{length-map}
 use Rattle.pua_reader.specs.declared.form.Form.TheVariants as form
 use Rattle.pua_reader.proofs.Texts.{texts}
 use Rattle.pua_reader.proofs.Forms.{form_gives}
-use Rattle.pua_reader.proofs.ways.Open.take.Goals as goal
+use Rattle.pua_reader.proofs.interstages.OpenInterstage.take.Goals as goal
 
 pub length_of-requires : goal.length_of-requires
 length_of-requires c =

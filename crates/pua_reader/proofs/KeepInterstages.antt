@@ -11,14 +11,14 @@ use Rattle.sig_types.specs.Words.{least_below, or_here}
 use Rattle.sig_types.specs.declared.numbers.StageNo.{StageNo}
 use Rattle.pua_model.specs.declared.parts.Group.{Group}
 use Rattle.pua_model.specs.declared.parts.Stage.{Stage}
-use Rattle.pua_model.specs.Plan.{Way, no_way, joins, has_pair, are_pairs_apart, is_row, is_end}
+use Rattle.pua_model.specs.Plan.{InterstageOf, no_interstage, joins, has_pair, are_pairs_apart, is_row, is_end}
 use Rattle.pua_model.specs.Wish.{leads}
 use Rattle.pua_reader.specs.declared.form.Form.{Form}
 use Rattle.pua_reader.specs.declared.form.Form.TheVariants as form
 use Rattle.pua_reader.specs.Words.{Text, signed_of}
 use Rattle.pua_reader.specs.Groups.{place_of}
-use Rattle.pua_reader.specs.Ways.{Opened, opened, form_of, or_none, end_or_none, word, last_word, length_reasons, ends_reasons, has_row, set_row, why_by, opened_by, way_row_why, opened_with, way_by, way_of, greens_in, first_inconsistent, inconsistent_why, way_reasons}
-use Rattle.pua_reader.specs.Legal.{IsOpen, IsStage, Leads, AreWays}
+use Rattle.pua_reader.specs.Interstages.{OpenInterstageOf, open_at, form_of, or_none, end_or_none, word, last_word, length_reasons, ends_reasons, has_row, set_row, form_why, open_after_form, interstage_row_why, open_after, interstage_by_keys, interstage_of, greens_in, first_inconsistent, inconsistent_why, interstage_reasons}
+use Rattle.pua_reader.specs.Legal.{IsOpen, IsStage, Leads, AreInterstages}
 use Rattle.pua_reader.proofs.Small.{none_first, not_true, both_true, both_false, nat_turned}
 use Rattle.pua_reader.proofs.KeepStages.{stage_is}
 
@@ -53,8 +53,8 @@ set_ends n rows (Some p) r e size fit each g lt = elim (cases_eq g p) [
   | inr other ↦ rw (get_or-set_other rows p g (Some (r, e)) None other) (each g lt)
 ]
 
-by_form : (f : Form) (groups : List Group) (stages : List Stage) (now : Opened) (ws : List Text) → IsOpen (length groups) stages now →
-    why_by f groups stages now ws ≡ None → IsOpen (length groups) stages (opened_by f groups stages now ws)
+by_form : (f : Form) (groups : List Group) (stages : List Stage) (now : OpenInterstageOf) (ws : List Text) → IsOpen (length groups) stages now →
+    form_why f groups stages now ws ≡ None → IsOpen (length groups) stages (open_after_form f groups stages now ws)
 by_form form.NoForm groups stages now ws is none = is
 by_form form.Number groups stages now ws is none = is
 by_form form.Length groups stages now ws is none =
@@ -74,39 +74,39 @@ by_form form.Ends groups stages now ws is none =
       ends = set_ends (length groups) now.rows (place_of groups (word ws 0)) r e is.rows (ends_fit now.rows (place_of groups (word ws 0)) r e none) is.ends;
     }
 
-pub open_keeps : (groups : List Group) (stages : List Stage) (now : Opened) (ws : List Text) → IsOpen (length groups) stages now →
-    way_row_why groups stages now ws ≡ None → IsOpen (length groups) stages (opened_with groups stages now ws)
+pub open_keeps : (groups : List Group) (stages : List Stage) (now : OpenInterstageOf) (ws : List Text) → IsOpen (length groups) stages now →
+    interstage_row_why groups stages now ws ≡ None → IsOpen (length groups) stages (open_after groups stages now ws)
 open_keeps groups stages now ws is none = by_form (form_of ws) groups stages now ws is none
 
-pub open_begins : (n line : ℕ) (stages : List Stage) → IsOpen n stages (opened line n)
+pub open_begins : (n line : ℕ) (stages : List Stage) → IsOpen n stages (open_at line n)
 open_begins n line stages =
     record { seconds = tt; from = tt; to = tt; rows = length-replicate n None; ends = λ g lt. rw (get_or-replicate {A = Option (ℤ × ℤ)} n g None None lt) refl }
 
--- an interstage in which nothing misses
-pub record IsWhole (groups : ℕ) (stages : List Stage) (w : Way) : Type 0 where
-  pub some : 1 ≤ w.length
-  pub few : w.length ≤ 126
+-- an interstage in which nothing is missing
+pub record IsWhole (groups : ℕ) (stages : List Stage) (w : InterstageOf) : Type 0 where
+  pub at_least : 1 ≤ w.length
+  pub at_most : w.length ≤ 126
   pub from : IsStage stages w.from
   pub to : IsStage stages w.to
   pub rows : length w.rows ≡ groups
   pub ends : (g : ℕ) → g < groups → is_row (get_or w.rows g None) ≡ true
 
-abbrev way_or : Way → Option Way → Way
-way_or d None = d
-way_or d (Some w) = w
+abbrev interstage_or : InterstageOf → Option InterstageOf → InterstageOf
+interstage_or d None = d
+interstage_or d (Some w) = w
 
-whole_by : (n : ℕ) (stages : List Stage) (l : Option ℕ) (a b : Option StageNo) (rows : List (Option (ℤ × ℤ))) (w : Way) →
+whole_by : (n : ℕ) (stages : List Stage) (l : Option ℕ) (a b : Option StageNo) (rows : List (Option (ℤ × ℤ))) (w : InterstageOf) →
     IfSome l (λ n. (1 ≤ n) × (n ≤ 126)) → IfSome a (λ s. IsStage stages s.0) → IfSome b (λ s. IsStage stages s.0) → length rows ≡ n →
-    ((g : ℕ) → g < n → is_row (get_or rows g None) ≡ true) → way_by l a b rows ≡ Some w → IsWhole n stages w
+    ((g : ℕ) → g < n → is_row (get_or rows g None) ≡ true) → interstage_by_keys l a b rows ≡ Some w → IsWhole n stages w
 whole_by n stages None a b rows w hl ha hb size each e = cc
 whole_by n stages (Some k) None b rows w hl ha hb size each e = cc
 whole_by n stages (Some k) (Some s) None rows w hl ha hb size each e = cc
 whole_by n stages (Some k) (Some s) (Some t) rows w hl ha hb size each e =
-    let same : record { from = s.0; to = t.0; length = k; rows = rows } ≡ w = ap (way_or w) e in
-    subst (λ (v : Way). IsWhole n stages v) same (record { some = hl.0; few = hl.1; from = ha; to = hb; rows = size; ends = each })
+    let same : record { from = s.0; to = t.0; length = k; rows = rows } ≡ w = ap (interstage_or w) e in
+    subst (λ (v : InterstageOf). IsWhole n stages v) same (record { at_least = hl.0; at_most = hl.1; from = ha; to = hb; rows = size; ends = each })
 
-pub whole_way : (n : ℕ) (stages : List Stage) (now : Opened) (w : Way) → IsOpen n stages now → way_of now ≡ Some w → IsWhole n stages w
-whole_way n stages now w is e = whole_by n stages now.length now.from now.to now.rows w is.seconds is.from is.to is.rows is.ends e
+pub whole_interstage : (n : ℕ) (stages : List Stage) (now : OpenInterstageOf) (w : InterstageOf) → IsOpen n stages now → interstage_of now ≡ Some w → IsWhole n stages w
+whole_interstage n stages now w is e = whole_by n stages now.length now.from now.to now.rows w is.seconds is.from is.to is.rows is.ends e
 
 here_none : (o : Option ℕ) (b : Bool) (n : ℕ) → or_here o b n ≡ None → (o ≡ None) × (b ≡ false)
 here_none (Some k) b n e = cc
@@ -128,27 +128,27 @@ last_none : (o : Option PuaWhy) → or_next o None ≡ None → o ≡ None
 last_none None e = refl
 last_none (Some x) e = cc
 
-pub record Joined (groups : List Group) (stages : List Stage) (ways : List Way) (w : Way) : Type 0 where
+pub record Joined (groups : List Group) (stages : List Stage) (interstages : List InterstageOf) (w : InterstageOf) : Type 0 where
   pub apart : (w.from == w.to) ≡ false
-  pub new : list_any (joins w.from w.to) ways ≡ false
+  pub new : list_any (joins w.from w.to) interstages ≡ false
   pub consistent : (g : ℕ) → g < length groups → leads (get_or w.rows g None) (greens_in stages w.from g) (greens_in stages w.to g) w.length ≡ true
 
-joined : (groups : List Group) (stages : List Stage) (ways : List Way) (w : Way) → way_reasons groups stages ways (Some w) ≡ None → Joined groups stages ways w
-unfolding way_reasons
-joined groups stages ways w none =
+joined : (groups : List Group) (stages : List Stage) (interstages : List InterstageOf) (w : InterstageOf) → interstage_reasons groups stages interstages (Some w) ≡ None → Joined groups stages interstages w
+unfolding interstage_reasons
+joined groups stages interstages w none =
     let one = none_first (w.from == w.to) _ _ none in
-    let two = none_first (list_any (joins w.from w.to) ways) _ _ one.1 in
-    let all = none_inconsistent (length ways + 1) groups (first_inconsistent (length groups) stages w) (last_none (inconsistent_why (length ways + 1) groups (first_inconsistent (length groups) stages w)) two.1) in
+    let two = none_first (list_any (joins w.from w.to) interstages) _ _ one.1 in
+    let all = none_inconsistent (length interstages + 1) groups (first_inconsistent (length groups) stages w) (last_none (inconsistent_why (length interstages + 1) groups (first_inconsistent (length groups) stages w)) two.1) in
     record {
       apart = one.0;
       new = two.0;
       consistent = λ g lt. not_true _ (least_none _ (length groups) all g lt);
     }
 
-joins_turned : (v w : Way) → joins v.from v.to w ≡ joins w.from w.to v
+joins_turned : (v w : InterstageOf) → joins v.from v.to w ≡ joins w.from w.to v
 joins_turned v w = rw (nat_turned w.from v.from, nat_turned w.to v.to) refl
 
-pair_push : (a b : ℕ) (ways : List Way) (w : Way) → has_pair a b ways ≡ false → joins a b w ≡ false → has_pair a b (ways ++ w ∷ []) ≡ false
+pair_push : (a b : ℕ) (interstages : List InterstageOf) (w : InterstageOf) → has_pair a b interstages ≡ false → joins a b w ≡ false → has_pair a b (interstages ++ w ∷ []) ≡ false
 pair_push a b [] w h ne = both_false (joins a b w) false ne refl
 pair_push a b (v ∷ vs) w h ne =
     let both = or_parts (joins a b v) (has_pair a b vs) h in
@@ -158,7 +158,7 @@ not_false : (b : Bool) → not b ≡ true → b ≡ false
 not_false true e = cc
 not_false false e = refl
 
-pairs_push : (ways : List Way) (w : Way) → are_pairs_apart ways ≡ true → list_any (joins w.from w.to) ways ≡ false → are_pairs_apart (ways ++ w ∷ []) ≡ true
+pairs_push : (interstages : List InterstageOf) (w : InterstageOf) → are_pairs_apart interstages ≡ true → list_any (joins w.from w.to) interstages ≡ false → are_pairs_apart (interstages ++ w ∷ []) ≡ true
 pairs_push [] w h new = refl
 pairs_push (v ∷ vs) w h new =
     let both = and_parts (not (has_pair v.from v.to vs)) (are_pairs_apart vs) h in
@@ -166,13 +166,13 @@ pairs_push (v ∷ vs) w h new =
     both_true (not (has_pair v.from v.to (vs ++ w ∷ []))) (are_pairs_apart (vs ++ w ∷ []))
     (ap not (pair_push v.from v.to vs w (not_false _ both.0) (joins_turned v w ∙ other.0))) (pairs_push vs w both.1 other.1)
 
-pub one_way_more : (groups : List Group) (stages : List Stage) (ways : List Way) (w : Way) → AreWays (length groups) stages ways → length ways < 256 →
-    IsWhole (length groups) stages w → way_reasons groups stages ways (Some w) ≡ None → AreWays (length groups) stages (ways ++ w ∷ [])
-one_way_more groups stages ways w legal room whole none =
-    let fits = joined groups stages ways w none in
+pub one_interstage_more : (groups : List Group) (stages : List Stage) (interstages : List InterstageOf) (w : InterstageOf) → AreInterstages (length groups) stages interstages → length interstages < 256 →
+    IsWhole (length groups) stages w → interstage_reasons groups stages interstages (Some w) ≡ None → AreInterstages (length groups) stages (interstages ++ w ∷ [])
+one_interstage_more groups stages interstages w legal room whole none =
+    let fits = joined groups stages interstages w none in
     let new : Leads (length groups) stages w = record {
-      some = whole.some;
-      few = whole.few;
+      at_least = whole.at_least;
+      at_most = whole.at_most;
       from = whole.from;
       to = whole.to;
       apart = fits.apart;
@@ -181,10 +181,10 @@ one_way_more groups stages ways w legal room whole none =
       consistent = fits.consistent;
     } in
     record {
-      few = omega (arith, length_push ways w);
-      apart = pairs_push ways w legal.apart fits.new;
-      each = λ i lt. elim (cases_lt i (length ways)) [
-        | inl old ↦ rw (get_or_append_left ways (w ∷ []) no_way i old) (legal.each i old)
-        | inr last ↦ (let here : length ways ≡ i = omega (arith, length_push ways w, lt, last) in rw (get_or_push ways w no_way i here) new)
+      at_most = omega (arith, length_push interstages w);
+      apart = pairs_push interstages w legal.apart fits.new;
+      each = λ i lt. elim (cases_lt i (length interstages)) [
+        | inl old ↦ rw (get_or_append_left interstages (w ∷ []) no_interstage i old) (legal.each i old)
+        | inr last ↦ (let here : length interstages ≡ i = omega (arith, length_push interstages w, lt, last) in rw (get_or_push interstages w no_interstage i here) new)
       ];
     }

@@ -7,7 +7,7 @@ use Rattle.sig_types.specs.Words.{least_below}
 use Rattle.sig_types.specs.declared.numbers.StageNo.{StageNo}
 use Rattle.pua_model.specs.declared.parts.Group.{Group}
 use Rattle.pua_model.specs.declared.parts.Stage.{Stage}
-use Rattle.pua_model.specs.Plan.{Way, joins, is_end}
+use Rattle.pua_model.specs.Plan.{InterstageOf, joins, is_end}
 use Rattle.pua_model.specs.Wish.{leads}
 use Rattle.pua_reader.specs.declared.refusal.PuaWhy.{PuaWhy}
 use Rattle.pua_reader.specs.declared.refusal.PuaWhy.TheVariants as why
@@ -19,15 +19,15 @@ use Rattle.pua_reader.specs.Groups.{place_of}
 use Rattle.pua_reader.specs.Stages.{is_stage_word, stage_of}
 
 -- an interstage whose section is read: the line of its section line, what its keys gave, and the ends of each group
-pub record Opened : Type 0 where
+pub record OpenInterstageOf : Type 0 where
   pub line : ℕ
   pub length : Option ℕ
   pub from : Option StageNo
   pub to : Option StageNo
   pub rows : List (Option (ℤ × ℤ))
 
-abbrev pub opened : ℕ → ℕ → Opened
-opened n groups = record { line = n; length = None; from = None; to = None; rows = replicate groups None }
+abbrev pub open_at : ℕ → ℕ → OpenInterstageOf
+open_at n groups = record { line = n; length = None; from = None; to = None; rows = replicate groups None }
 
 abbrev pub number_form : Text → Form
 number_form w = if is_some (number_of w) then form.Length else form.NoForm
@@ -97,50 +97,50 @@ ends_reasons rows place r e = first_reason (
     ∷ [])
 
 -- why a row of each form is refused
-abbrev pub why_by : Form → List Group → List Stage → Opened → List Text → Option PuaWhy
-why_by form.NoForm groups stages current ws = Some why.Row
-why_by form.Number groups stages current ws = None
-why_by form.Length groups stages current ws = length_reasons current.length (or_none (number_of (last_word ws)))
-why_by form.From groups stages current ws = stage_reasons current.from (stage_of stages (last_word ws))
-why_by form.To groups stages current ws = stage_reasons current.to (stage_of stages (last_word ws))
-why_by form.Ends groups stages current ws =
+abbrev pub form_why : Form → List Group → List Stage → OpenInterstageOf → List Text → Option PuaWhy
+form_why form.NoForm groups stages current ws = Some why.Row
+form_why form.Number groups stages current ws = None
+form_why form.Length groups stages current ws = length_reasons current.length (or_none (number_of (last_word ws)))
+form_why form.From groups stages current ws = stage_reasons current.from (stage_of stages (last_word ws))
+form_why form.To groups stages current ws = stage_reasons current.to (stage_of stages (last_word ws))
+form_why form.Ends groups stages current ws =
     ends_reasons current.rows (place_of groups (word ws 0)) (end_or_none (signed_of (word ws 1))) (end_or_none (signed_of (word ws 2)))
 
-abbrev pub way_row_why : List Group → List Stage → Opened → List Text → Option PuaWhy
-way_row_why groups stages current ws = why_by (form_of ws) groups stages current ws
+abbrev pub interstage_row_why : List Group → List Stage → OpenInterstageOf → List Text → Option PuaWhy
+interstage_row_why groups stages current ws = form_why (form_of ws) groups stages current ws
 
 abbrev pub set_row : List (Option (ℤ × ℤ)) → Option ℕ → ℤ → ℤ → List (Option (ℤ × ℤ))
 set_row rows None r e = rows
 set_row rows (Some g) r e = slice_set rows g (Some (r, e))
 
 -- what a row of each form gives
-abbrev pub opened_by : Form → List Group → List Stage → Opened → List Text → Opened
-opened_by form.NoForm groups stages current ws = current
-opened_by form.Number groups stages current ws = current
-opened_by form.Length groups stages current ws = record current { length = number_of (last_word ws) }
-opened_by form.From groups stages current ws = record current { from = stage_of stages (last_word ws) }
-opened_by form.To groups stages current ws = record current { to = stage_of stages (last_word ws) }
-opened_by form.Ends groups stages current ws =
+abbrev pub open_after_form : Form → List Group → List Stage → OpenInterstageOf → List Text → OpenInterstageOf
+open_after_form form.NoForm groups stages current ws = current
+open_after_form form.Number groups stages current ws = current
+open_after_form form.Length groups stages current ws = record current { length = number_of (last_word ws) }
+open_after_form form.From groups stages current ws = record current { from = stage_of stages (last_word ws) }
+open_after_form form.To groups stages current ws = record current { to = stage_of stages (last_word ws) }
+open_after_form form.Ends groups stages current ws =
     record current { rows = set_row current.rows (place_of groups (word ws 0)) (end_or_none (signed_of (word ws 1))) (end_or_none (signed_of (word ws 2))) }
 
-abbrev pub opened_with : List Group → List Stage → Opened → List Text → Opened
-opened_with groups stages current ws = opened_by (form_of ws) groups stages current ws
+abbrev pub open_after : List Group → List Stage → OpenInterstageOf → List Text → OpenInterstageOf
+open_after groups stages current ws = open_after_form (form_of ws) groups stages current ws
 
--- the interstage of a section in which nothing misses
-abbrev pub way_by : Option ℕ → Option StageNo → Option StageNo → List (Option (ℤ × ℤ)) → Option Way
-way_by (Some n) (Some a) (Some b) rows = Some (record { from = a.0; to = b.0; length = n; rows = rows })
-way_by None from to rows = None
-way_by (Some n) None to rows = None
-way_by (Some n) (Some a) None rows = None
+-- the interstage of a section in which nothing is missing
+abbrev pub interstage_by_keys : Option ℕ → Option StageNo → Option StageNo → List (Option (ℤ × ℤ)) → Option InterstageOf
+interstage_by_keys (Some n) (Some a) (Some b) rows = Some (record { from = a.0; to = b.0; length = n; rows = rows })
+interstage_by_keys None from to rows = None
+interstage_by_keys (Some n) None to rows = None
+interstage_by_keys (Some n) (Some a) None rows = None
 
-abbrev pub way_of : Opened → Option Way
-way_of current = way_by current.length current.from current.to current.rows
+abbrev pub interstage_of : OpenInterstageOf → Option InterstageOf
+interstage_of current = interstage_by_keys current.length current.from current.to current.rows
 
 abbrev pub greens_in : List Stage → ℕ → ℕ → Bool
 greens_in stages s g = slice_index_or (slice_index_or stages (s - 1) (record { name = []; greens = [] })).greens g false
 
 -- the least group that an interstage does not lead from its place in the one stage to that in the other
-abbrev pub first_inconsistent : ℕ → List Stage → Way → Option ℕ
+abbrev pub first_inconsistent : ℕ → List Stage → InterstageOf → Option ℕ
 first_inconsistent groups stages w =
     least_below (λ g. not (leads (slice_index_or w.rows g None) (greens_in stages w.from g) (greens_in stages w.to g) w.length)) groups
 
@@ -150,14 +150,14 @@ inconsistent_why number groups (Some g) =
     Some (why.Inconsistent number (record { 0 = g }) (slice_index_or groups g (record { name = []; number = 0 })).name)
 
 -- why the section of an interstage is refused as a whole, after these interstages
-unfoldable pub way_reasons : List Group → List Stage → List Way → Option Way → Option PuaWhy
-way_reasons groups stages ways None = Some why.Row
-way_reasons groups stages ways (Some w) = first_reason (
+unfoldable pub interstage_reasons : List Group → List Stage → List InterstageOf → Option InterstageOf → Option PuaWhy
+interstage_reasons groups stages interstages None = Some why.Row
+interstage_reasons groups stages interstages (Some w) = first_reason (
     when (w.from == w.to) why.Range
-    ∷ when (list_any (joins w.from w.to) ways) why.PairTwice
-    ∷ inconsistent_why (length ways + 1) groups (first_inconsistent (length groups) stages w)
+    ∷ when (list_any (joins w.from w.to) interstages) why.PairTwice
+    ∷ inconsistent_why (length interstages + 1) groups (first_inconsistent (length groups) stages w)
     ∷ [])
 
-abbrev pub ways_with : List Way → Option Way → List Way
-ways_with ways None = ways
-ways_with ways (Some w) = ways ++ w ∷ []
+abbrev pub interstages_with : List InterstageOf → Option InterstageOf → List InterstageOf
+interstages_with interstages None = interstages
+interstages_with interstages (Some w) = interstages ++ w ∷ []

@@ -3,15 +3,15 @@ ghost use Rattle.std.specs.Prelude.{[], ◌≡◌, ◌==◌, ◌≤◌, ◌<◌,
 ghost use Rattle.std.specs.List.{list_any};
 ghost use Rattle.sig_types.specs.Text.{number_of, within};
 ghost use Rattle.pua_model.specs.Wish.{leads};
-ghost use Rattle.pua_model.specs.Plan.{Way, joins, is_end};
+ghost use Rattle.pua_model.specs.Plan.{InterstageOf, joins, is_end};
 ghost use Rattle.pua_reader.specs.Words.{signed_of};
-ghost use Rattle.pua_reader.specs.Ways.{Opened, opened, form_of, way_row_why, opened_with, length_reasons, stage_reasons, ends_reasons, or_none, end_or_none, word, last_word, has_row, set_row, why_by, opened_by, way_by, first_inconsistent, greens_in, inconsistent_why, way_reasons, ways_with};
+ghost use Rattle.pua_reader.specs.Interstages.{OpenInterstageOf, open_at, form_of, interstage_row_why, open_after, length_reasons, stage_reasons, ends_reasons, or_none, end_or_none, word, last_word, has_row, set_row, form_why, open_after_form, interstage_by_keys, first_inconsistent, greens_in, inconsistent_why, interstage_reasons, interstages_with};
 ghost use Rattle.pua_reader.specs.Stages.{stage_of};
 ghost use Rattle.pua_reader.specs.Groups.{place_of};
-ghost use Rattle.pua_reader.specs.Rules.{FaultIs};
+ghost use Rattle.pua_reader.specs.Rules.{RowStopIs};
 
 use crate::form::{Form, form_of};
-use crate::refusal::{Fault, PuaWhy};
+use crate::refusal::{PuaWhy, RowStop};
 use crate::stages::stage_of;
 use crate::words::{end_of, last_word, word_at};
 use pua_model::{Group, Interstage, Stage, leads, place_named};
@@ -21,7 +21,7 @@ use std::alloc::{AllocError, Global};
 
 /// An interstage whose section is read: the line of its section line, what its keys gave, and the ends of each group.
 #[derive(Drop)]
-pub(crate) struct Open {
+pub(crate) struct OpenInterstage {
     pub(crate) line: u32,
     pub(crate) length: Option<u8>,
     pub(crate) from: Option<StageNo>,
@@ -29,7 +29,7 @@ pub(crate) struct Open {
     pub(crate) rows: Vec<Option<(i8, i8)>>,
 }
 
-#[tactic(auto, unfolding(crate::specs::Ways::length_reasons))]
+#[tactic(auto, unfolding(crate::specs::Interstages::length_reasons))]
 fn length_of(given: Option<u8>, word: &[u8]) -> Result<u8, PuaWhy>
     requires { is_some (number_of word.now) ≡ true }
     ensures { MatchResult result (λ n. (length_reasons given (or_none (number_of word.now)) ≡ None) × (number_of word.now ≡ Some n))
@@ -44,7 +44,7 @@ fn length_of(given: Option<u8>, word: &[u8]) -> Result<u8, PuaWhy>
     }
 }
 
-#[tactic(auto, unfolding(crate::specs::Ways::stage_reasons))]
+#[tactic(auto, unfolding(crate::specs::Interstages::stage_reasons))]
 fn stage_key(given: Option<StageNo>, stages: &[Stage], word: &[u8]) -> Result<StageNo, PuaWhy>
     requires { length stages.now ≤ 32 }
     ensures { MatchResult result (λ s. (stage_reasons given (stage_of stages.now word.now) ≡ None) × (stage_of stages.now word.now ≡ Some s))
@@ -60,7 +60,7 @@ fn stage_key(given: Option<StageNo>, stages: &[Stage], word: &[u8]) -> Result<St
 }
 
 // The place and the ends of a group's row.
-#[tactic(auto, unfolding(crate::specs::Ways::ends_reasons))]
+#[tactic(auto, unfolding(crate::specs::Interstages::ends_reasons))]
 fn ends_of(
     groups: &[Group],
     rows: &[Option<(i8, i8)>],
@@ -88,14 +88,18 @@ fn ends_of(
     }
 }
 
-impl Open {
-    ghost use Rattle.pua_reader.specs.Seen.{opened_in};
+impl OpenInterstage {
+    ghost use Rattle.pua_reader.specs.Views.{open_value};
 
     /// The interstage whose section begins in that line.
-    pub(crate) fn begins(alloc: Global, line: u32, groups: usize) -> Result<Open, AllocError>
-        ensures { IfOk result (λ o. opened_in o ≡ opened line groups) }
+    pub(crate) fn begins(
+        alloc: Global,
+        line: u32,
+        groups: usize,
+    ) -> Result<OpenInterstage, AllocError>
+        ensures { IfOk result (λ o. open_value o ≡ open_at line groups) }
     {
-        Ok(Open {
+        Ok(OpenInterstage {
             line,
             length: None,
             from: None,
@@ -105,10 +109,10 @@ impl Open {
     }
 
     /// No interstage.
-    pub(crate) fn none(alloc: Global) -> Open
-        ensures { opened_in result ≡ opened 0 0 }
+    pub(crate) fn none(alloc: Global) -> OpenInterstage
+        ensures { open_value result ≡ open_at 0 0 }
     {
-        Open {
+        OpenInterstage {
             line: 0,
             length: None,
             from: None,
@@ -129,9 +133,9 @@ impl Open {
         requires rows { length self.old.rows.items ≡ length groups.now }
         requires stages { length stages.now ≤ 32 }
         ensures { MatchResult result
-            (λ _. (why_by form groups.now stages.now (opened_in self.old) (map (λ w. w.now) words.now) ≡ None)
-            × (opened_in self.new ≡ opened_by form groups.now stages.now (opened_in self.old) (map (λ w. w.now) words.now)))
-            (λ why. why_by form groups.now stages.now (opened_in self.old) (map (λ w. w.now) words.now) ≡ Some why) }
+            (λ _. (form_why form groups.now stages.now (open_value self.old) (map (λ w. w.now) words.now) ≡ None)
+            × (open_value self.new ≡ open_after_form form groups.now stages.now (open_value self.old) (map (λ w. w.now) words.now)))
+            (λ why. form_why form groups.now stages.now (open_value self.old) (map (λ w. w.now) words.now) ≡ Some why) }
     {
         match form {
             Form::NoForm => return Err(PuaWhy::Row),
@@ -172,19 +176,19 @@ impl Open {
         requires rows { length self.old.rows.items ≡ length groups.now }
         requires stages { length stages.now ≤ 32 }
         ensures { MatchResult result
-            (λ _. (way_row_why groups.now stages.now (opened_in self.old) (map (λ w. w.now) words.now) ≡ None)
-            × (opened_in self.new ≡ opened_with groups.now stages.now (opened_in self.old) (map (λ w. w.now) words.now)))
-            (λ why. way_row_why groups.now stages.now (opened_in self.old) (map (λ w. w.now) words.now) ≡ Some why) }
+            (λ _. (interstage_row_why groups.now stages.now (open_value self.old) (map (λ w. w.now) words.now) ≡ None)
+            × (open_value self.new ≡ open_after groups.now stages.now (open_value self.old) (map (λ w. w.now) words.now)))
+            (λ why. interstage_row_why groups.now stages.now (open_value self.old) (map (λ w. w.now) words.now) ≡ Some why) }
     {
         self.take(form_of(words), groups, stages, words)
     }
 }
 
-/// The interstage of a section in which nothing misses.
-pub(crate) fn way_of(ended: Open) -> Option<Interstage>
-    ensures { MatchOption result (way_by ended.length ended.from ended.to ended.rows.items ≡ None) (λ way. way_by ended.length ended.from ended.to ended.rows.items ≡ Some way) }
+/// The interstage of a section in which nothing is missing.
+pub(crate) fn interstage_of(ended: OpenInterstage) -> Option<Interstage>
+    ensures { MatchOption result (interstage_by_keys ended.length ended.from ended.to ended.rows.items ≡ None) (λ interstage. interstage_by_keys ended.length ended.from ended.to ended.rows.items ≡ Some interstage) }
 {
-    let Open {
+    let OpenInterstage {
         line: _,
         length,
         from,
@@ -197,11 +201,11 @@ pub(crate) fn way_of(ended: Open) -> Option<Interstage>
     }
 }
 
-fn has_pair(from: StageNo, to: StageNo, ways: &[Interstage]) -> bool
-    ensures { result ≡ list_any (joins from.0 to.0) ways.now }
+fn has_pair(from: StageNo, to: StageNo, interstages: &[Interstage]) -> bool
+    ensures { result ≡ list_any (joins from.0 to.0) interstages.now }
 {
-    ways.iter()
-        .any(|way| way.from_stage() == from && way.to_stage() == to)
+    interstages.iter().any(|interstage| interstage.from_stage() == from
+        && interstage.to_stage() == to)
 }
 
 // Whether the group is green in the stage.
@@ -215,30 +219,35 @@ fn is_green(stages: &[Stage], stage: StageNo, group: u8) -> bool
 }
 
 // Whether an interstage leads a group from its place in the one stage to that in the other.
-fn leads_group(stages: &[Stage], way: &Interstage, group: u8) -> bool
-    requires rows { group < length way.now.rows }
-    requires from { (1 ≤ way.now.from) × (way.now.from ≤ length stages.now) }
-    requires to { (1 ≤ way.now.to) × (way.now.to ≤ length stages.now) }
+fn leads_group(stages: &[Stage], interstage: &Interstage, group: u8) -> bool
+    requires rows { group < length interstage.now.rows }
+    requires from { (1 ≤ interstage.now.from) × (interstage.now.from ≤ length stages.now) }
+    requires to { (1 ≤ interstage.now.to) × (interstage.now.to ≤ length stages.now) }
     requires greens { (s : ℕ) → s < length stages.now → group < length (slice_index_or stages.now s (record { name = []; greens = [] })).greens }
-    ensures { result ≡ leads (slice_index_or way.now.rows group None) (greens_in stages.now way.now.from group) (greens_in stages.now way.now.to group) way.now.length }
+    ensures { result ≡ leads (slice_index_or interstage.now.rows group None) (greens_in stages.now interstage.now.from group) (greens_in stages.now interstage.now.to group) interstage.now.length }
 {
-    let from = is_green(stages, way.from_stage(), group);
-    let to = is_green(stages, way.to_stage(), group);
-    leads(way.row(GroupNo(group)), from, to, way.seconds())
+    let from = is_green(stages, interstage.from_stage(), group);
+    let to = is_green(stages, interstage.to_stage(), group);
+    leads(
+        interstage.row(GroupNo(group)),
+        from,
+        to,
+        interstage.seconds(),
+    )
 }
 
 // The least group that it does not lead so.
-fn first_inconsistent(groups: usize, stages: &[Stage], way: &Interstage) -> Option<usize>
-    requires few { groups ≤ 64 }
-    requires rows { length way.now.rows ≡ groups }
-    requires from { (1 ≤ way.now.from) × (way.now.from ≤ length stages.now) }
-    requires to { (1 ≤ way.now.to) × (way.now.to ≤ length stages.now) }
+fn first_inconsistent(groups: usize, stages: &[Stage], interstage: &Interstage) -> Option<usize>
+    requires at_most { groups ≤ 64 }
+    requires rows { length interstage.now.rows ≡ groups }
+    requires from { (1 ≤ interstage.now.from) × (interstage.now.from ≤ length stages.now) }
+    requires to { (1 ≤ interstage.now.to) × (interstage.now.to ≤ length stages.now) }
     requires greens { (s : ℕ) → s < length stages.now → length (slice_index_or stages.now s (record { name = []; greens = [] })).greens ≡ groups }
-    ensures found { result ≡ first_inconsistent groups stages.now way.now }
+    ensures found { result ≡ first_inconsistent groups stages.now interstage.now }
     ensures below { IfSome result (λ g. g < groups) }
 {
     for g in 0..groups {
-        if !leads_group(stages, way, g as u8) {
+        if !leads_group(stages, interstage, g as u8) {
             return Some(g);
         }
     }
@@ -246,32 +255,32 @@ fn first_inconsistent(groups: usize, stages: &[Stage], way: &Interstage) -> Opti
 }
 
 /// Why an interstage is refused as a whole, after these.
-#[tactic(auto, unfolding(crate::specs::Ways::way_reasons))]
-pub(crate) fn way_why(
+#[tactic(auto, unfolding(crate::specs::Interstages::interstage_reasons))]
+pub(crate) fn interstage_why(
     groups: &[Group],
     stages: &[Stage],
-    ways: &[Interstage],
-    way: &Interstage,
+    interstages: &[Interstage],
+    interstage: &Interstage,
 ) -> Option<PuaWhy>
-    requires few { length groups.now ≤ 64 }
-    requires few_ways { length ways.now ≤ 256 }
-    requires rows { length way.now.rows ≡ length groups.now }
-    requires from { (1 ≤ way.now.from) × (way.now.from ≤ length stages.now) }
-    requires to { (1 ≤ way.now.to) × (way.now.to ≤ length stages.now) }
+    requires at_most { length groups.now ≤ 64 }
+    requires interstages_at_most { length interstages.now ≤ 256 }
+    requires rows { length interstage.now.rows ≡ length groups.now }
+    requires from { (1 ≤ interstage.now.from) × (interstage.now.from ≤ length stages.now) }
+    requires to { (1 ≤ interstage.now.to) × (interstage.now.to ≤ length stages.now) }
     requires greens { (s : ℕ) → s < length stages.now → length (slice_index_or stages.now s (record { name = []; greens = [] })).greens ≡ length groups.now }
-    ensures { result ≡ way_reasons groups.now stages.now ways.now (Some way.now) }
+    ensures { result ≡ interstage_reasons groups.now stages.now interstages.now (Some interstage.now) }
 {
-    let from = way.from_stage();
-    let to = way.to_stage();
+    let from = interstage.from_stage();
+    let to = interstage.to_stage();
     if from == to {
         return Some(PuaWhy::Range);
     }
-    if has_pair(from, to, ways) {
+    if has_pair(from, to, interstages) {
         return Some(PuaWhy::PairTwice);
     }
-    match first_inconsistent(groups.len(), stages, way) {
+    match first_inconsistent(groups.len(), stages, interstage) {
         Some(place) => Some(PuaWhy::Inconsistent {
-            inter: ways.len() as u16 + 1,
+            inter: interstages.len() as u16 + 1,
             group: GroupNo(place as u8),
             name: ShortName::of(groups[place].name.bytes()),
         }),

@@ -1,7 +1,7 @@
 use Rattle.std.proofs.Common.{◌≡◌, ◌-◌, ◌<◌, false, [], length, get_or, sym, ap, ◌∙◌, arith}
 use Rattle.std.proofs.lemmas.List.{get_or_default}
 use Rattle.pua_model.specs.declared.parts.Stage.{Stage}
-use Rattle.pua_reader.proofs.ways.is_green.Goals as goal
+use Rattle.pua_reader.proofs.interstages.is_green.Goals as goal
 
 pub get-requires : goal.get-requires
 get-requires c =

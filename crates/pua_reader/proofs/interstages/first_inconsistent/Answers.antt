@@ -1,9 +1,9 @@
 use Rattle.std.proofs.Common.{◌≡◌, true, not, get_or, None, sym, ap, rules}
 use Rattle.std.proofs.Common.{below_more}
 use Rattle.pua_model.specs.Wish.{leads}
-use Rattle.pua_reader.specs.Ways.{greens_in}
+use Rattle.pua_reader.specs.Interstages.{greens_in}
 use Rattle.pua_reader.proofs.LeastBelow.{least_at, never_below}
-use Rattle.pua_reader.proofs.ways.first_inconsistent.Goals as goal
+use Rattle.pua_reader.proofs.interstages.first_inconsistent.Goals as goal
 
 pub returns-then-not-leads_group-clause-found : goal.returns-then-not-leads_group-clause-found
 returns-then-not-leads_group-clause-found c =
@@ -14,5 +14,5 @@ returns-clause-found c = sym (never_below _ c.args.groups (λ j lt. c.loop-g.inv
 
 pub loop-g-preserved : goal.loop-g-preserved
 loop-g-preserved c =
-    let led : leads (get_or c.args.way.now.rows c.loop-g.g None) (greens_in c.args.stages.now c.args.way.now.from c.loop-g.g) (greens_in c.args.stages.now c.args.way.now.to c.loop-g.g) c.args.way.now.length ≡ true = search rules in
+    let led : leads (get_or c.args.interstage.now.rows c.loop-g.g None) (greens_in c.args.stages.now c.args.interstage.now.from c.loop-g.g) (greens_in c.args.stages.now c.args.interstage.now.to c.loop-g.g) c.args.interstage.now.length ≡ true = search rules in
     below_more _ _ c.loop-g.invariant (ap not led)
