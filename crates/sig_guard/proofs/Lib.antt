@@ -1,13 +1,11 @@
 pub mod Agree
 pub mod EachRefusal
-pub mod LastBelow
 pub mod LawProofs
 pub mod MachineLemmas
 pub mod Pictures
 pub mod RedAmberRun
 pub mod Refusals
 pub mod RefusedBreaks
-pub mod Runs
 pub mod SequenceKept
 pub mod StandsAfter
 pub mod StepKept

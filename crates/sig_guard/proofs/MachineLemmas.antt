@@ -14,8 +14,7 @@ use Rattle.sig_guard.specs.TurnKinds.{turned_at}
 use Rattle.sig_types.specs.Rules.{Rules}
 use Rattle.std.proofs.Common.{is_some, nat_lt, ◌&&◌, inl, inr}
 use Rattle.std.proofs.lemmas.Bool.{cases_eq, cases_lt, both_ways, and_from, ltb-false, le-ltb}
-use Rattle.sig_guard.proofs.LastBelow.{IsLast, last_below-some, last_below-at, last_below-none}
-use Rattle.sig_guard.proofs.TurnLemmas.{last_below-never}
+use Rattle.sig_types.proofs.LastBelow.{IsLast, last_below-some, last_below-at, last_below-none, last_below-never}
 use Rattle.sig_guard.specs.Step.{is_uncleared, is_due, natural_after, is_short_green, end_breach, first_breach, when}
 
 pub natural_red_amber : (ra am : ℕ) (a : ℕ → Aspect) (n m : ℕ) (b : Bool) (o : Option ℕ) → n ≡ suc m → a m ≡ RedAmber →

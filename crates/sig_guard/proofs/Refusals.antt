@@ -11,7 +11,7 @@ use Rattle.sig_types.specs.Rules.{Rules}
 use Rattle.sig_guard.specs.declared.turn.Breach.{Breach}
 use Rattle.sig_types.specs.Recorded.{IsTurn}
 use Rattle.sig_guard.specs.Step.{first_breach, when, with_group, end_breach, start_breach, natural, starts_to, wants_end, wants_start, refusal, listed, refused_ends_to, refused_to, guard_refused}
-use Rattle.sig_guard.proofs.LastBelow.{least_below-some}
+use Rattle.sig_types.proofs.LastBelow.{least_below-some}
 use Rattle.sig_guard.proofs.RefusedBreaks.{end_cases, StartCase, not_red, conflicting, uncleared, start_cases}
 
 -- how many numbers below n pass the test

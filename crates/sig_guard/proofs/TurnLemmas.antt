@@ -4,6 +4,7 @@ use Rattle.sig_types.specs.declared.aspect.Aspect.{Aspect}
 use Rattle.sig_guard.specs.declared.history.Turn.{Turn}
 use Rattle.sig_guard.specs.declared.history.Turn.TheVariants as turn
 use Rattle.sig_types.specs.Words.{last_below}
+use Rattle.sig_types.proofs.LastBelow.{last_below-never}
 use Rattle.sig_guard.specs.TurnKinds.{is_turn, turned_at}
 
 turned_at-suc : (k : Turn) (a : ℕ → Aspect) (t : ℕ) → turned_at k a (suc t) ≡ is_turn k (a t) (a (suc t))
@@ -14,12 +15,6 @@ turned_at-suc turn.End a t = refl
 pub turned_here : (k : Turn) (a : ℕ → Aspect) (t : ℕ) → 0 < t → is_turn k (a (t - 1)) (a t) ≡ turned_at k a t
 turned_here k a zero lt = absurd (omega arith)
 turned_here k a (suc t) lt = let e : suc t - 1 ≡ t = omega arith in rw e (sym (turned_at-suc k a t))
-
--- no turn below a bound
-pub last_below-never : (p : ℕ → Bool) (n : ℕ) → ((j : ℕ) → j < n → p j ≡ false) → last_below p n ≡ None
-unfolding last_below
-last_below-never p zero none = refl
-last_below-never p (suc n) none = rw (none n (omega arith)) (last_below-never p n (λ j lt. none j (omega arith)))
 
 -- no turn after second 0
 pub none_but_first : (k : Turn) (a : ℕ → Aspect) (n : ℕ) → (k ≡ turn.End → ⊥) → ((j : ℕ) → 0 < j → j < n → turned_at k a j ≡ false) →

@@ -1,6 +1,5 @@
 pub mod Rows
 pub mod Places
-pub mod Least
 pub mod TimesLists
 pub mod Judged
 pub mod TimesRead

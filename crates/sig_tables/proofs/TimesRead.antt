@@ -21,7 +21,7 @@ use Rattle.sig_types.proofs.Refusals.{accepted_pushed}
 use Rattle.sig_tables.proofs.Rows.{text_begins}
 use Rattle.sig_tables.proofs.Places.{all_empty, none_held}
 use Rattle.sig_tables.proofs.Judged.{refused_row}
-use Rattle.sig_tables.proofs.Least.{least_below-at, least_below-never}
+use Rattle.sig_types.proofs.LastBelow.{least_below-at, least_below-never}
 
 -- what the reader keeps between two records
 pub record ReadsTimes (plan : PlanOf) (text : List ℕ) (records : Records) (held : List (Option TimesRow)) : Type 0 where

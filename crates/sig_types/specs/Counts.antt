@@ -5,10 +5,12 @@ use Rattle.std.specs.Prelude.{◌≡◌, ℕ, ◌+◌, ◌-◌, ◌<◌, ◌≤�
 abbrev pub Counts : Type 0
 Counts = List (ℕ × ℕ)
 
+-- the two counts of a detector
 pub data Kind : Type 0 where
   fronts : Kind
   rears : Kind
 
+-- the fronts or the rears of a pair
 abbrev pub count_of : Kind → ℕ × ℕ → ℕ
 count_of fronts c = c.0
 count_of rears c = c.1
@@ -29,3 +31,12 @@ pub record Takes (frames : List Counts) (frame : Counts) : Type 0 where
   pub counts : (d : ℕ) → 1 ≤ d → d ≤ 64 →
       (count_to rears (frames ++ frame ∷ []) d (length frames + 1) ≤ count_to fronts (frames ++ frame ∷ []) d (length frames + 1))
       × (count_to fronts (frames ++ frame ∷ []) d (length frames + 1) ≤ 2147483647)
+
+-- Frames as a detector file has them: at most 604,800 of 64 pairs, counts of at most 99, and after each frame each detector's
+-- rears so far are at most its fronts so far.
+pub record AreFrames (frames : List Counts) : Type 0 where
+  pub few : length frames ≤ 604800
+  pub sizes : (n : ℕ) → n < length frames → length (slice_index_or frames n []) ≡ 64
+  pub fronts_fit : (n d : ℕ) → n < length frames → 1 ≤ d → d ≤ 64 → count_in fronts d (slice_index_or frames n []) ≤ 99
+  pub rears_fit : (n d : ℕ) → n < length frames → 1 ≤ d → d ≤ 64 → count_in rears d (slice_index_or frames n []) ≤ 99
+  pub behind : (n d : ℕ) → n ≤ length frames → 1 ≤ d → d ≤ 64 → count_to rears frames d n ≤ count_to fronts frames d n

@@ -2,9 +2,11 @@ pub mod Arity
 pub mod Counts
 pub mod Detectors
 pub mod FirstRefused
+pub mod Laws
 pub mod Number
 pub mod Pass
 pub mod Recorded
+pub mod RuleNumbers
 pub mod Rules
 pub mod Text
 pub mod Turns

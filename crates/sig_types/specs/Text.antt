@@ -7,22 +7,32 @@ abbrev pub cut_at : ℕ → List ℕ → Option (List ℕ × List ℕ)
 cut_at stop [] = None
 cut_at stop (b ∷ bs) = if nat_eq b stop then Some ([], bs) else option_map (λ p. (b ∷ p.0, p.1)) (cut_at stop bs)
 
+-- what follows this front
+abbrev pub strip : List ℕ → List ℕ → Option (List ℕ)
+strip [] bs = Some bs
+strip (f ∷ fs) [] = None
+strip (f ∷ fs) (b ∷ bs) = if nat_eq b f then strip fs bs else None
+
 -- a line of a text, and whether a line feed ends it
 pub record Line : Type 0 where
   pub bytes : List ℕ
   pub ended : Bool
 
+-- these lines with a byte before the first
 abbrev pub with_first : ℕ → List Line → List Line
 with_first b [] = record { bytes = b ∷ []; ended = false } ∷ []
 with_first b (line ∷ lines) = record { bytes = b ∷ line.bytes; ended = line.ended } ∷ lines
 
+-- the lines of a text; a line that no line feed ends is the last one and isn't empty
 abbrev pub lines_of : List ℕ → List Line
 lines_of [] = []
 lines_of (b ∷ bs) = if nat_eq b 10 then record { bytes = []; ended = true } ∷ lines_of bs else with_first b (lines_of bs)
 
+-- an ASCII digit
 abbrev pub is_digit : ℕ → Bool
 is_digit b = nat_le 48 b && nat_le b 57
 
+-- nothing but digits
 abbrev pub all_digits : List ℕ → Bool
 all_digits [] = true
 all_digits (b ∷ bs) = is_digit b && all_digits bs
@@ -32,6 +42,7 @@ abbrev pub value_from : ℕ → List ℕ → ℕ
 value_from n [] = n
 value_from n (d ∷ ds) = value_from (10 * n + (d - 48)) ds
 
+-- no byte
 abbrev pub is_empty : List ℕ → Bool
 is_empty [] = true
 is_empty (b ∷ bs) = false
@@ -41,13 +52,16 @@ abbrev pub number_of : List ℕ → Option ℕ
 number_of [] = None
 number_of (d ∷ ds) = if all_digits (d ∷ ds) && (not (nat_eq d 48) || is_empty ds) then Some (value_from 0 (d ∷ ds)) else None
 
+-- the number, where it is from the least to the most
 abbrev pub within : ℕ → ℕ → Option ℕ → Option ℕ
 within least most None = None
 within least most (Some n) = if nat_le least n && nat_le n most then Some n else None
 
+-- an ASCII letter or `_`
 abbrev pub is_letter : ℕ → Bool
 is_letter b = (nat_le 65 b && nat_le b 90) || (nat_le 97 b && nat_le b 122) || nat_eq b 95
 
+-- nothing but letters, digits and underlines
 abbrev pub is_word : List ℕ → Bool
 is_word [] = true
 is_word (b ∷ bs) = (is_letter b || is_digit b) && is_word bs
@@ -57,6 +71,7 @@ abbrev pub is_name : List ℕ → Bool
 is_name [] = false
 is_name (b ∷ bs) = is_letter b && is_word bs && nat_le (length bs) 31
 
+-- the byte with an ASCII capital turned to its small letter
 abbrev pub lower : ℕ → ℕ
 lower b = if nat_le 65 b && nat_le b 90 then b + 32 else b
 

@@ -23,8 +23,8 @@ impl Model for ShortName {
 impl ShortName {
     /// The name of these bytes.
     pub fn of(bytes: &[u8]) -> ShortName
-        requires some { 0 < length bytes.now }
-        requires few { length bytes.now ≤ 32 }
+        requires not_empty { 0 < length bytes.now }
+        requires at_most { length bytes.now ≤ 32 }
         ensures { result ≡ bytes.now }
     {
         let mut text = [0; 32];
@@ -38,8 +38,8 @@ impl ShortName {
     /// The bytes of the name.
     pub fn bytes(&self) -> &[u8]
         ensures bytes { result.now ≡ self.now }
-        ensures some { 0 < length self.now }
-        ensures few { length self.now ≤ 32 }
+        ensures not_empty { 0 < length self.now }
+        ensures at_most { length self.now ≤ 32 }
     {
         &self.text[..self.len]
     }

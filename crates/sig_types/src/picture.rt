@@ -47,7 +47,7 @@ impl Picture {
     /// The number of groups.
     pub fn len(&self) -> u8
         ensures len { result ≡ length self.now }
-        ensures few { length self.now ≤ 64 }
+        ensures at_most { length self.now ≤ 64 }
     {
         self.len
     }

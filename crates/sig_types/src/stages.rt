@@ -55,7 +55,7 @@ impl StageRefusals {
     /// The number of refused stage commands.
     pub fn len(&self) -> usize
         ensures len { result ≡ length self.now }
-        ensures few { length self.now ≤ 10000 }
+        ensures at_most { length self.now ≤ 10000 }
     {
         self.orders.len()
     }

@@ -1,8 +1,8 @@
 // Numbers and names in a text: what the readers of all formats share.
 ghost use Rattle.std.specs.Prelude.{◌≡◌, ◌≤◌, ◌<◌, ◌^◌, ℕ, None, Some, MatchOption, IfSome, IsTrue, is_some, length, if◌then◌else◌};
-ghost use Rattle.sig_types.specs.Text.{all_digits, cut_at, number_of, value_from, within, is_digit, is_letter, is_name, is_word, lower, same_name};
+ghost use Rattle.sig_types.specs.Text.{all_digits, cut_at, strip, number_of, value_from, within, is_digit, is_letter, is_name, is_word, lower, same_name};
 
-/// What stands before the first `stop`, and what stands after it.
+/// What stands before the first `stop`, and what stands after it; None where no `stop` stands.
 pub fn cut_at(stop: u8, bytes: &[u8]) -> Option<(&[u8], &[u8])>
     ensures { MatchOption result (cut_at stop bytes.now ≡ None) (λ p. cut_at stop bytes.now ≡ Some (p.0.now, p.1.now)) }
 {
@@ -16,7 +16,18 @@ pub fn cut_at(stop: u8, bytes: &[u8]) -> Option<(&[u8], &[u8])>
     None
 }
 
-/// Whether the byte is an ASCII digit.
+/// What follows `front` in a text that begins with it; None where it doesn't.
+pub fn strip<'a>(front: &[u8], bytes: &'a [u8]) -> Option<&'a [u8]>
+    ensures { MatchOption result (strip front.now bytes.now ≡ None) (λ rest. strip front.now bytes.now ≡ Some rest.now) }
+{
+    if bytes.len() < front.len() {
+        return None;
+    }
+    let (head, rest) = bytes.split_at(front.len());
+    if head == front { Some(rest) } else { None }
+}
+
+/// Whether the byte is an ASCII digit, `0` to `9`.
 pub fn is_digit(b: u8) -> bool
     ensures { result ≡ is_digit b }
 {
@@ -24,23 +35,27 @@ pub fn is_digit(b: u8) -> bool
 }
 
 // The number that the bytes are, where they are digits and it is at most `most`.
-fn digits(bytes: &[u8], most: u32) -> Option<u32>
-    requires { most < 2 ^ 28 }
+fn digits(bytes: &[u8], most: u64) -> Option<u64>
     ensures { result ≡ (if all_digits bytes.now then within 0 most (Some (value_from 0 bytes.now)) else None) }
 {
-    let mut value = 0u32;
+    let mut value = 0u128;
     for b in bytes {
         if !is_digit(*b) {
             return None;
         }
-        if value > most {
+        if value > most as u128 {
             return None;
         }
-        value = 10 * value + (*b - 48) as u32;
+        value = 10 * value + (*b - 48) as u128;
     }
-    if value <= most { Some(value) } else { None }
+    if value <= most as u128 {
+        Some(value as u64)
+    } else {
+        None
+    }
 }
 
+// Whether all bytes are digits.
 fn all_digits(bytes: &[u8]) -> bool
     ensures { result ≡ all_digits bytes.now }
 {
@@ -63,9 +78,9 @@ pub fn is_number(bytes: &[u8]) -> bool
     }
 }
 
-/// The decimal number that the bytes are, where it is one from `least` to `most`; None for any other bytes.
-pub fn number(bytes: &[u8], least: u32, most: u32) -> Option<u32>
-    requires { most < 2 ^ 28 }
+/// The decimal number of 64 bits that the bytes are, where it is one from `least` to `most`; None for any other bytes,
+/// of any length.
+pub fn number64(bytes: &[u8], least: u64, most: u64) -> Option<u64>
     ensures value { result ≡ within least most (number_of bytes.now) }
     ensures range { IfSome result (λ n. (least ≤ n) × (n ≤ most)) }
 {
@@ -79,7 +94,18 @@ pub fn number(bytes: &[u8], least: u32, most: u32) -> Option<u32>
     }
 }
 
-/// Whether the byte is an ASCII letter or `_`.
+/// The decimal number of 32 bits that the bytes are, where it is one from `least` to `most`; None for any other bytes.
+pub fn number(bytes: &[u8], least: u32, most: u32) -> Option<u32>
+    ensures value { result ≡ within least most (number_of bytes.now) }
+    ensures range { IfSome result (λ n. (least ≤ n) × (n ≤ most)) }
+{
+    match number64(bytes, least as u64, most as u64) {
+        Some(n) => Some(n as u32),
+        None => None,
+    }
+}
+
+/// Whether the byte is an ASCII letter, `A` to `Z` or `a` to `z`, or `_`.
 pub fn is_letter(b: u8) -> bool
     ensures { result ≡ is_letter b }
 {

@@ -59,7 +59,7 @@ impl TurnRefusals {
     /// The number of refused turns.
     pub fn len(&self) -> usize
         ensures len { result ≡ length self.now }
-        ensures few { length self.now ≤ 64 }
+        ensures at_most { length self.now ≤ 64 }
     {
         self.count
     }

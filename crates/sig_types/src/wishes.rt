@@ -45,7 +45,7 @@ impl Wishes {
     /// The number of groups.
     pub fn len(&self) -> u8
         ensures len { result ≡ length self.now }
-        ensures few { length self.now ≤ 64 }
+        ensures at_most { length self.now ≤ 64 }
     {
         self.len
     }

@@ -1,7 +1,7 @@
 use Rattle.std.proofs.Common.{rules, ◌≡◌, ◌∙◌, sym, rules, length, true, refl, arith}
 use Rattle.sig_types.specs.Turns.{trace}
 use Rattle.sig_guard.specs.TurnKinds.{turned_at}
-use Rattle.sig_guard.proofs.LastBelow.{last_below-at}
+use Rattle.sig_types.proofs.LastBelow.{last_below-at}
 use Rattle.sig_guard.proofs.TurnLemmas.{turned_here, none_but_first}
 use Rattle.sig_guard.proofs.history.last_turn.Goals as goal
 

@@ -1,7 +1,7 @@
 use Rattle.std.proofs.Common.{rules, ◌≡◌, ◌-◌, false, arith, length}
 use Rattle.sig_types.specs.Turns.{trace}
 use Rattle.sig_guard.specs.TurnKinds.{is_aspect}
-use Rattle.sig_guard.proofs.Runs.{run_broken, run_whole}
+use Rattle.sig_types.proofs.Runs.{run_broken, run_whole}
 use Rattle.sig_guard.proofs.history.run.Goals as goal
 
 pub returns-then-not-is_aspect-clause-run : goal.returns-then-not-is_aspect-clause-run

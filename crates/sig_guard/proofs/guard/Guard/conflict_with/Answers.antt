@@ -4,7 +4,7 @@ use Rattle.sig_guard.specs.Stands.{kept_rules}
 use Rattle.std.proofs.Common.{is_some}
 use Rattle.sig_types.specs.Turns.{shown, is_on}
 use Rattle.sig_guard.specs.Step.{is_in_conflict}
-use Rattle.sig_guard.proofs.LastBelow.{least_below-at, least_below-never}
+use Rattle.sig_types.proofs.LastBelow.{least_below-at, least_below-never}
 use Rattle.sig_guard.proofs.guard.Guard.conflict_with.Goals as goal
 
 pub returns-then-is_on : goal.returns-then-is_on

@@ -1,6 +1,6 @@
 use Rattle.std.proofs.Common.{rules, sym}
 use Rattle.sig_guard.specs.Stands.{kept_rules}
-use Rattle.sig_guard.proofs.LastBelow.{least_below-at, least_below-never}
+use Rattle.sig_types.proofs.LastBelow.{least_below-at, least_below-never}
 use Rattle.sig_guard.proofs.guard.Guard.uncleared_by.Goals as goal
 
 pub returns-then-is_uncleared : goal.returns-then-is_uncleared
