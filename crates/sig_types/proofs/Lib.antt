@@ -5,3 +5,4 @@ pub mod LastBelow
 pub mod Lines
 pub mod Refusals
 pub mod Runs
+pub mod Zeros

@@ -23,6 +23,11 @@ count_in kind d frame = count_of kind (slice_index_or frame (d - 1) (0, 0))
 abbrev pub count_to : Kind → List Counts → ℕ → ℕ → ℕ
 count_to kind frames d j = sum_by (count_in kind d) (take j frames)
 
+-- no detector has a front or a rear at a place below the first of these or from the second on
+pub record IsZeroOutside (low high : ℕ) (frame : Counts) : Type 0 where
+  pub before : (p : ℕ) → p < low → slice_index_or frame p (0, 0) ≡ (0, 0)
+  pub after : (p : ℕ) → high ≤ p → slice_index_or frame p (0, 0) ≡ (0, 0)
+
 -- A further frame can be taken: fewer than 604,801 seconds were made, and with it each detector's rears so far are at most
 -- its fronts so far, and these at most 2,147,483,647.
 pub record Takes (frames : List Counts) (frame : Counts) : Type 0 where

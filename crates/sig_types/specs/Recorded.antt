@@ -11,7 +11,8 @@ pub record IsTurn (groups : ℕ) (turn : TurnRefusal) : Type 0 where
   pub other : ForSome turn.other (λ other. other.0 < groups)
   pub named : (turn.rule ≡ Conflict) ⊎ (turn.rule ≡ Intergreen) → is_some turn.other ≡ true
 
--- a record has one aspect per group, and its refused turns name groups that there are
+-- a record has one aspect per group and counts of 64 detectors, and its refused turns name groups that there are
 pub record IsRecord (groups : ℕ) (r : Record) : Type 0 where
   pub picture : length r.picture ≡ groups
+  pub frame : length r.frame ≡ 64
   pub turns : All (IsTurn groups) r.turns

@@ -1,25 +1,28 @@
 // The detector counts of a second.
-ghost use Rattle.std.specs.Prelude.{◌≡◌, ℕ, ◌<◌, List, length, replicate, slice_index_or, slice_set};
+ghost use Rattle.std.specs.Prelude.{◌≡◌, ℕ, ◌<◌, ◌≤◌, List, length, replicate, slice_index_or, slice_set};
+ghost use Rattle.sig_types.specs.Counts.{IsZeroOutside};
 
 use std::marker::Model;
 
 /// The fronts and rears of detectors 1 to 64 in one second; place p is detector p + 1. Contracts see it as the list of
 /// these 64 pairs.
+// Most seconds have counts of few detectors, so the places of the first and the last of them are kept beside the counts.
 #[derive(Drop)]
 pub struct Frame {
     counts: [(u32, u32); 64],
+    low: u8,
+    high: u8,
 }
 
 impl Model for Frame {
-    ghost use Rattle.std.specs.Prelude.{◌≡◌, ℕ, List, length};
+    ghost use Rattle.std.specs.Prelude.{◌≡◌, ◌≤◌, ℕ, List, length};
+    ghost use Rattle.sig_types.specs.Counts.{IsZeroOutside};
 
     ghost Value = { List (ℕ × ℕ) };
 
     ghost view = { λ f. f.counts };
 
-    ghost invariant = { λ f. length f.counts ≡ 64 };
-
-    ghost inverse = { λ l. record { counts = l } };
+    ghost invariant = { λ f. (length f.counts ≡ 64) × (f.low ≤ 64) × (f.high ≤ 64) × IsZeroOutside f.low f.high f.counts };
 }
 
 impl Frame {
@@ -29,6 +32,8 @@ impl Frame {
     {
         Frame {
             counts: [(0, 0); 64],
+            low: 64,
+            high: 0,
         }
     }
 
@@ -41,6 +46,17 @@ impl Frame {
         self.counts[usize::from(place)]
     }
 
+    /// Two places, the second not counted, outside which no detector has a front or a rear. Where no detector has any, the first
+    /// may be greater than the second.
+    pub fn span(&self) -> (u8, u8)
+        ensures outside { IsZeroOutside result.0 result.1 self.now }
+        ensures low { result.0 ≤ 64 }
+        ensures high { result.1 ≤ 64 }
+        ensures length { length self.now ≡ 64 }
+    {
+        (self.low, self.high)
+    }
+
     /// Puts fronts and rears at that place.
     pub fn set(&mut self, place: u8, item: (u32, u32))
         requires { place < 64 }
@@ -48,15 +64,45 @@ impl Frame {
         ensures length { length self.new ≡ 64 }
     {
         self.counts[usize::from(place)] = item;
+        if item.0 != 0 || item.1 != 0 {
+            self.low = self.low.min(place);
+            self.high = self.high.max(place + 1);
+        }
+    }
+
+    /// Takes all fronts and rears away.
+    pub fn clear(&mut self)
+        ensures { self.new ≡ replicate 64 (0, 0) }
+    {
+        for place in self.low..self.high {
+            self.counts[usize::from(place)] = (0, 0);
+        }
+        self.low = 64;
+        self.high = 0;
     }
 
     /// The same counts.
     pub fn copy(&self) -> Frame
-        ensures same { result ≡ self.now }
+        ensures counts { result ≡ self.now }
         ensures length { length self.now ≡ 64 }
     {
         Frame {
             counts: self.counts,
+            low: self.low,
+            high: self.high,
         }
+    }
+
+    /// Takes over the counts of another frame.
+    pub fn copy_from(&mut self, other: &Frame)
+        ensures counts { self.new ≡ other.now }
+        ensures length { length other.now ≡ 64 }
+    {
+        self.clear();
+        for place in other.low..other.high {
+            self.counts[usize::from(place)] = other.counts[usize::from(place)];
+        }
+        self.low = other.low;
+        self.high = other.high;
     }
 }

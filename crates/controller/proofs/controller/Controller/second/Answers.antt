@@ -33,7 +33,7 @@ returns-clause-record c = λ past s.
       second = record { 0 = second i };
       place = place i;
       picture = picture i;
-      frame = c.copy-self-2.ensures.same i;
+      frame = c.copy-self-2.ensures.counts i;
       stages = refused i;
       turns = turns i;
       fault = None;
