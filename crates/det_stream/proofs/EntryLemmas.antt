@@ -1,0 +1,228 @@
+-- The parts of an entry, and an entry's judgement by what a reader keeps.
+use Rattle.std.proofs.Common.{◌≡◌, ℕ, ◌-◌, ◌<◌, ◌==◌, Bool, true, false, List, [], ◌∷◌, ◌++◌, take, get_or, length, Option, Some, None, refl, sym, ap, ◌∙◌, arith, length-append, if◌then◌else◌, cond, is_some, ◌&&◌, nat_le}
+use Rattle.std.specs.Option.{option_map}
+use Rattle.std.specs.List.{slice_split, onto_first}
+use Rattle.std.proofs.Math.Seq.{get_or-append_seam}
+use Rattle.std.proofs.lemmas.List.{get_or_default}
+use Rattle.std.proofs.lemmas.List.Splits.{length-slice_split}
+use Rattle.std.proofs.lemmas.Bool.{both_ways, le-leb}
+use Rattle.std.proofs.Common.{replicate, slice_set, inl, inr, ◌≤◌}
+use Rattle.std.proofs.lemmas.Bool.{eqb-true, cases_eq}
+use Rattle.std.proofs.lemmas.List.{get_or-set_other, get_or-replicate}
+use Rattle.std.proofs.lemmas.Grind.{get_or-set_at}
+use Rattle.std.proofs.lemmas.List.Sums.{fold_push}
+use Rattle.std.proofs.Common.{fold}
+use Rattle.sig_types.specs.Counts.{Counts}
+use Rattle.sig_types.specs.FirstRefused.{refused_to, first_refused}
+use Rattle.sig_types.specs.Text.{cut_at, number_of, within}
+use Rattle.det_stream.specs.declared.refusal.StreamWhy.TheVariants as why
+use Rattle.det_stream.specs.Totals.{HasAtMost}
+use Rattle.det_stream.specs.Entries.{Numbers, judge_entry, numbers_why, numbers_of, last_detector, numbers_in, all_three, field_number, AreNumbers, entries_of, frame_of, with_entry}
+
+abbrev at_colon : ℕ → Bool
+at_colon c = c == 58
+
+abbrev split_by : List ℕ → Option (List ℕ × List ℕ) → List (List ℕ)
+split_by xs None = xs ∷ []
+split_by xs (Some p) = p.0 ∷ slice_split at_colon p.1
+
+split_turn : (b : Bool) (x : ℕ) (xs : List ℕ) (o : Option (List ℕ × List ℕ)) → slice_split at_colon xs ≡ split_by xs o →
+    cond b ([] ∷ slice_split at_colon xs) (onto_first x (slice_split at_colon xs))
+    ≡ split_by (x ∷ xs) (if◌then◌else◌ {A = Option (List ℕ × List ℕ)} b (Some ([], xs)) (option_map {T = List ℕ × List ℕ} {U = List ℕ × List ℕ} (λ p. (x ∷ p.0, p.1)) o))
+split_turn true x xs o ih = refl
+split_turn false x xs None ih = rw ih refl
+split_turn false x xs (Some p) ih = rw ih refl
+
+-- a list is cut at its first colon
+split_cut : (xs : List ℕ) → slice_split at_colon xs ≡ split_by xs (cut_at 58 xs)
+split_cut [] = refl
+split_cut (x ∷ xs) = split_turn (x == 58) x xs (cut_at 58 xs) (split_cut xs)
+
+split_none : (xs : List ℕ) → cut_at 58 xs ≡ None → slice_split at_colon xs ≡ xs ∷ []
+split_none xs none = split_cut xs ∙ ap (split_by xs) none
+
+split_some : (xs a b : List ℕ) → cut_at 58 xs ≡ Some (a, b) → slice_split at_colon xs ≡ a ∷ slice_split at_colon b
+split_some xs a b some = split_cut xs ∙ ap (split_by xs) some
+
+pub one_part : (xs : List ℕ) → cut_at 58 xs ≡ None → numbers_of xs ≡ None
+unfolding numbers_of
+one_part xs none = rw (split_none xs none) refl
+
+pub two_parts : (xs a b : List ℕ) → cut_at 58 xs ≡ Some (a, b) → cut_at 58 b ≡ None → numbers_of xs ≡ None
+unfolding numbers_of
+two_parts xs a b some none = rw (split_some xs a b some, split_none b none) refl
+
+pub three_parts : (xs a b c d : List ℕ) → cut_at 58 xs ≡ Some (a, b) → cut_at 58 b ≡ Some (c, d) → cut_at 58 d ≡ None → slice_split at_colon xs ≡ a ∷ c ∷ d ∷ []
+three_parts xs a b c d some more none = split_some xs a b some ∙ ap (λ l. a ∷ l) (split_some b c d more ∙ ap (λ l. c ∷ l) (split_none d none))
+
+no_fourth : (a c e : List ℕ) (l : List (List ℕ)) → 0 < length l → numbers_in (a ∷ c ∷ e ∷ l) ≡ None
+no_fourth a c e [] lt = absurd (omega arith)
+no_fourth a c e (x ∷ l) lt = refl
+
+pub more_parts : (xs a b c d e f : List ℕ) → cut_at 58 xs ≡ Some (a, b) → cut_at 58 b ≡ Some (c, d) → cut_at 58 d ≡ Some (e, f) → numbers_of xs ≡ None
+unfolding numbers_of
+more_parts xs a b c d e f some more yet =
+    rw (split_some xs a b some, split_some b c d more, split_some d e f yet) (no_fourth a c e (slice_split at_colon f) (omega (arith, length-slice_split at_colon f)))
+
+field_is : (b : Bool) (o : Option ℕ) → is_some (if◌then◌else◌ {A = Option ℕ} b o None) ≡ true → if◌then◌else◌ {A = Option ℕ} b o None ≡ o
+field_is true o some = refl
+field_is false o some = cc
+
+all_there : (xs : List ℕ) (d f r : List ℕ) → slice_split at_colon xs ≡ d ∷ f ∷ r ∷ [] → numbers_of xs ≡ all_three (field_number d) (field_number f) (field_number r)
+unfolding numbers_of
+all_there xs d f r parts = ap numbers_in parts
+
+three_none : (d f r : Option ℕ) → (is_some d && is_some f && is_some r) ≡ false → all_three d f r ≡ None
+three_none None f r failed = refl
+three_none (Some d) None r failed = refl
+three_none (Some d) (Some f) None failed = refl
+three_none (Some d) (Some f) (Some r) failed = cc
+
+pub no_numbers : (xs : List ℕ) (d f r : List ℕ) → slice_split at_colon xs ≡ d ∷ f ∷ r ∷ [] → (is_some (field_number d) && is_some (field_number f) && is_some (field_number r)) ≡ false → numbers_of xs ≡ None
+no_numbers xs d f r parts failed = all_there xs d f r parts ∙ three_none (field_number d) (field_number f) (field_number r) failed
+
+three_some : (d f r : Option ℕ) → (is_some d && is_some f && is_some r) ≡ true → (is_some d ≡ true) × (is_some f ≡ true) × (is_some r ≡ true)
+three_some None f r passed = cc
+three_some (Some d) None r passed = cc
+three_some (Some d) (Some f) None passed = cc
+three_some (Some d) (Some f) (Some r) passed = (refl, refl, refl)
+
+pub are_numbers : (xs : List ℕ) (d f r : List ℕ) → slice_split at_colon xs ≡ d ∷ f ∷ r ∷ [] → (is_some (field_number d) && is_some (field_number f) && is_some (field_number r)) ≡ true →
+    AreNumbers (numbers_of xs) (number_of d) (number_of f) (number_of r)
+are_numbers xs d f r parts passed =
+    let each = three_some (field_number d) (field_number f) (field_number r) passed in
+    let d_is = field_is (nat_le (length d) 9) (number_of d) each.0 in
+    let f_is = field_is (nat_le (length f) 9) (number_of f) each.1 in
+    let r_is = field_is (nat_le (length r) 9) (number_of r) each.2 in
+    record {
+      are = all_there xs d f r parts ∙ ap (λ o. all_three o (field_number f) (field_number r)) d_is ∙ ap (λ o. all_three (number_of d) o (field_number r)) f_is ∙ ap (λ o. all_three (number_of d) (number_of f) o) r_is;
+      detector = ap is_some (sym d_is) ∙ each.0;
+      fronts = ap is_some (sym f_is) ∙ each.1;
+      rears = ap is_some (sym r_is) ∙ each.2;
+    }
+
+-- an entry whose three numbers are known
+record Numbered (numbers : Option Numbers) (d f r : Option ℕ) : Type 0 where
+  a : ℕ
+  b : ℕ
+  c : ℕ
+  detector : d ≡ Some a
+  fronts : f ≡ Some b
+  rears : r ≡ Some c
+  are : numbers ≡ Some (a, b, c)
+
+numbered_parts : (numbers : Option Numbers) (d f r : Option ℕ) → AreNumbers numbers d f r → Numbered numbers d f r
+numbered_parts numbers None f r is = absurd (both_ways false refl is.detector)
+numbered_parts numbers (Some a) None r is = absurd (both_ways false refl is.fronts)
+numbered_parts numbers (Some a) (Some b) None is = absurd (both_ways false refl is.rears)
+numbered_parts numbers (Some a) (Some b) (Some c) is = record { a = a; b = b; c = c; detector = refl; fronts = refl; rears = refl; are = is.are }
+
+within_no : (t : Bool) (n : ℕ) → if◌then◌else◌ {A = Option ℕ} t (Some n) None ≡ None → t ≡ false
+within_no true n none = cc
+within_no false n none = refl
+
+within_yes : (t : Bool) (n m : ℕ) → if◌then◌else◌ {A = Option ℕ} t (Some n) None ≡ Some m → (t ≡ true) × (n ≡ m)
+within_yes true n m some = (refl, cc)
+within_yes false n m some = cc
+
+-- from 0 on only the greatest number counts
+at_most : (n most : ℕ) → (nat_le 0 n && nat_le n most) ≡ nat_le n most
+at_most n most = rw (le-leb 0 n (omega arith)) refl
+
+pub unknown_why : (last : ℕ) (numbers : Option Numbers) (d f r : Option ℕ) → AreNumbers numbers d f r → within 1 64 d ≡ None → numbers_why last numbers ≡ Some why.Unknown
+unknown_why last numbers d f r is none =
+    let n = numbered_parts numbers d f r is in
+    let out : (nat_le 1 n.a && nat_le n.a 64) ≡ false = within_no _ n.a (ap (within 1 64) (sym n.detector) ∙ none) in
+    rw (n.are, out) refl
+
+pub fronts_why : (last : ℕ) (numbers : Option Numbers) (d f r : Option ℕ) (x : ℕ) → AreNumbers numbers d f r → within 1 64 d ≡ Some x → within 0 99 f ≡ None → numbers_why last numbers ≡ Some why.Range
+fronts_why last numbers d f r x is known none =
+    let n = numbered_parts numbers d f r is in
+    let inside = within_yes (nat_le 1 n.a && nat_le n.a 64) n.a x (ap (within 1 64) (sym n.detector) ∙ known) in
+    let out : nat_le n.b 99 ≡ false = sym (at_most n.b 99) ∙ within_no _ n.b (ap (within 0 99) (sym n.fronts) ∙ none) in
+    rw (n.are, inside.0, out) refl
+
+pub rears_why : (last : ℕ) (numbers : Option Numbers) (d f r : Option ℕ) (x y : ℕ) → AreNumbers numbers d f r → within 1 64 d ≡ Some x → within 0 99 f ≡ Some y → within 0 99 r ≡ None →
+    numbers_why last numbers ≡ Some why.Range
+rears_why last numbers d f r x y is known few none =
+    let n = numbered_parts numbers d f r is in
+    let inside = within_yes (nat_le 1 n.a && nat_le n.a 64) n.a x (ap (within 1 64) (sym n.detector) ∙ known) in
+    let first = within_yes (nat_le 0 n.b && nat_le n.b 99) n.b y (ap (within 0 99) (sym n.fronts) ∙ few) in
+    let inner : nat_le n.b 99 ≡ true = sym (at_most n.b 99) ∙ first.0 in
+    let out : nat_le n.c 99 ≡ false = sym (at_most n.c 99) ∙ within_no _ n.c (ap (within 0 99) (sym n.rears) ∙ none) in
+    rw (n.are, inside.0, inner, out) refl
+
+-- an entry with numbers in their ranges: only its order is left to judge
+pub record InRange (last : ℕ) (numbers : Option Numbers) (x y z : ℕ) : Type 0 where
+  pub are : numbers ≡ Some (x, y, z)
+  pub fell : nat_le x last ≡ true → numbers_why last numbers ≡ Some why.Order
+  pub rose : nat_le x last ≡ false → numbers_why last numbers ≡ None
+
+pub in_range : (last : ℕ) (numbers : Option Numbers) (d f r : Option ℕ) (x y z : ℕ) → AreNumbers numbers d f r → within 1 64 d ≡ Some x → within 0 99 f ≡ Some y → within 0 99 r ≡ Some z →
+    InRange last numbers x y z
+in_range last numbers d f r x y z is known few more =
+    let n = numbered_parts numbers d f r is in
+    let inside = within_yes (nat_le 1 n.a && nat_le n.a 64) n.a x (ap (within 1 64) (sym n.detector) ∙ known) in
+    let first = within_yes (nat_le 0 n.b && nat_le n.b 99) n.b y (ap (within 0 99) (sym n.fronts) ∙ few) in
+    let second = within_yes (nat_le 0 n.c && nat_le n.c 99) n.c z (ap (within 0 99) (sym n.rears) ∙ more) in
+    let inner : nat_le n.b 99 ≡ true = sym (at_most n.b 99) ∙ first.0 in
+    let inner' : nat_le n.c 99 ≡ true = sym (at_most n.c 99) ∙ second.0 in
+    record {
+      are = n.are ∙ rw (inside.1, first.1, second.1) refl;
+      fell = λ le. (let there : nat_le n.a last ≡ true = rw inside.1 le in rw (n.are, inside.0, inner, inner', there) refl);
+      rose = λ gt. (let there : nat_le n.a last ≡ false = rw inside.1 gt in rw (n.are, inside.0, inner, inner', there) refl);
+    }
+
+pub entry_judged : (all so_far : List (List ℕ)) (n last : ℕ) (piece : List ℕ) → so_far ≡ take n all → last ≡ last_detector so_far → n < length all →
+    piece ≡ get_or all n piece → judge_entry (take n all) (get_or all n []) ≡ numbers_why last (numbers_of piece)
+entry_judged all so_far n last piece same kept lt is =
+    let there : get_or all n [] ≡ piece = get_or_default all n [] piece lt ∙ sym is in
+    rw (there, ← same, ← kept) refl
+
+pub last_pushed : (before : List (List ℕ)) (piece : List ℕ) (n : Numbers) → numbers_of piece ≡ Some n → last_detector (before ++ piece ∷ []) ≡ n.0
+last_pushed before piece n is =
+    let end : length (before ++ piece ∷ []) - 1 ≡ length before = omega (arith, length-append before (piece ∷ [])) in
+    rw (end, get_or-append_seam before piece [] [], is) refl
+
+-- the parts of a line that isn't empty
+pub some_entries : (line : List ℕ) → (length line == 0) ≡ false → entries_of line ≡ slice_split (λ c. c == 32) line
+some_entries [] some = cc
+some_entries (x ∷ xs) some = refl
+
+pub empty_judged : (line : List ℕ) → (length line == 0) ≡ true → first_refused judge_entry (entries_of line) [] ≡ None
+unfolding refused_to
+empty_judged [] none = refl
+empty_judged (x ∷ xs) none = absurd (omega (arith, eqb-true (length (x ∷ xs)) 0 none))
+
+pub empty_frame : (line : List ℕ) → (length line == 0) ≡ true → replicate 64 (0, 0) ≡ frame_of line
+unfolding frame_of
+empty_frame [] none = refl
+empty_frame (x ∷ xs) none = absurd (omega (arith, eqb-true (length (x ∷ xs)) 0 none))
+
+abbrev pub nothing : ℕ × ℕ
+nothing = (0, 0)
+
+pub zero_counts : (most : ℕ) → HasAtMost most (replicate 64 (0, 0))
+zero_counts most p lt = rw (get_or-replicate 64 p nothing nothing lt) (omega arith, omega arith)
+
+pub small_put : (counts : Counts) (d f r : ℕ) → HasAtMost 99 counts → length counts ≡ 64 → 1 ≤ d → d ≤ 64 → f ≤ 99 → r ≤ 99 → HasAtMost 99 (slice_set counts (d - 1) (f, r))
+small_put counts d f r small size least most few more p lt = elim (cases_eq p (d - 1)) [
+  | inl same ↦ rw (get_or-set_at counts (d - 1) p item nothing same (omega arith)) (few, more)
+  | inr other ↦ rw (get_or-set_other counts (d - 1) p item nothing other) (small p lt)
+]
+  where
+    item : ℕ × ℕ
+    item = (f, r)
+
+-- the frame of these entries
+abbrev pub entries_frame : List (List ℕ) → Counts
+entries_frame = fold (λ counts entry. with_entry counts (numbers_of entry)) (replicate 64 (0, 0))
+
+pub frame_whole : (line : List ℕ) → entries_frame (entries_of line) ≡ frame_of line
+unfolding frame_of
+frame_whole line = refl
+
+pub frame_pushed : (before : List (List ℕ)) (piece : List ℕ) (n : Numbers) (counts : Counts) → counts ≡ entries_frame before → numbers_of piece ≡ Some n →
+    slice_set counts (n.0 - 1) (n.1, n.2) ≡ entries_frame (before ++ piece ∷ [])
+frame_pushed before piece n counts is known =
+    sym (fold_push (λ counts entry. with_entry counts (numbers_of entry)) (replicate 64 (0, 0)) before piece ∙ ap (with_entry (entries_frame before)) known ∙ ap (λ (l : Counts). slice_set l (n.0 - 1) (n.1, n.2)) (sym is))

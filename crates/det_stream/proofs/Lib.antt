@@ -1,0 +1,7 @@
+pub mod ListMoves
+pub mod LineLemmas
+pub mod EntryLemmas
+pub mod TotalLemmas
+pub mod StreamLemmas
+pub mod Steps
+pub mod Sample

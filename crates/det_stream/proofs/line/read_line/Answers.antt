@@ -1,0 +1,15 @@
+use Rattle.std.proofs.Common.{arith}
+use Rattle.det_stream.proofs.StreamLemmas.{judge_many, judge_wrong, judge_right}
+use Rattle.det_stream.proofs.line.read_line.Goals as goal
+
+pub returns-then-second-eq-MOST_LINES-clause-judged : goal.returns-then-second-eq-MOST_LINES-clause-judged
+returns-then-second-eq-MOST_LINES-clause-judged c before size short are = judge_many before c.args.line.now (omega (arith, size, c.if-second-eq-MOST_LINES.true))
+
+pub returns-in-Err-clause-judged : goal.returns-in-Err-clause-judged
+returns-in-Err-clause-judged c before size short are =
+    judge_wrong before c.args.line.now c.in-Err.why (omega (arith, size, c.requires.at_most, c.if-second-eq-MOST_LINES.false)) short c.in-Err.ensures.judged
+
+pub returns-clause-judged : goal.returns-clause-judged
+returns-clause-judged c before size short are =
+    rw (judge_right before c.args.line.now c.args.totals.now c.add.new.totals (omega (arith, size, c.requires.at_most, c.if-second-eq-MOST_LINES.false)) short c.in-Ok.ensures.judged are (rw c.in-Ok.ensures.frame at c.add.ensures))
+    c.judge_totals.ensures.judged
