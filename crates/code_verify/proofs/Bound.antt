@@ -14,18 +14,18 @@ use Rattle.sig_types.specs.declared.aspect.CommandKind.{CommandKind}
 use Rattle.sig_types.specs.declared.aspect.TimerKind.{TimerKind}
 use Rattle.sig_types.specs.declared.aspect.TimerKind.TheVariants.{Start as Start_timer, Stop as Stop_timer, Reset as Reset_timer}
 use Rattle.sig_types.specs.Number.{Answer, bounded, truth, holds, quotient, equal}
-use Rattle.sig_types.specs.Pass.{Store as StoreOf, World, End, set_variable, cell, set_cell, set_cell_at, turn_timer, turned, read, command, given}
+use Rattle.sig_types.specs.Pass.{Store as StoreOf, World, End, set_variable, cell, set_cell, set_cell_at, set_timer, clock_after, read, command, given}
 use Rattle.sig_types.specs.declared.aspect.CommandKind.TheVariants.{Interstage}
 use Rattle.sig_types.specs.declared.aspect.ReadingKind.TheVariants.{InterstageActive, AnyInterstage}
 use Rattle.vap_code.specs.declared.Instr.{Instr}
 use Rattle.vap_code.specs.declared.Instr.TheVariants.{Tick, Push, Load, Store, Cell, SetCell, Timer, Neg, Not, Add, Sub, Mul, Div, Eq, Ne, Lt, Le, Gt, Ge, And, Or, Read, Do, Start, Stop, Reset, Jump, JumpZero, Call, Ret}
-use Rattle.vap_code.specs.declared.Code.{Code}
+use Rattle.vap_code.specs.Codes.{CodeOf}
 use Rattle.vap_code.specs.declared.VerifyWhy.TheVariants.{EdgeToNoTick, Stretch, Shape, Commands}
 use Rattle.sig_types.specs.Arity.{reading_arity, command_arity}
-use Rattle.vap_code.specs.Machine.{Done, Faulted, Stuck, Unfinished, State, Turn, Goes, Ends, next, next_store, push_answer, keep_store, on_one, on_two, on_arguments, with_slot, timer_turn, tick, back, at_place as to_place, binary, act, turn_at, turn, after, exec, count_after, steps_of, last_start, first_state, unit_limit, step_limit, machine}
+use Rattle.vap_code.specs.Machine.{Done, Faulted, Stuck, Unfinished, State, Step, Goes, Ends, next, next_store, push_answer, keep_store, on_one, on_two, on_arguments, with_slot, timer_step, tick, back, at_place as to_place, binary, act, step_at, step, after, exec, count_after, steps_of, last_start, first_state, unit_limit, step_limit, machine}
 use Rattle.vap_code.specs.Valid.{Valid, leaves, target, goes_on, begins, is_tick, is_ret, stands_clear, stretch_of, commands_of, starts_upto, routine_of, EdgeFits}
 use Rattle.code_verify.specs.Ends.{IsOver, IfDone, AtMost, StoreFits, RunsWell, ValidCodeEnds}
-use Rattle.code_verify.specs.Room.{RoomToPush, RoomToGive, HasRoom, RoomAlong, after_turn}
+use Rattle.code_verify.specs.Room.{RoomToPush, RoomToGive, HasRoom, RoomAlong, after_step}
 use Rattle.code_verify.proofs.Checked.{some_start}
 use Rattle.code_verify.proofs.Routines.{routine_start}
 use Rattle.code_verify.proofs.PlaceFacts.{all, here, height, stretch, commands, unless_tick, At, at_place, height_at_start}
@@ -36,35 +36,35 @@ slack_of (Tick line) st = 1
 slack_of Ret st = 2
 slack_of _ st = st + 2
 
-abbrev slack : Code → ℕ → ℕ
+abbrev slack : CodeOf → ℕ → ℕ
 slack code p = slack_of (here code p) (stretch code p)
 
-abbrev measure : Code → State → ℕ
+abbrev measure : CodeOf → State → ℕ
 measure code s = 1024 * s.units + slack code s.place
 
-abbrev purse : Code → State → ℕ
+abbrev purse : CodeOf → State → ℕ
 purse code s = length s.store.commands + s.units + commands code s.place
 
 -- at most as many places are noted as routines stand below
-abbrev Deep : Code → ℕ → List ℕ → Type 0
-Deep code p noted = routine_of code.starts.items p + length noted < length code.starts.items
+abbrev Deep : CodeOf → ℕ → List ℕ → Type 0
+Deep code p noted = routine_of code.starts p + length noted < length code.starts
 
 -- a place to which a return may lead
-record ReturnsTo (code : Code) (p : ℕ) : Type 0 where
+record ReturnsTo (code : CodeOf) (p : ℕ) : Type 0 where
   inside : p < all code
   ticks : IsTrue (is_tick (here code p))
 
-abbrev Returns : Code → List ℕ → Type 0
+abbrev Returns : CodeOf → List ℕ → Type 0
 Returns code [] = Unit {0}
 Returns code (p ∷ ps) = ReturnsTo code p × (Deep code p ps) × Returns code ps
 
-record Slots (code : Code) (P : Clock → Type 0) (s : StoreOf) : Type 0 where
+record Slots (code : CodeOf) (P : Clock → Type 0) (s : StoreOf) : Type 0 where
   variables : length s.variables ≡ code.vars
   timers : length s.timers ≡ code.timers
-  arrays : map length s.arrays ≡ map (λ a. length a.items) code.arrays.items
+  arrays : map length s.arrays ≡ map length code.arrays
   clocks : All P s.timers
 
-record Stands (code : Code) (P : Clock → Type 0) (s : State) : Type 0 where
+record Stands (code : CodeOf) (P : Clock → Type 0) (s : State) : Type 0 where
   inside : s.place < all code
   standing : length s.operands ≡ height code s.place
   few : length s.operands ≤ 256
@@ -72,13 +72,13 @@ record Stands (code : Code) (P : Clock → Type 0) (s : State) : Type 0 where
   returns : Returns code s.noted
   slots : Slots code P s.store
 
--- what a turn comes to, where the numbers before it are these
-abbrev GoodTurn : Code → (Clock → Type 0) → ℕ → ℕ → Turn → Type 0
-GoodTurn code P before given (Goes s) = (Stands code P s) × (measure code s < before) × (purse code s ≤ given)
-GoodTurn code P before given (Ends (Done store)) = (length store.commands ≤ given) × Slots code P store
-GoodTurn code P before given (Ends (Faulted kind line)) = Unit {0}
-GoodTurn code P before given (Ends Stuck) = ⊥
-GoodTurn code P before given (Ends Unfinished) = ⊥
+-- what a step comes to, where the numbers before it are these
+abbrev GoodStep : CodeOf → (Clock → Type 0) → ℕ → ℕ → Step → Type 0
+GoodStep code P before given (Goes s) = (Stands code P s) × (measure code s < before) × (purse code s ≤ given)
+GoodStep code P before given (Ends (Done store)) = (length store.commands ≤ given) × Slots code P store
+GoodStep code P before given (Ends (Faulted kind line)) = Unit {0}
+GoodStep code P before given (Ends Stuck) = ⊥
+GoodStep code P before given (Ends Unfinished) = ⊥
 
 same_lengths : (arrays : List (List ℤ)) (x : ℕ) (cells : List ℤ) → length cells ≡ length (get_or arrays x []) → map length (set arrays x cells) ≡ map length arrays
 same_lengths [] x cells e = refl
@@ -112,9 +112,9 @@ record Plain (i : Instr) (extra : ℕ) : Type 0 where
   slacked : (g : ℕ) → slack_of i g ≡ g + 2
   counted : (g : ℕ) → commands_of i g ≡ extra + g
 
-module _ (code : Code) (valid : Valid code) (P : Clock → Type 0) (keeps : (kind : TimerKind) (c : Clock) → P c → P (turned kind c)) where
-  all_arrays : (s : StoreOf) → Slots code P s → length s.arrays ≡ length code.arrays.items
-  all_arrays s slots = sym (length-map s.arrays length) ∙ ap length slots.arrays ∙ length-map code.arrays.items (λ a. length a.items)
+module _ (code : CodeOf) (valid : Valid code) (P : Clock → Type 0) (keeps : (kind : TimerKind) (c : Clock) → P c → P (clock_after kind c)) where
+  all_arrays : (s : StoreOf) → Slots code P s → length s.arrays ≡ length code.arrays
+  all_arrays s slots = sym (length-map s.arrays length) ∙ ap length slots.arrays ∙ length-map code.arrays (λ a. length a)
 
   commands_upto : (q : ℕ) → q < all code → commands code q ≤ unless_tick code (commands code) q
   commands_upto q h = go (is_tick (here code q)) refl
@@ -124,21 +124,21 @@ module _ (code : Code) (valid : Valid code) (P : Clock → Type 0) (keeps : (kin
       go false e = omega arith
 
   -- on to another place in the stretch
-  good_move : (s s' : State) (i : Instr) (extra : ℕ) (a : At code s.place i) → Plain i extra → s'.place < all code → length s'.operands ≡ height code s'.place → length s'.operands ≤ 256 → Deep code s'.place s'.noted → unless_tick code (stretch code) s'.place ≤ a.stretch_top → unless_tick code (commands code) s'.place ≤ a.commands_top → s'.units ≡ s.units → Returns code s'.noted → Slots code P s'.store → length s'.store.commands ≤ extra + length s.store.commands → GoodTurn code P (1024 * s.units + slack_of i (stretch code s.place)) (purse code s) (Goes s')
+  good_move : (s s' : State) (i : Instr) (extra : ℕ) (a : At code s.place i) → Plain i extra → s'.place < all code → length s'.operands ≡ height code s'.place → length s'.operands ≤ 256 → Deep code s'.place s'.noted → unless_tick code (stretch code) s'.place ≤ a.stretch_top → unless_tick code (commands code) s'.place ≤ a.commands_top → s'.units ≡ s.units → Returns code s'.noted → Slots code P s'.store → length s'.store.commands ≤ extra + length s.store.commands → GoodStep code P (1024 * s.units + slack_of i (stretch code s.place)) (purse code s) (Goes s')
   good_move s s' i extra a plain inside standing few deep top_s top_c units returns slots given = (
     record { inside = inside; standing = standing; few = few; deep = deep; returns = returns; slots = slots },
     omega (arith, slack_upto (here code s'.place) (stretch code s'.place), a.stretch_is, plain.stretched a.stretch_top, plain.slacked (stretch code s.place)),
     omega (arith, commands_upto s'.place inside, a.commands_is, plain.counted a.commands_top),
   )
 
-  good_next : (s : State) (i : Instr) (extra : ℕ) (a : At code s.place i) → Stands code P s → IsTrue (goes_on i) → Plain i extra → (operands : List ℤ) (store : StoreOf) → length operands ≡ leaves (height code s.place) i → Slots code P store → length store.commands ≤ extra + length s.store.commands → GoodTurn code P (1024 * s.units + slack_of i (stretch code s.place)) (purse code s) (next_store s operands store)
+  good_next : (s : State) (i : Instr) (extra : ℕ) (a : At code s.place i) → Stands code P s → IsTrue (goes_on i) → Plain i extra → (operands : List ℤ) (store : StoreOf) → length operands ≡ leaves (height code s.place) i → Slots code P store → length store.commands ≤ extra + length s.store.commands → GoodStep code P (1024 * s.units + slack_of i (stretch code s.place)) (purse code s) (next_store s operands store)
   good_next s i extra a st goes plain operands store len slots given =
       let f = a.fallen goes in
       good_move s (record s { place = s.place + 1; operands = operands; store = store }) i extra a plain f.0 (len ∙ sym f.1) (omega (arith, len, a.room)) (omega (arith, f.2, st.deep)) (a.stretch_bounds.fallen goes) (a.commands_bounds.fallen goes) refl st.returns slots given
 
   module _ (s : State) (i : Instr) (extra : ℕ) (a : At code s.place i) (st : Stands code P s) (goes : IsTrue (goes_on i)) (plain : Plain i extra) where
-    abbrev Good : Turn → Type 0
-    Good t = GoodTurn code P (1024 * s.units + slack_of i (stretch code s.place)) (purse code s) t
+    abbrev Good : Step → Type 0
+    Good t = GoodStep code P (1024 * s.units + slack_of i (stretch code s.place)) (purse code s) t
 
     good_same_store : (operands : List ℤ) → length operands ≡ leaves (height code s.place) i → Good (next s operands)
     good_same_store operands len = good_next s i extra a st goes plain operands s.store len st.slots (omega arith)
@@ -156,22 +156,22 @@ module _ (code : Code) (valid : Valid code) (P : Clock → Type 0) (keeps : (kin
     good_store below (Ok store) after len = good_next s i extra a st goes plain below store len after.0 after.1
     good_store below (Err kind) after len = tt
 
-    good_one : (operands : List ℤ) (go : ℤ → List ℤ → Turn) → length operands ≡ height code s.place → 1 ≤ height code s.place → ((x : ℤ) (below : List ℤ) → suc (length below) ≡ height code s.place → Good (go x below)) → Good (on_one operands go)
+    good_one : (operands : List ℤ) (go : ℤ → List ℤ → Step) → length operands ≡ height code s.place → 1 ≤ height code s.place → ((x : ℤ) (below : List ℤ) → suc (length below) ≡ height code s.place → Good (go x below)) → Good (on_one operands go)
     good_one [] go len h f = absurd (omega arith)
     good_one (x ∷ below) go len h f = f x below len
 
-    good_two : (operands : List ℤ) (go : ℤ → ℤ → List ℤ → Turn) → length operands ≡ height code s.place → 2 ≤ height code s.place → ((x y : ℤ) (below : List ℤ) → suc (suc (length below)) ≡ height code s.place → Good (go x y below)) → Good (on_two operands go)
+    good_two : (operands : List ℤ) (go : ℤ → ℤ → List ℤ → Step) → length operands ≡ height code s.place → 2 ≤ height code s.place → ((x y : ℤ) (below : List ℤ) → suc (suc (length below)) ≡ height code s.place → Good (go x y below)) → Good (on_two operands go)
     good_two [] go len h f = absurd (omega arith)
     good_two (y ∷ []) go len h f = absurd (omega arith)
     good_two (y ∷ x ∷ below) go len h f = f x y below len
 
-    good_arguments : (n : ℕ) → n ≤ 2 → (operands : List ℤ) (go : ℤ → ℤ → List ℤ → Turn) → length operands ≡ height code s.place → n ≤ height code s.place → ((x y : ℤ) (below : List ℤ) → length below + n ≡ height code s.place → Good (go x y below)) → Good (on_arguments n operands go)
+    good_arguments : (n : ℕ) → n ≤ 2 → (operands : List ℤ) (go : ℤ → ℤ → List ℤ → Step) → length operands ≡ height code s.place → n ≤ height code s.place → ((x y : ℤ) (below : List ℤ) → length below + n ≡ height code s.place → Good (go x y below)) → Good (on_arguments n operands go)
     good_arguments zero le operands go len h f = f (pos 0) (pos 0) operands (omega arith)
     good_arguments (suc zero) le operands go len h f = good_one operands (λ x below. go x (pos 0) below) len h (λ x below e. f x (pos 0) below (omega arith))
     good_arguments (suc (suc zero)) le operands go len h f = good_two operands go len h (λ x y below e. f x y below (omega arith))
     good_arguments (suc (suc (suc n))) le operands go len h f = absurd (omega arith)
 
-    good_slot : {A : Type 0} (xs : List A) (x : ℕ) (go : A → Turn) → x < length xs → ((v : A) → Good (go v)) → Good (with_slot (slice_get xs x) go)
+    good_slot : {A : Type 0} (xs : List A) (x : ℕ) (go : A → Step) → x < length xs → ((v : A) → Good (go v)) → Good (with_slot (slice_get xs x) go)
     good_slot [] x go h f = absurd (omega arith)
     good_slot (v ∷ xs) x go h f =
         let e = slice_get-get_or (v ∷ xs) x v h in
@@ -188,8 +188,8 @@ module _ (code : Code) (valid : Valid code) (P : Clock → Type 0) (keeps : (kin
     set_variable_slots x v =
         (record { variables = length-set s.store.variables x v ∙ st.slots.variables; timers = st.slots.timers; arrays = st.slots.arrays; clocks = st.slots.clocks }, omega arith)
 
-    turn_timer_slots : (kind : TimerKind) (t : ℕ) → t < code.timers → StoreAfter (Ok (turn_timer s.store kind t))
-    turn_timer_slots kind t h = (
+    set_timer_slots : (kind : TimerKind) (t : ℕ) → t < code.timers → StoreAfter (Ok (set_timer s.store kind t))
+    set_timer_slots kind t h = (
       record {
         variables = st.slots.variables;
         timers = length-set s.store.timers t _ ∙ st.slots.timers;
@@ -218,11 +218,11 @@ module _ (code : Code) (valid : Valid code) (P : Clock → Type 0) (keeps : (kin
       omega (arith, length-append s.store.commands (c ∷ [])),
     )
 
-    good_timer : (kind : TimerKind) (t : ℕ) → t < code.timers → height code s.place ≡ leaves (height code s.place) i → Good (timer_turn kind s t)
+    good_timer : (kind : TimerKind) (t : ℕ) → t < code.timers → height code s.place ≡ leaves (height code s.place) i → Good (timer_step kind s t)
     good_timer kind t h len =
-        good_slot s.store.timers t (λ _. next_store s s.operands (turn_timer s.store kind t)) (omega (arith, st.slots.timers)) (λ c. good_store s.operands (Ok (turn_timer s.store kind t)) (turn_timer_slots kind t h) (st.standing ∙ len))
+        good_slot s.store.timers t (λ _. next_store s s.operands (set_timer s.store kind t)) (omega (arith, st.slots.timers)) (λ c. good_store s.operands (Ok (set_timer s.store kind t)) (set_timer_slots kind t h) (st.standing ∙ len))
 
-  plain_tick : (line : ℕ) (s : State) → At code s.place (Tick line) → Stands code P s → (units : ℕ) → units ≡ s.units → GoodTurn code P (1024 * s.units + 1) (purse code s) (tick s line units)
+  plain_tick : (line : ℕ) (s : State) → At code s.place (Tick line) → Stands code P s → (units : ℕ) → units ≡ s.units → GoodStep code P (1024 * s.units + 1) (purse code s) (tick s line units)
   plain_tick line s a st zero e = tt
   plain_tick line s a st (suc u) e =
       let f = a.fallen refl in
@@ -242,7 +242,7 @@ module _ (code : Code) (valid : Valid code) (P : Clock → Type 0) (keeps : (kin
       low i = elim (is_tick i) as (λ b. (if b then 0 else stretch code (s.place + 1)) ≤ 1022) [ true ↦ omega arith | false ↦ small ]
 
   -- where a routine begins there is a tick or a return
-  start_slack : (q : ℕ) → q < all code → IsTrue (begins code.starts.items q) → (slack code q ≤ 2) × (commands code q ≡ 0)
+  start_slack : (q : ℕ) → q < all code → IsTrue (begins code.starts q) → (slack code q ≤ 2) × (commands code q ≡ 0)
   start_slack q h b = (slack_small (is_ret (here code q)) refl, no_command (is_ret (here code q)) refl)
     where
       edge : EdgeFits code q
@@ -282,22 +282,22 @@ module _ (code : Code) (valid : Valid code) (P : Clock → Type 0) (keeps : (kin
       go true e = refl
       go false e = e
 
-  good_call : (s : State) (r : ℕ) → At code s.place (Call r) → Stands code P s → (world : World) → GoodTurn code P (1024 * s.units + slack_of (Call r) (stretch code s.place)) (purse code s) (act code.starts.items world (Call r) s)
+  good_call : (s : State) (r : ℕ) → At code s.place (Call r) → Stands code P s → (world : World) → GoodStep code P (1024 * s.units + slack_of (Call r) (stretch code s.place)) (purse code s) (act code.starts world (Call r) s)
   good_call s r a st world =
       let shape = valid Shape 0 (omega (arith, st.inside)) refl in
-      let few : r < length code.starts.items = omega (arith, a.called, starts_some code.starts.items s.place) in
-      let q = get_or code.starts.items r 0 in
+      let few : r < length code.starts = omega (arith, a.called, starts_some code.starts s.place) in
+      let q = get_or code.starts r 0 in
       let inside : q < all code = shape.inside r few in
-      let b = begins_at code.starts.items r few in
+      let b = begins_at code.starts r few in
       let low = start_slack q inside b in
-      let to = subst (λ o. GoodTurn code P (1024 * s.units + slack_of (Call r) (stretch code s.place)) (purse code s) (with_slot o (λ place. Goes (record s { place = place; noted = (s.place + 1) ∷ s.noted })))) (sym (slice_get-get_or code.starts.items r 0 few)) in
+      let to = subst (λ o. GoodStep code P (1024 * s.units + slack_of (Call r) (stretch code s.place)) (purse code s) (with_slot o (λ place. Goes (record s { place = place; noted = (s.place + 1) ∷ s.noted })))) (sym (slice_get-get_or code.starts r 0 few)) in
       let f = a.fallen refl in
       to (
         record {
           inside = inside;
           standing = st.standing ∙ a.clear refl ∙ sym (height_at_start code valid q inside b);
           few = st.few;
-          deep = omega (arith, a.called, st.deep, routine_start code.starts.items r shape.rising few);
+          deep = omega (arith, a.called, st.deep, routine_start code.starts r shape.rising few);
           returns = (record { inside = f.0; ticks = a.after_call refl }, omega (arith, f.2, st.deep), st.returns);
           slots = st.slots;
         },
@@ -305,7 +305,7 @@ module _ (code : Code) (valid : Valid code) (P : Clock → Type 0) (keeps : (kin
         omega (arith, low.1),
       )
 
-  good_ret : (s : State) → At code s.place Ret → Stands code P s → (noted : List ℕ) → Returns code noted → GoodTurn code P (1024 * s.units + 2) (purse code s) (back s noted)
+  good_ret : (s : State) → At code s.place Ret → Stands code P s → (noted : List ℕ) → Returns code noted → GoodStep code P (1024 * s.units + 2) (purse code s) (back s noted)
   good_ret s a st [] rs = (omega arith, st.slots)
   good_ret s a st (q ∷ noted) rs =
       let r = rs.0 in
@@ -322,9 +322,9 @@ module _ (code : Code) (valid : Valid code) (P : Clock → Type 0) (keeps : (kin
         omega (arith, b.commands_is, commands_tick (here code q) b.commands_top r.ticks),
       )
 
-  good_jump : (s : State) (i : Instr) (a : At code s.place i) → Stands code P s → Plain i 0 → (t : ℕ) → target i ≡ Some t → (operands : List ℤ) → length operands ≡ leaves (height code s.place) i → GoodTurn code P (1024 * s.units + slack_of i (stretch code s.place)) (purse code s) (to_place s operands t)
+  good_jump : (s : State) (i : Instr) (a : At code s.place i) → Stands code P s → Plain i 0 → (t : ℕ) → target i ≡ Some t → (operands : List ℤ) → length operands ≡ leaves (height code s.place) i → GoodStep code P (1024 * s.units + slack_of i (stretch code s.place)) (purse code s) (to_place s operands t)
   good_jump s i a st plain t e operands len =
-      let j = subst (λ o. IfSome o (λ t. (t < all code) × (height code t ≡ leaves (height code s.place) i) × (routine_of code.starts.items t ≡ routine_of code.starts.items s.place))) e a.jumped in
+      let j = subst (λ o. IfSome o (λ t. (t < all code) × (height code t ≡ leaves (height code s.place) i) × (routine_of code.starts t ≡ routine_of code.starts s.place))) e a.jumped in
       let ts = subst (λ o. IfSome o (λ t. unless_tick code (stretch code) t ≤ a.stretch_top)) e a.stretch_bounds.jumped in
       let tc = subst (λ o. IfSome o (λ t. unless_tick code (commands code) t ≤ a.commands_top)) e a.commands_bounds.jumped in
       good_move s (record s { place = t; operands = operands }) i 0 a plain j.0 (len ∙ sym j.1) (omega (arith, len, a.room)) (omega (arith, j.2, st.deep)) ts tc refl st.returns st.slots (omega arith)
@@ -339,7 +339,7 @@ module _ (code : Code) (valid : Valid code) (P : Clock → Type 0) (keeps : (kin
   command_arity_upto _ = omega arith
 
   -- every instruction of a valid code, in a state that stands, leads on well
-  good_act : (world : World) (s : State) (i : Instr) → At code s.place i → Stands code P s → GoodTurn code P (1024 * s.units + slack_of i (stretch code s.place)) (purse code s) (act code.starts.items world i s)
+  good_act : (world : World) (s : State) (i : Instr) → At code s.place i → Stands code P s → GoodStep code P (1024 * s.units + slack_of i (stretch code s.place)) (purse code s) (act code.starts world i s)
   good_act world s (Tick line) a st = plain_tick line s a st s.units refl
   good_act world s (Push v) a st = good_same_store s (Push v) 0 a st refl (record { stretched = λ g. refl; slacked = λ g. refl; counted = λ g. omega arith }) (v ∷ s.operands) (omega (arith, st.standing))
   good_act world s (Load x) a st = good_slot s (Load x) 0 a st refl (record { stretched = λ g. refl; slacked = λ g. refl; counted = λ g. omega arith }) s.store.variables x (λ v. next s (v ∷ s.operands)) (omega (arith, st.slots.variables, a.slot)) (λ v. good_same_store s (Load x) 0 a st refl (record { stretched = λ g. refl; slacked = λ g. refl; counted = λ g. omega arith }) (v ∷ s.operands) (omega (arith, st.standing)))
@@ -369,20 +369,20 @@ module _ (code : Code) (valid : Valid code) (P : Clock → Type 0) (keeps : (kin
   good_act world s (Jump t) a st = good_jump s (Jump t) a st (record { stretched = λ g. refl; slacked = λ g. refl; counted = λ g. omega arith }) t refl s.operands (omega (arith, st.standing))
   good_act world s (JumpZero t) a st = good_one s (JumpZero t) 0 a st refl (record { stretched = λ g. refl; slacked = λ g. refl; counted = λ g. omega arith }) s.operands (λ v below. cond (holds v) (next s below) (to_place s below t)) st.standing a.enough (λ v below e. choose v below (omega arith))
     where
-      choose : (v : ℤ) (below : List ℤ) → length below ≡ leaves (height code s.place) (JumpZero t) → GoodTurn code P (1024 * s.units + slack_of (JumpZero t) (stretch code s.place)) (purse code s) (cond (holds v) (next s below) (to_place s below t))
+      choose : (v : ℤ) (below : List ℤ) → length below ≡ leaves (height code s.place) (JumpZero t) → GoodStep code P (1024 * s.units + slack_of (JumpZero t) (stretch code s.place)) (purse code s) (cond (holds v) (next s below) (to_place s below t))
       choose v below len =
-          elim (holds v) as (λ b. GoodTurn code P (1024 * s.units + slack_of (JumpZero t) (stretch code s.place)) (purse code s) (cond b (next s below) (to_place s below t))) [
+          elim (holds v) as (λ b. GoodStep code P (1024 * s.units + slack_of (JumpZero t) (stretch code s.place)) (purse code s) (cond b (next s below) (to_place s below t))) [
             | true ↦ good_same_store s (JumpZero t) 0 a st refl (record { stretched = λ g. refl; slacked = λ g. refl; counted = λ g. omega arith }) below len
             | false ↦ good_jump s (JumpZero t) a st (record { stretched = λ g. refl; slacked = λ g. refl; counted = λ g. omega arith }) t refl below len
           ]
   good_act world s (Call r) a st = good_call s r a st world
   good_act world s Ret a st = good_ret s a st s.noted st.returns
 
-  turn_good : (world : World) (s : State) → Stands code P s → GoodTurn code P (measure code s) (purse code s) (turn code.instrs.items code.starts.items world s)
-  turn_good world s st =
+  step_good : (world : World) (s : State) → Stands code P s → GoodStep code P (measure code s) (purse code s) (step code.instrs code.starts world s)
+  step_good world s st =
       let i = here code s.place in
       let good = good_act world s i (at_place code valid s.place st.inside) st in
-      subst (λ o. GoodTurn code P (measure code s) (purse code s) (turn_at code.starts.items world o s)) (sym (slice_get-get_or code.instrs.items s.place Ret st.inside)) good
+      subst (λ o. GoodStep code P (measure code s) (purse code s) (step_at code.starts world o s)) (sym (slice_get-get_or code.instrs s.place Ret st.inside)) good
 
   above : (i : Instr) (x : ℕ) → 1 ≤ slack_of i x
   above (Tick line) x = omega arith
@@ -396,13 +396,13 @@ module _ (code : Code) (valid : Valid code) (P : Clock → Type 0) (keeps : (kin
   least_command (Do kind) g = omega arith
   least_command _ g = omega arith
 
-  room_here : (s : State) → Stands code P s → purse code s ≤ unit_limit → HasRoom code.instrs.items P s
+  room_here : (s : State) → Stands code P s → purse code s ≤ unit_limit → HasRoom code.instrs P s
   unfolding unit_limit
   room_here s st few =
       let i = here code s.place in
       let a = at_place code valid s.place st.inside in
       let shape = valid Shape 0 (omega (arith, st.inside)) refl in
-      let here_is = sym (slice_get-get_or code.instrs.items s.place Ret st.inside) in
+      let here_is = sym (slice_get-get_or code.instrs s.place Ret st.inside) in
       let pushed : leaves (length s.operands) i ≤ 256 = omega (arith, a.room, st.standing) in
       let given : length s.store.commands + commands_of i 0 ≤ 10000 = omega (arith, few, a.commands_is, least_command i a.commands_top) in
       record {
@@ -414,27 +414,27 @@ module _ (code : Code) (valid : Valid code) (P : Clock → Type 0) (keeps : (kin
         given = subst (λ o. RoomToGive o (length s.store.commands)) here_is given;
       }
 
-  -- how a run of at most n steps goes on from a turn
-  record WellAfter (world : World) (n most : ℕ) (t : Turn) : Type 0 where
-    over : IsOver (after t (exec code.instrs.items code.starts.items world n))
-    few : count_after t (steps_of code.instrs.items code.starts.items world n) ≤ most
-    room : after_turn t (RoomAlong code.instrs.items code.starts.items world P n)
-    slots : IfDone (after t (exec code.instrs.items code.starts.items world n)) (Slots code P)
+  -- how a run of at most n steps goes on from a step
+  record WellAfter (world : World) (n most : ℕ) (t : Step) : Type 0 where
+    over : IsOver (after t (exec code.instrs code.starts world n))
+    few : count_after t (steps_of code.instrs code.starts world n) ≤ most
+    room : after_step t (RoomAlong code.instrs code.starts world P n)
+    slots : IfDone (after t (exec code.instrs code.starts world n)) (Slots code P)
 
   record Well (world : World) (n : ℕ) (s : State) : Type 0 where
-    over : IsOver (exec code.instrs.items code.starts.items world n s)
-    few : steps_of code.instrs.items code.starts.items world n s ≤ measure code s
-    room : RoomAlong code.instrs.items code.starts.items world P n s
-    slots : IfDone (exec code.instrs.items code.starts.items world n s) (Slots code P)
+    over : IsOver (exec code.instrs code.starts world n s)
+    few : steps_of code.instrs code.starts world n s ≤ measure code s
+    room : RoomAlong code.instrs code.starts world P n s
+    slots : IfDone (exec code.instrs code.starts world n s) (Slots code P)
 
   -- a state that stands comes to an end within its number of steps
   ends : (world : World) (n : ℕ) (s : State) → Stands code P s → measure code s ≤ n → purse code s ≤ unit_limit → Well world n s
   ends world zero s st le few = absurd (omega (arith, above (here code s.place) (stretch code s.place)))
   ends world (suc n) s st le few =
-      let w = go (turn code.instrs.items code.starts.items world s) (turn_good world s st) (λ s' st' lt fw. ends world n s' st' (omega arith) (omega arith)) in
+      let w = go (step code.instrs code.starts world s) (step_good world s st) (λ s' st' lt fw. ends world n s' st' (omega arith) (omega arith)) in
       record { over = w.over; few = w.few; room = (room_here s st few, w.room); slots = w.slots }
     where
-      go : (t : Turn) → GoodTurn code P (measure code s) (purse code s) t → ((s' : State) → Stands code P s' → measure code s' < measure code s → purse code s' ≤ purse code s → Well world n s') → WellAfter world n (measure code s) t
+      go : (t : Step) → GoodStep code P (measure code s) (purse code s) t → ((s' : State) → Stands code P s' → measure code s' < measure code s → purse code s' ≤ purse code s → Well world n s') → WellAfter world n (measure code s) t
       go (Goes s') good rest =
           let r = rest s' good.0 good.1 good.2 in
           record { over = r.over; few = omega (arith, r.few, good.1); room = r.room; slots = r.slots }
@@ -449,7 +449,7 @@ if_done (Faulted kind line) to f = tt
 if_done Stuck to f = tt
 if_done Unfinished to f = tt
 
-keeps_low : (most : ℕ) (kind : TimerKind) (c : Clock) → c.count ≤ most → (turned kind c).count ≤ most
+keeps_low : (most : ℕ) (kind : TimerKind) (c : Clock) → c.count ≤ most → (clock_after kind c).count ≤ most
 keeps_low most Start_timer c h = h
 keeps_low most Stop_timer c h = h
 keeps_low most Reset_timer c h = omega arith
@@ -462,12 +462,12 @@ last_start_at (p ∷ q ∷ ps) h =
     last_start_at (q ∷ ps) (omega arith) ∙ ap (λ k. get_or (p ∷ q ∷ ps) k 0) e
 
 -- a pass from a store that fits
-module _ (code : Code) (world : World) (s : StoreOf) (valid : Valid code) (fits : StoreFits code s) where
-  run : (P : Clock → Type 0) (keeps : (kind : TimerKind) (c : Clock) → P c → P (turned kind c)) → All P s.timers → Well code valid P keeps world step_limit (first_state code.starts.items unit_limit s) × (measure code (first_state code.starts.items unit_limit s) ≤ step_limit)
+module _ (code : CodeOf) (world : World) (s : StoreOf) (valid : Valid code) (fits : StoreFits code s) where
+  run : (P : Clock → Type 0) (keeps : (kind : TimerKind) (c : Clock) → P c → P (clock_after kind c)) → All P s.timers → Well code valid P keeps world step_limit (first_state code.starts unit_limit s) × (measure code (first_state code.starts unit_limit s) ≤ step_limit)
   unfolding unit_limit step_limit
   run P keeps clocks =
       let shape = valid Shape 0 (omega arith) refl in
-      let starts = code.starts.items in
+      let starts = code.starts in
       let many = some_start starts shape.first in
       let k = length starts - 1 in
       let few : k < length starts = omega arith in

@@ -2,13 +2,13 @@
 use Rattle.std.proofs.Common.{◌≡◌, ℕ, zero, suc, ◌+◌, ◌<◌, ◌≤◌, List, [], ◌∷◌, length, get_or, refl, sym, ap, ◌∙◌, subst, arith, ⊎_elim}
 use Rattle.std.specs.Prelude.{IsTrue, IfSome, Option, Some, None}
 use Rattle.std.proofs.lemmas.Bool.{cases_lt}
-use Rattle.vap_code.specs.declared.Code.{Code}
+use Rattle.vap_code.specs.Codes.{CodeOf}
 use Rattle.vap_code.specs.declared.VerifyWhy.{VerifyWhy}
 use Rattle.vap_code.specs.declared.VerifyWhy.TheVariants.{JumpOut, BackToNoTick, Height, Slot, CallOrder, EdgeToNoTick, FallsOff, Stretch, Shape, Commands}
-use Rattle.vap_code.specs.Valid.{Valid, Passed, FirstBroken, FitsCheck, HasShape, Within, turn_of, target, instr_at, is_tick, routine_of}
+use Rattle.vap_code.specs.Valid.{Valid, Passed, FirstBroken, FitsCheck, HasShape, Within, check_rank, target, instr_at, is_tick, routine_of}
 use Rattle.code_verify.specs.Tables.{JumpsAhead}
 
--- the check with a turn
+-- the check with this rank
 check_at : ℕ → VerifyWhy
 check_at zero = Shape
 check_at (suc zero) = JumpOut
@@ -21,58 +21,58 @@ check_at (suc (suc (suc (suc (suc (suc (suc zero))))))) = FallsOff
 check_at (suc (suc (suc (suc (suc (suc (suc (suc zero)))))))) = Stretch
 check_at _ = Commands
 
-check_at_turn : (why : VerifyWhy) → check_at (turn_of why) ≡ why
+check_at_rank : (why : VerifyWhy) → check_at (check_rank why) ≡ why
 unfolding check_at
-check_at_turn JumpOut = refl
-check_at_turn BackToNoTick = refl
-check_at_turn Height = refl
-check_at_turn Slot = refl
-check_at_turn CallOrder = refl
-check_at_turn EdgeToNoTick = refl
-check_at_turn FallsOff = refl
-check_at_turn Stretch = refl
-check_at_turn Shape = refl
-check_at_turn Commands = refl
+check_at_rank JumpOut = refl
+check_at_rank BackToNoTick = refl
+check_at_rank Height = refl
+check_at_rank Slot = refl
+check_at_rank CallOrder = refl
+check_at_rank EdgeToNoTick = refl
+check_at_rank FallsOff = refl
+check_at_rank Stretch = refl
+check_at_rank Shape = refl
+check_at_rank Commands = refl
 
-turns_upto : (why : VerifyWhy) → turn_of why < 10
-turns_upto JumpOut = omega arith
-turns_upto BackToNoTick = omega arith
-turns_upto Height = omega arith
-turns_upto Slot = omega arith
-turns_upto CallOrder = omega arith
-turns_upto EdgeToNoTick = omega arith
-turns_upto FallsOff = omega arith
-turns_upto Stretch = omega arith
-turns_upto Shape = omega arith
-turns_upto Commands = omega arith
+ranks_upto : (why : VerifyWhy) → check_rank why < 10
+ranks_upto JumpOut = omega arith
+ranks_upto BackToNoTick = omega arith
+ranks_upto Height = omega arith
+ranks_upto Slot = omega arith
+ranks_upto CallOrder = omega arith
+ranks_upto EdgeToNoTick = omega arith
+ranks_upto FallsOff = omega arith
+ranks_upto Stretch = omega arith
+ranks_upto Shape = omega arith
+ranks_upto Commands = omega arith
 
-same_turn : (a b : VerifyWhy) → turn_of a ≡ turn_of b → a ≡ b
-same_turn a b e = sym (check_at_turn a) ∙ ap check_at e ∙ check_at_turn b
+same_rank : (a b : VerifyWhy) → check_rank a ≡ check_rank b → a ≡ b
+same_rank a b e = sym (check_at_rank a) ∙ ap check_at e ∙ check_at_rank b
 
 pub some_start : (starts : List ℕ) → get_or starts 0 1 ≡ 0 → 0 < length starts
 some_start [] e = absurd (omega (arith, e))
 some_start (p ∷ ps) e = omega arith
 
-module _ (code : Code) where
+module _ (code : CodeOf) where
   pub shape_of : (n : ℕ) → 1 ≤ n → Passed n code → HasShape code
   shape_of n h passed = passed Shape (omega arith) 0 (omega arith) refl
 
-  pub inside_of : HasShape code → (p : ℕ) → Within code p → p < length code.instrs.items
+  pub inside_of : HasShape code → (p : ℕ) → Within code p → p < length code.instrs
   inside_of shape p h =
-      let some = shape.inside 0 (some_start code.starts.items shape.first) in
+      let some = shape.inside 0 (some_start code.starts shape.first) in
       omega arith
 
-  pub few_of : (n : ℕ) → 1 ≤ n → Passed n code → length code.instrs.items ≤ 65535
+  pub few_of : (n : ℕ) → 1 ≤ n → Passed n code → length code.instrs ≤ 65535
   few_of n h passed = (shape_of n h passed).instrs
 
-  passed_more : (why : VerifyWhy) (n : ℕ) → turn_of why ≡ n → Passed n code → ((p : ℕ) → Within code p → FitsCheck code why p) → Passed (n + 1) code
+  passed_more : (why : VerifyWhy) (n : ℕ) → check_rank why ≡ n → Passed n code → ((p : ℕ) → Within code p → FitsCheck code why p) → Passed (n + 1) code
   passed_more why n e passed fit earlier lt p h =
       ⊎_elim
       (λ less. passed earlier less p h)
-      (λ more. let same : turn_of earlier ≡ turn_of why = omega arith in subst (λ w. FitsCheck code w p) (sym (same_turn earlier why same)) (fit p h))
-      (cases_lt (turn_of earlier) n)
+      (λ more. let same : check_rank earlier ≡ check_rank why = omega arith in subst (λ w. FitsCheck code w p) (sym (same_rank earlier why same)) (fit p h))
+      (cases_lt (check_rank earlier) n)
 
-  pub passed_on : (why : VerifyWhy) (n : ℕ) → turn_of why ≡ n → 1 ≤ n → Passed n code → ((p : ℕ) → p < length code.instrs.items → FitsCheck code why p) → Passed (n + 1) code
+  pub passed_on : (why : VerifyWhy) (n : ℕ) → check_rank why ≡ n → 1 ≤ n → Passed n code → ((p : ℕ) → p < length code.instrs → FitsCheck code why p) → Passed (n + 1) code
   passed_on why n e h passed fit = passed_more why n e passed (λ p w. fit p (inside_of (shape_of n h passed) p w))
 
   pub passed_shape : HasShape code → Passed 1 code
@@ -86,7 +86,7 @@ module _ (code : Code) where
     first = λ w lt. absurd (omega arith);
   }
 
-  pub broken_at : (why : VerifyWhy) (n p : ℕ) → turn_of why ≡ n → Passed n code → p < length code.instrs.items → (FitsCheck code why p → ⊥) → ((q : ℕ) → q < p → FitsCheck code why q) → FirstBroken code why p
+  pub broken_at : (why : VerifyWhy) (n p : ℕ) → check_rank why ≡ n → Passed n code → p < length code.instrs → (FitsCheck code why p → ⊥) → ((q : ℕ) → q < p → FitsCheck code why q) → FirstBroken code why p
   broken_at why n p e passed h unfit least = record {
     within = omega arith;
     broken = unfit;
@@ -95,13 +95,13 @@ module _ (code : Code) where
   }
 
   pub passed_all : Passed 10 code → Valid code
-  passed_all passed why p h = passed why (turns_upto why) p h
+  passed_all passed why p h = passed why (ranks_upto why) p h
 
-  pub jumps_ahead : HasShape code → Passed 3 code → JumpsAhead code.instrs.items
+  pub jumps_ahead : HasShape code → Passed 3 code → JumpsAhead code.instrs
   jumps_ahead shape passed p h =
       let within : Within code p = omega arith in
-      both (target (instr_at code.instrs.items p)) (passed JumpOut (omega arith) p within) (passed BackToNoTick (omega arith) p within)
+      both (target (instr_at code.instrs p)) (passed JumpOut (omega arith) p within) (passed BackToNoTick (omega arith) p within)
     where
-      both : (o : Option ℕ) → IfSome o (λ t. (t < length code.instrs.items) × (routine_of code.starts.items t ≡ routine_of code.starts.items p)) → IfSome o (λ t. t ≤ p → IsTrue (is_tick (instr_at code.instrs.items t))) → IfSome o (λ t. (t < length code.instrs.items) × (t ≤ p → IsTrue (is_tick (instr_at code.instrs.items t))))
+      both : (o : Option ℕ) → IfSome o (λ t. (t < length code.instrs) × (routine_of code.starts t ≡ routine_of code.starts p)) → IfSome o (λ t. t ≤ p → IsTrue (is_tick (instr_at code.instrs t))) → IfSome o (λ t. (t < length code.instrs) × (t ≤ p → IsTrue (is_tick (instr_at code.instrs t))))
       both None a b = tt
       both (Some t) a b = (a.0, b)

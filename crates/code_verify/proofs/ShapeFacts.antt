@@ -1,8 +1,13 @@
 -- The starts of routines, and sums over a part of a list.
-use Rattle.std.proofs.Common.{◌≡◌, ℕ, zero, suc, ◌+◌, ◌-◌, ◌<◌, ◌≤◌, List, [], ◌∷◌, length, get_or, take, drop, map, true, refl, arith, length-drop}
+use Rattle.std.proofs.Common.{◌≡◌, ℕ, zero, suc, ◌+◌, ◌-◌, ◌<◌, ◌≤◌, List, [], ◌∷◌, length, get_or, take, drop, map, true, refl, ap, arith, length-drop}
 use Rattle.std.specs.Prelude.{sum}
+use Rattle.std.specs.List.{All}
+use Rattle.std.proofs.lemmas.List.Elements.{All-nil, All-cons, All-head, All-tail}
 use Rattle.std.proofs.lemmas.List.Sums.{sum-map, sum_by_more_le}
+use Rattle.std.proofs.Math.ListN.{length-map}
+use Rattle.std.specs.Prelude.{ℤ, IsTrue, ◌↔◌}
 use Rattle.vap_code.specs.Valid.{rise, begins}
+use Rattle.code_verify.specs.Shape.{ArraysFit}
 
 rise_short : (xs : List ℕ) → length xs ≤ 1 → rise xs ≡ true
 rise_short [] h = refl
@@ -19,3 +24,40 @@ pub begins_first : (starts : List ℕ) → get_or starts 0 1 ≡ 0 → begins st
 begins_first [] e = absurd (omega (arith, e))
 begins_first (zero ∷ ps) e = refl
 begins_first (suc p ∷ ps) e = absurd (omega (arith, e))
+
+-- what holds of each image
+pub images_all : {A B : Type 0} (P : B → Type 0) (f : A → B) (xs : List A) → All (λ a. P (f a)) xs → All P (map f xs)
+images_all P f [] h = All-nil P
+images_all P f (x ∷ xs) h = All-cons P (f x) (map f xs) (All-head (λ a. P (f a)) x xs h) (images_all P f xs (All-tail (λ a. P (f a)) x xs h))
+
+pub all_images : {A B : Type 0} (P : B → Type 0) (f : A → B) (xs : List A) → All P (map f xs) → All (λ a. P (f a)) xs
+all_images P f [] h = All-nil (λ a. P (f a))
+all_images P f (x ∷ xs) h = All-cons (λ a. P (f a)) x xs (All-head P (f x) (map f xs) h) (all_images P f xs (All-tail P (f x) (map f xs) h))
+
+pub map_map : {A B C : Type 0} (g : B → C) (f : A → B) (xs : List A) → map g (map f xs) ≡ map (λ a. g (f a)) xs
+map_map g f [] = refl
+map_map g f (x ∷ xs) = ap (λ ys. g (f x) ∷ ys) (map_map g f xs)
+
+-- what the arrays of a code are asked, from what holds of their rows
+module _ {A : Type 0} (cells : A → List ℤ) (arrays : List A) where
+  abbrev pub RowsFit : Type 0
+  RowsFit = All (λ a. (1 ≤ length (cells a)) × (length (cells a) ≤ 1024)) arrays
+
+  abbrev pub SumFits : Type 0
+  SumFits = sum (map (λ a. length (cells a)) arrays) ≤ 4096
+
+  pub fit_arrays : length arrays ≤ 32 → RowsFit → SumFits → ArraysFit (map cells arrays)
+  fit_arrays count rows all = record {
+    at_most = omega (arith, length-map arrays cells);
+    cells = images_all (λ c. (1 ≤ length c) × (length c ≤ 1024)) cells arrays rows;
+    all_cells = omega (arith, all, ap sum (map_map length cells arrays));
+  }
+
+  pub fit_count : ArraysFit (map cells arrays) → length arrays ≤ 32
+  fit_count fit = omega (arith, fit.at_most, length-map arrays cells)
+
+  pub fit_rows : ArraysFit (map cells arrays) → RowsFit
+  fit_rows fit = all_images (λ c. (1 ≤ length c) × (length c ≤ 1024)) cells arrays fit.cells
+
+  pub fit_sum : ArraysFit (map cells arrays) → SumFits
+  fit_sum fit = omega (arith, fit.all_cells, ap sum (map_map length cells arrays))

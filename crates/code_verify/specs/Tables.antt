@@ -2,7 +2,7 @@
 use Rattle.std.specs.Prelude.{◌≡◌, ℕ, ◌-◌, ◌<◌, ◌≤◌, List, [], ◌∷◌, length, Option, Some, None, IfSome, IsTrue, if◌then◌else◌}
 use Rattle.sig_types.specs.Pass.{at}
 use Rattle.vap_code.specs.declared.Instr.{Instr}
-use Rattle.vap_code.specs.declared.Code.{Code}
+use Rattle.vap_code.specs.Codes.{CodeOf}
 use Rattle.vap_code.specs.Valid.{heights, stretches, command_counts, from_last, stretch_of, commands_of, greatest, later_at, leaves, jumps_to, instr_at, target, is_tick}
 use Rattle.code_verify.specs.declared.tables.Number.{Number}
 use Rattle.code_verify.specs.declared.tables.Number.TheVariants.{Stretch, Commands}
@@ -39,11 +39,11 @@ numbers number instrs starts = from_last (number_before number instrs starts) (l
 abbrev pub JumpsAhead : List Instr → Type 0
 JumpsAhead instrs = (p : ℕ) → p < length instrs → IfSome (target (instr_at instrs p)) (λ t. (t < length instrs) × (t ≤ p → IsTrue (is_tick (instr_at instrs t))))
 
-pub record IsTables (code : Code) (t : Tables) : Type 0 where
+pub record IsTables (code : CodeOf) (t : Tables) : Type 0 where
   pub heights : t.heights.items ≡ heights code
-  pub all_heights : length t.heights.items ≡ length code.instrs.items
+  pub all_heights : length t.heights.items ≡ length code.instrs
   pub low : (k : ℕ) → k < length t.heights.items → at t.heights.items k 0 ≤ k
   pub stretches : t.stretches.items ≡ stretches code
-  pub all_stretches : length t.stretches.items ≡ length code.instrs.items
+  pub all_stretches : length t.stretches.items ≡ length code.instrs
   pub command_counts : t.command_counts.items ≡ command_counts code
-  pub all_command_counts : length t.command_counts.items ≡ length code.instrs.items
+  pub all_command_counts : length t.command_counts.items ≡ length code.instrs

@@ -1,7 +1,8 @@
 // The checks of one place.
 
 ghost use Rattle.std.specs.Prelude.{◌≡◌, ℕ, ◌+◌, ◌<◌, ◌≤◌, ◌^◌, ◌↔◌, length, slice_index, slice_index_or, IsTrue, IfSome};
-ghost use Rattle.vap_code.specs.Valid.{heights as heights_of, FitsCheck, HasShape, HeightFits, SlotFits, CallFits, EdgeFits, Passed, turn_of, routine_of as routine_at};
+ghost use Rattle.vap_code.specs.Codes.{code_in};
+ghost use Rattle.vap_code.specs.Valid.{heights as heights_of, FitsCheck, HasShape, HeightFits, SlotFits, CallFits, EdgeFits, Passed, check_rank, routine_of as routine_at};
 ghost use Rattle.code_verify.specs.Tables.{IsTables};
 ghost use Rattle.vap_code.specs.declared.VerifyWhy.TheVariants.{JumpOut, BackToNoTick, Height, Slot, CallOrder, EdgeToNoTick, FallsOff, Stretch, Commands};
 
@@ -13,11 +14,11 @@ use vap_code::{Code, Instr, VerifyWhy};
 /// Whether a place fits one of the checks that are made with the tables.
 pub fn fits(code: &Code, tables: &Tables, why: VerifyWhy, p: usize) -> bool
     requires p { p < length code.now.instrs.items }
-    requires shape { HasShape code.now }
-    requires tables { IsTables code.now tables.now }
-    requires later { 3 ≤ turn_of why }
-    requires passed { Passed (turn_of why) code.now }
-    ensures { IsTrue result ↔ FitsCheck code.now why p }
+    requires shape { HasShape (code_in code.now) }
+    requires tables { IsTables (code_in code.now) tables.now }
+    requires later { 3 ≤ check_rank why }
+    requires passed { Passed (check_rank why) (code_in code.now) }
+    ensures { IsTrue result ↔ FitsCheck (code_in code.now) why p }
 {
     let instr = code.instrs[p];
     match why {
@@ -43,7 +44,7 @@ fn is_within(table: &[usize], p: usize, most: usize) -> bool
 /// Whether a jump stays in its routine.
 pub fn jump_inside(code: &Code, p: usize) -> bool
     requires { p < length code.now.instrs.items }
-    ensures { IsTrue result ↔ FitsCheck code.now JumpOut p }
+    ensures { IsTrue result ↔ FitsCheck (code_in code.now) JumpOut p }
 {
     match target(code.instrs[p]) {
         Some(t) => t < code.instrs.len()
@@ -55,8 +56,8 @@ pub fn jump_inside(code: &Code, p: usize) -> bool
 /// Whether a jump back leads to a tick.
 pub fn jumps_back_to_tick(code: &Code, p: usize) -> bool
     requires p { p < length code.now.instrs.items }
-    requires inside { FitsCheck code.now JumpOut p }
-    ensures { IsTrue result ↔ FitsCheck code.now BackToNoTick p }
+    requires inside { FitsCheck (code_in code.now) JumpOut p }
+    ensures { IsTrue result ↔ FitsCheck (code_in code.now) BackToNoTick p }
 {
     match target(code.instrs[p]) {
         Some(t) => t > p || is_tick(code.instrs[t]),
@@ -68,12 +69,12 @@ pub fn jumps_back_to_tick(code: &Code, p: usize) -> bool
 fn height_fits(code: &Code, heights: &[usize], p: usize) -> bool
     requires p { p < length code.now.instrs.items }
     requires few { length code.now.instrs.items ≤ 65535 }
-    requires table { heights.now ≡ heights_of code.now }
+    requires table { heights.now ≡ heights_of (code_in code.now) }
     requires low { (k : ℕ) → k < length heights.now → slice_index heights.now k ≤ k }
     requires whole { length heights.now ≡ length code.now.instrs.items }
-    requires inside { FitsCheck code.now JumpOut p }
+    requires inside { FitsCheck (code_in code.now) JumpOut p }
     requires starts { (k : ℕ) → k < length code.now.starts.items → slice_index code.now.starts.items k < length code.now.instrs.items }
-    ensures { IsTrue result ↔ HeightFits code.now p }
+    ensures { IsTrue result ↔ HeightFits (code_in code.now) p }
 {
     let instr = code.instrs[p];
     let height = heights[p];
@@ -100,7 +101,7 @@ fn stands_at(heights: &[usize], place: Option<usize>, height: usize) -> bool
 
 // Whether the variable, array or timer of an instruction is there.
 fn slot_fits(code: &Code, instr: Instr) -> bool
-    ensures { IsTrue result ↔ SlotFits code.now instr }
+    ensures { IsTrue result ↔ SlotFits (code_in code.now) instr }
 {
     match instr {
         Instr::Load(x) | Instr::Store(x) => x < code.vars,
@@ -124,7 +125,7 @@ fn call_fits(starts: &[u16], p: usize, instr: Instr) -> bool
 fn edge_fits(code: &Code, p: usize) -> bool
     requires p { p < length code.now.instrs.items }
     requires starts { (k : ℕ) → k < length code.now.starts.items → slice_index code.now.starts.items k < length code.now.instrs.items }
-    ensures { IsTrue result ↔ EdgeFits code.now p }
+    ensures { IsTrue result ↔ EdgeFits (code_in code.now) p }
 {
     let instr = code.instrs[p];
     (!is_call(instr)

@@ -1,7 +1,8 @@
 // The first broken check, and its least place.
 
 ghost use Rattle.std.specs.Prelude.{◌≡◌, ◌+◌, ◌≤◌, IfOk, IfErr};
-ghost use Rattle.vap_code.specs.Valid.{Valid, Passed, HasShape, turn_of};
+ghost use Rattle.vap_code.specs.Codes.{code_in};
+ghost use Rattle.vap_code.specs.Valid.{Valid, Passed, HasShape, check_rank};
 ghost use Rattle.code_verify.specs.First.{RefusedBy};
 ghost use Rattle.code_verify.specs.Tables.{IsTables};
 
@@ -27,10 +28,10 @@ pub enum VerifyRefusal {
 /// Accepts exactly the valid codes. Any other is handed back, with the first check that it breaks: its shape
 /// first, then the checks 1 to 8 in order, then the commands, and the least place that breaks it.
 pub fn verify(alloc: Global, code: Code) -> Result<Verified, (Code, VerifyRefusal)>
-    ensures accepted { IfOk result (λ v. v ≡ code) }
-    ensures valid { IfOk result (λ v. Valid code) }
+    ensures accepted { IfOk result (λ v. v ≡ code_in code) }
+    ensures valid { IfOk result (λ v. Valid (code_in code)) }
     ensures back { IfErr result (λ e. e.0 ≡ code) }
-    ensures refused { IfErr result (λ e. RefusedBy code e.1) }
+    ensures refused { IfErr result (λ e. RefusedBy (code_in code) e.1) }
 {
     match judge(alloc, &code) {
         Ok(()) => Ok(Verified::of(code)),
@@ -39,8 +40,8 @@ pub fn verify(alloc: Global, code: Code) -> Result<Verified, (Code, VerifyRefusa
 }
 
 fn judge(alloc: Global, code: &Code) -> Result<(), VerifyRefusal>
-    ensures ok { IfOk result (λ _. Valid code.now) }
-    ensures err { IfErr result (λ e. RefusedBy code.now e) }
+    ensures ok { IfOk result (λ _. Valid (code_in code.now)) }
+    ensures err { IfErr result (λ e. RefusedBy (code_in code.now) e) }
 {
     check_shape(code)?;
     check_targets(code)?;
@@ -56,9 +57,9 @@ fn judge(alloc: Global, code: &Code) -> Result<(), VerifyRefusal>
 }
 
 fn check_shape(code: &Code) -> Result<(), VerifyRefusal>
-    ensures shape { IfOk result (λ _. HasShape code.now) }
-    ensures ok { IfOk result (λ _. Passed 1 code.now) }
-    ensures err { IfErr result (λ e. RefusedBy code.now e) }
+    ensures shape { IfOk result (λ _. HasShape (code_in code.now)) }
+    ensures ok { IfOk result (λ _. Passed 1 (code_in code.now)) }
+    ensures err { IfErr result (λ e. RefusedBy (code_in code.now) e) }
 {
     if has_shape(code) {
         Ok(())
@@ -71,10 +72,10 @@ fn check_shape(code: &Code) -> Result<(), VerifyRefusal>
 }
 
 fn check_targets(code: &Code) -> Result<(), VerifyRefusal>
-    requires shape { HasShape code.now }
-    requires passed { Passed 1 code.now }
-    ensures ok { IfOk result (λ _. Passed 2 code.now) }
-    ensures err { IfErr result (λ e. RefusedBy code.now e) }
+    requires shape { HasShape (code_in code.now) }
+    requires passed { Passed 1 (code_in code.now) }
+    ensures ok { IfOk result (λ _. Passed 2 (code_in code.now)) }
+    ensures err { IfErr result (λ e. RefusedBy (code_in code.now) e) }
 {
     for p in 0..code.instrs.len() {
         if !jump_inside(code, p) {
@@ -88,10 +89,10 @@ fn check_targets(code: &Code) -> Result<(), VerifyRefusal>
 }
 
 fn check_jumps_back(code: &Code) -> Result<(), VerifyRefusal>
-    requires shape { HasShape code.now }
-    requires passed { Passed 2 code.now }
-    ensures ok { IfOk result (λ _. Passed 3 code.now) }
-    ensures err { IfErr result (λ e. RefusedBy code.now e) }
+    requires shape { HasShape (code_in code.now) }
+    requires passed { Passed 2 (code_in code.now) }
+    ensures ok { IfOk result (λ _. Passed 3 (code_in code.now)) }
+    ensures err { IfErr result (λ e. RefusedBy (code_in code.now) e) }
 {
     for p in 0..code.instrs.len() {
         if !jumps_back_to_tick(code, p) {
@@ -106,12 +107,12 @@ fn check_jumps_back(code: &Code) -> Result<(), VerifyRefusal>
 
 // One of the checks that are made with the tables, over all places.
 fn check(code: &Code, tables: &Tables, why: VerifyWhy) -> Result<(), VerifyRefusal>
-    requires shape { HasShape code.now }
-    requires tables { IsTables code.now tables.now }
-    requires later { 3 ≤ turn_of why }
-    requires passed { Passed (turn_of why) code.now }
-    ensures ok { IfOk result (λ _. Passed (turn_of why + 1) code.now) }
-    ensures err { IfErr result (λ e. RefusedBy code.now e) }
+    requires shape { HasShape (code_in code.now) }
+    requires tables { IsTables (code_in code.now) tables.now }
+    requires later { 3 ≤ check_rank why }
+    requires passed { Passed (check_rank why) (code_in code.now) }
+    ensures ok { IfOk result (λ _. Passed (check_rank why + 1) (code_in code.now)) }
+    ensures err { IfErr result (λ e. RefusedBy (code_in code.now) e) }
 {
     for p in 0..code.instrs.len() {
         if !fits(code, tables, why, p) {

@@ -13,6 +13,7 @@ mod tables;
 mod verified;
 
 pub use first::{VerifyRefusal, verify};
+pub use vap_code::VerifyWhy;
 pub use verified::Verified;
 
 /// A pass of a valid code is done or ends in a fault, within 10,241,024 instructions and with at most 10,000

@@ -3,6 +3,7 @@
 ghost use Rattle.std.specs.Prelude.{◌≡◌, ℕ, ◌≤◌, ◌<◌, ◌↔◌, length, map, sum, IsTrue, slice_index, slice_index_or};
 ghost use Rattle.std.specs.List.{All};
 ghost use Rattle.code_verify.specs.Shape.{CountsFit, ArraysFit, StartsFit};
+ghost use Rattle.vap_code.specs.Codes.{code_in};
 ghost use Rattle.vap_code.specs.Valid.{HasShape, rise as rise_of, line_fits as line_fits_of, instr_at};
 
 use vap_code::{Code, Instr};
@@ -10,7 +11,7 @@ use vap_code::{Code, Instr};
 // Whether all counts are within their limits, the starts begin with 0, rise and lie in the code, and each tick
 // has a line that a program can have.
 pub fn has_shape(code: &Code) -> bool
-    ensures { IsTrue result ↔ HasShape code.now }
+    ensures { IsTrue result ↔ HasShape (code_in code.now) }
 {
     counts_fit(code)
         && arrays_fit(&code.arrays)
@@ -19,13 +20,13 @@ pub fn has_shape(code: &Code) -> bool
 }
 
 fn counts_fit(code: &Code) -> bool
-    ensures { IsTrue result ↔ CountsFit code.now }
+    ensures { IsTrue result ↔ CountsFit (code_in code.now) }
 {
     code.instrs.len() <= 65_535 && code.starts.len() <= 65 && code.vars <= 256 && code.timers <= 64
 }
 
 fn arrays_fit(arrays: &[Vec<i32>]) -> bool
-    ensures { IsTrue result ↔ ArraysFit (λ a. length a.items) arrays.now }
+    ensures { IsTrue result ↔ ArraysFit (map (λ a. a.items) arrays.now) }
 {
     arrays.len() <= 32 && cells_fit(arrays) && all_cells_fit(arrays)
 }

@@ -1,6 +1,7 @@
 // The heights, stretches and command counts of all places.
 
 ghost use Rattle.std.specs.Prelude.{◌≡◌, ℕ, ◌+◌, ◌-◌, ◌<◌, ◌≤◌, length, slice_index, slice_index_or, drop, IfOk, IsTrue, Option, None, true, if◌then◌else◌};
+ghost use Rattle.vap_code.specs.Codes.{code_in};
 ghost use Rattle.vap_code.specs.Valid.{from_first, height_after as height_after_of, begins as begins_at, greatest as greatest_of, later_at, is_tick as is_tick_of, instr_at, FitsCheck};
 ghost use Rattle.code_verify.specs.Tables.{first_jump, first_some, brings, number_of, numbers as numbers_of, IsTables, JumpsAhead};
 ghost use Rattle.vap_code.specs.declared.VerifyWhy.TheVariants.{Shape, JumpOut, BackToNoTick};
@@ -21,9 +22,9 @@ pub struct Tables {
 
 impl Tables {
     pub fn of(alloc: Global, code: &Code) -> Result<Tables, AllocError>
-        requires shape { HasShape code.now }
-        requires passed { Passed 3 code.now }
-        ensures { IfOk result (λ t. IsTables code.now t) }
+        requires shape { HasShape (code_in code.now) }
+        requires passed { Passed 3 (code_in code.now) }
+        ensures { IfOk result (λ t. IsTables (code_in code.now) t) }
     {
         Ok(Tables {
             heights: heights(alloc, &code.instrs, &code.starts)?,

@@ -3,7 +3,7 @@ use Rattle.std.specs.Prelude.{◌≡◌, ◌≤◌, ℕ, zero, suc, List, Option
 use Rattle.sig_types.specs.declared.aspect.FaultKind.{FaultKind}
 use Rattle.sig_types.specs.declared.aspect.FaultKind.TheVariants.{Budget}
 use Rattle.sig_types.specs.Number.{holds}
-use Rattle.sig_types.specs.Pass.{Store, World, at, set_variable, set_cell, turn_timer, command}
+use Rattle.sig_types.specs.Pass.{Store, World, at, set_variable, set_cell, set_timer, command}
 use Rattle.vap_ast.specs.declared.name.Meaning.{Meaning}
 use Rattle.vap_ast.specs.declared.name.Meaning.TheVariants.{Sub, Timer as Timer_of, Variable}
 use Rattle.vap_ast.specs.Syntax.{Item, Items, Stmt, ◌before◌}
@@ -67,7 +67,7 @@ module _ (source : Source) (world : World) where
   step next routine line (Stmt.Do kind args) rest s units =
       or_fault line (and_then (values source.names world s args) (λ vs. command world kind (first_of vs) (second_of vs) s)) (λ s'. next routine rest s' units)
   step next routine line (Stmt.Timer kind name) rest s units =
-      next routine rest (turn_timer s kind (timer_number (meaning_in source.names name))) units
+      next routine rest (set_timer s kind (timer_number (meaning_in source.names name))) units
   step next routine line Stmt.Trace rest s units = next routine rest s units
 
   -- the meaning of the items still to do, in a routine, with a store and units. Each step spends a unit, so as many

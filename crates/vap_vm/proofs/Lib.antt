@@ -1,3 +1,3 @@
 pub mod PassFacts
 pub mod Sizes
-pub mod Turns
+pub mod StepFacts

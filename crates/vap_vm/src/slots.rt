@@ -3,7 +3,8 @@
 ghost use Rattle.std.specs.Prelude.{◌≡◌, ◌<◌, ◌≤◌, ℕ, length, map, replicate, pos, IfOk};
 ghost use Rattle.std.specs.List.{All};
 ghost use Rattle.sig_types.specs.Pass.{counted};
-ghost use Rattle.vap_vm.specs.View.{SameSizes, cells_of, stopped};
+ghost use Rattle.vap_code.specs.Codes.{code_in};
+ghost use Rattle.vap_vm.specs.View.{SameSizes, stopped};
 
 use crate::arrays::Arrays;
 use sig_types::Clock;
@@ -23,7 +24,7 @@ impl Slots {
     pub fn of(alloc: Global, code: &Code) -> Result<Slots, AllocError>
         requires { All (λ a. length a.items ≤ 1024) code.now.arrays.items }
         ensures variables { IfOk result (λ s. s.variables.items ≡ replicate code.now.vars (pos 0)) }
-        ensures arrays { IfOk result (λ s. s.arrays ≡ cells_of code.now) }
+        ensures arrays { IfOk result (λ s. s.arrays ≡ (code_in code.now).arrays) }
         ensures timers { IfOk result (λ s. s.timers.items ≡ replicate code.now.timers stopped) }
     {
         Ok(Slots {

@@ -1,15 +1,16 @@
 use Rattle.std.proofs.Common.{sym, subst, ap, ◌∙◌, length}
 use Rattle.code_verify.specs.Tables.{JumpsAhead, numbers}
 use Rattle.code_verify.specs.declared.tables.Number.TheVariants.{Stretch, Commands}
+use Rattle.vap_code.specs.Codes.{code_in}
 use Rattle.vap_code.specs.Valid.{from_first, height_after}
 use Rattle.code_verify.proofs.Checked.{jumps_ahead}
 use Rattle.code_verify.proofs.tables.Tables.of.Goals as goal
 
 pub numbers-requires-clause-ahead : goal.numbers-requires-clause-ahead
-numbers-requires-clause-ahead c = subst JumpsAhead (sym c.deref-3.ensures.value) (jumps_ahead c.args.code.now c.requires.shape c.requires.passed)
+numbers-requires-clause-ahead c = subst JumpsAhead (sym c.deref-3.ensures.value) (jumps_ahead (code_in c.args.code.now) c.requires.shape c.requires.passed)
 
 pub numbers-requires-2-clause-ahead : goal.numbers-requires-2-clause-ahead
-numbers-requires-2-clause-ahead c = subst JumpsAhead (sym c.deref-5.ensures.value) (jumps_ahead c.args.code.now c.requires.shape c.requires.passed)
+numbers-requires-2-clause-ahead c = subst JumpsAhead (sym c.deref-5.ensures.value) (jumps_ahead (code_in c.args.code.now) c.requires.shape c.requires.passed)
 
 pub returns : goal.returns
 returns c = record {

@@ -1,10 +1,11 @@
-use Rattle.std.proofs.Common.{◌≡◌, length, map, sym, ap, ◌∙◌, subst}
-use Rattle.sig_types.specs.Pass.{Done}
+use Rattle.std.proofs.Common.{◌≡◌, length, map, sym, ap, ◌∙◌, subst, arith, ⊎_elim}
+use Rattle.sig_types.specs.Pass.{Done, Stuck, Unfinished}
+use Rattle.vap_code.specs.Codes.{code_in}
 use Rattle.vap_code.specs.Machine.{last_start, machine, unit_limit}
 use Rattle.vap_vm.specs.Passes.{Kept}
 use Rattle.vap_vm.specs.Run.{end_of}
 use Rattle.vap_vm.specs.View.{state_of, store_of, SameSizes}
-use Rattle.vap_vm.proofs.PassFacts.{begun_state, start_of, exec_is, room_is, ready_done, ready_fault, restored}
+use Rattle.vap_vm.proofs.PassFacts.{begun_state, start_of, exec_is, steps_is, room_is, ready_done, few_done, never, ready_fault, restored}
 use Rattle.vap_vm.proofs.Sizes.{sizes_on, sizes_back}
 use Rattle.vap_vm.proofs.passes.Vm.pass.Goals as goal
 
@@ -12,17 +13,17 @@ pub run-requires-clause-room : goal.run-requires-clause-room
 run-requires-clause-room g c =
     let s = c.self.inside in
     let kept : Kept = record { code = s.code; store = store_of s.machine; seconds = s.seconds } in
-    let begun = begun_state c.begin.new.self s.machine.slots (last_start s.code.starts.items) unit_limit (c.begin.ensures.place ∙ c.last_start.ensures ∙ ap last_start (c.deref.ensures.value ∙ ap (λ code. code.starts.items) c.code-code.ensures.same)) c.begin.ensures.line (c.begin.ensures.units ∙ c.unit_limit.ensures.same) c.begin.ensures.operands c.begin.ensures.noted c.begin.ensures.commands c.begin.ensures.slots in
-    λ w m. room_is kept c.code-code.result.now c.code-code.ensures.same c.step_limit.result c.step_limit.ensures.same (state_of c.begin.new.self) begun w (c.valid_code_runs_well.ensures s.code w (start_of kept) c.code-code.ensures.valid c.self.invariant.0.fits) c.self.invariant.0
+    let begun = begun_state c.begin.new.self s.machine.slots (last_start s.code.starts) unit_limit (c.begin.ensures.place ∙ c.last_start.ensures ∙ ap last_start (c.deref.ensures.value ∙ ap (λ code. code.starts) c.code-code.ensures.same)) c.begin.ensures.line (c.begin.ensures.units ∙ c.unit_limit.ensures.same) c.begin.ensures.operands c.begin.ensures.noted c.begin.ensures.commands c.begin.ensures.slots in
+    λ w m. room_is kept (code_in c.code-code.result.now) c.code-code.ensures.same c.step_limit.result c.step_limit.ensures.same (state_of c.begin.new.self) begun w (c.valid_code_runs_well.ensures s.code w (start_of kept) c.code-code.ensures.valid c.self.invariant.0.fits) c.self.invariant.0
 
 pub invariant_of-self : goal.invariant_of-self
 invariant_of-self g c =
     let s = c.self.inside in
     let kept : Kept = record { code = s.code; store = store_of s.machine; seconds = s.seconds } in
-    let begun = begun_state c.begin.new.self s.machine.slots (last_start s.code.starts.items) unit_limit (c.begin.ensures.place ∙ c.last_start.ensures ∙ ap last_start (c.deref.ensures.value ∙ ap (λ code. code.starts.items) c.code-code.ensures.same)) c.begin.ensures.line (c.begin.ensures.units ∙ c.unit_limit.ensures.same) c.begin.ensures.operands c.begin.ensures.noted c.begin.ensures.commands c.begin.ensures.slots in
+    let begun = begun_state c.begin.new.self s.machine.slots (last_start s.code.starts) unit_limit (c.begin.ensures.place ∙ c.last_start.ensures ∙ ap last_start (c.deref.ensures.value ∙ ap (λ code. code.starts) c.code-code.ensures.same)) c.begin.ensures.line (c.begin.ensures.units ∙ c.unit_limit.ensures.same) c.begin.ensures.operands c.begin.ensures.noted c.begin.ensures.commands c.begin.ensures.slots in
     let w = c.requires.0 in
     let r = c.valid_code_runs_well.ensures s.code w (start_of kept) c.code-code.ensures.valid c.self.invariant.0.fits in
-    let is : Done (store_of c.run.new.m) ≡ machine s.code w (start_of kept) = ap (λ x. end_of x c.run.new.m) (sym c.in-End.is) ∙ c.run.ensures.how w c.requires.1 ∙ exec_is kept c.code-code.result.now c.code-code.ensures.same c.step_limit.result c.step_limit.ensures.same (state_of c.begin.new.self) begun w in
+    let is : Done (store_of c.run.new.m) ≡ machine s.code w (start_of kept) = ap (λ x. end_of x c.run.new.m) (sym c.in-End.is) ∙ c.run.ensures.how w c.requires.1 ∙ exec_is kept (code_in c.code-code.result.now) c.code-code.ensures.same c.step_limit.result c.step_limit.ensures.same (state_of c.begin.new.self) begun w in
     let back : SameSizes c.copy_from.new.self s.machine.slots = record { variables = ap length c.copy_from.ensures.variables; arrays = ap (map length) c.copy_from.ensures.arrays; timers = ap length c.copy_from.ensures.timers } in
     let on : SameSizes c.run.new.m.slots s.machine.slots = subst (λ x. SameSizes c.run.new.m.slots x) c.begin.ensures.slots c.run.ensures.sizes in
     (ready_done kept w c.run.new.m c.self.invariant.0 r is, sizes_on _ _ _ back (sizes_back _ _ on))
@@ -31,10 +32,10 @@ pub returns-in-End-clause-ready : goal.returns-in-End-clause-ready
 returns-in-End-clause-ready g c =
     let s = c.self.inside in
     let kept : Kept = record { code = s.code; store = store_of s.machine; seconds = s.seconds } in
-    let begun = begun_state c.begin.new.self s.machine.slots (last_start s.code.starts.items) unit_limit (c.begin.ensures.place ∙ c.last_start.ensures ∙ ap last_start (c.deref.ensures.value ∙ ap (λ code. code.starts.items) c.code-code.ensures.same)) c.begin.ensures.line (c.begin.ensures.units ∙ c.unit_limit.ensures.same) c.begin.ensures.operands c.begin.ensures.noted c.begin.ensures.commands c.begin.ensures.slots in
+    let begun = begun_state c.begin.new.self s.machine.slots (last_start s.code.starts) unit_limit (c.begin.ensures.place ∙ c.last_start.ensures ∙ ap last_start (c.deref.ensures.value ∙ ap (λ code. code.starts) c.code-code.ensures.same)) c.begin.ensures.line (c.begin.ensures.units ∙ c.unit_limit.ensures.same) c.begin.ensures.operands c.begin.ensures.noted c.begin.ensures.commands c.begin.ensures.slots in
     let w = c.requires.0 in
     let r = c.valid_code_runs_well.ensures s.code w (start_of kept) c.code-code.ensures.valid c.self.invariant.0.fits in
-    let is : Done (store_of c.run.new.m) ≡ machine s.code w (start_of kept) = ap (λ x. end_of x c.run.new.m) (sym c.in-End.is) ∙ c.run.ensures.how w c.requires.1 ∙ exec_is kept c.code-code.result.now c.code-code.ensures.same c.step_limit.result c.step_limit.ensures.same (state_of c.begin.new.self) begun w in
+    let is : Done (store_of c.run.new.m) ≡ machine s.code w (start_of kept) = ap (λ x. end_of x c.run.new.m) (sym c.in-End.is) ∙ c.run.ensures.how w c.requires.1 ∙ exec_is kept (code_in c.code-code.result.now) c.code-code.ensures.same c.step_limit.result c.step_limit.ensures.same (state_of c.begin.new.self) begun w in
     ready_done kept w c.run.new.m c.self.invariant.0 r is
 
 pub invariant_of-self-in-Fault : goal.invariant_of-self-in-Fault
@@ -48,3 +49,46 @@ invariant_of-self-in-Fault g c =
       ready_fault kept _ c.self.invariant.0 (restored (ap (λ x. x.variables.items) c.swap.ensures.x_after ∙ c.copy_from.ensures.variables) (ap (λ x. x.arrays) c.swap.ensures.x_after ∙ c.copy_from.ensures.arrays) (ap (λ x. x.timers.items) c.swap.ensures.x_after ∙ c.copy_from.ensures.timers) c.clear.ensures),
       sizes_on _ _ _ after (sizes_back _ _ before),
     )
+
+pub unreachable-requires : goal.unreachable-requires
+unreachable-requires g c =
+    let s = c.self.inside in
+    let kept : Kept = record { code = s.code; store = store_of s.machine; seconds = s.seconds } in
+    let begun = begun_state c.begin.new.self s.machine.slots (last_start s.code.starts) unit_limit (c.begin.ensures.place ∙ c.last_start.ensures ∙ ap last_start (c.deref.ensures.value ∙ ap (λ code. code.starts) c.code-code.ensures.same)) c.begin.ensures.line (c.begin.ensures.units ∙ c.unit_limit.ensures.same) c.begin.ensures.operands c.begin.ensures.noted c.begin.ensures.commands c.begin.ensures.slots in
+    let w = c.requires.0 in
+    let r = c.valid_code_runs_well.ensures s.code w (start_of kept) c.code-code.ensures.valid c.self.invariant.0.fits in
+    let how = c.run.ensures.how w c.requires.1 ∙ exec_is kept (code_in c.code-code.result.now) c.code-code.ensures.same c.step_limit.result c.step_limit.ensures.same (state_of c.begin.new.self) begun w in
+    ⊎_elim
+    (λ e. never kept w c.run.new.m r Unfinished (λ h. h) (ap (λ x. end_of x c.run.new.m) (sym e) ∙ how))
+    (λ e. never kept w c.run.new.m r Stuck (λ h. h) (ap (λ x. end_of x c.run.new.m) (sym e) ∙ how))
+    c.in-On.is
+
+pub returns-in-End-clause-few : goal.returns-in-End-clause-few
+returns-in-End-clause-few g c =
+    let s = c.self.inside in
+    let kept : Kept = record { code = s.code; store = store_of s.machine; seconds = s.seconds } in
+    let begun = begun_state c.begin.new.self s.machine.slots (last_start s.code.starts) unit_limit (c.begin.ensures.place ∙ c.last_start.ensures ∙ ap last_start (c.deref.ensures.value ∙ ap (λ code. code.starts) c.code-code.ensures.same)) c.begin.ensures.line (c.begin.ensures.units ∙ c.unit_limit.ensures.same) c.begin.ensures.operands c.begin.ensures.noted c.begin.ensures.commands c.begin.ensures.slots in
+    let w = c.requires.0 in
+    let r = c.valid_code_runs_well.ensures s.code w (start_of kept) c.code-code.ensures.valid c.self.invariant.0.fits in
+    let is : Done (store_of c.run.new.m) ≡ machine s.code w (start_of kept) = ap (λ x. end_of x c.run.new.m) (sym c.in-End.is) ∙ c.run.ensures.how w c.requires.1 ∙ exec_is kept (code_in c.code-code.result.now) c.code-code.ensures.same c.step_limit.result c.step_limit.ensures.same (state_of c.begin.new.self) begun w in
+    few_done kept w c.run.new.m r is
+
+pub returns-in-End-clause-bounded : goal.returns-in-End-clause-bounded
+returns-in-End-clause-bounded g c =
+    let s = c.self.inside in
+    let kept : Kept = record { code = s.code; store = store_of s.machine; seconds = s.seconds } in
+    let begun = begun_state c.begin.new.self s.machine.slots (last_start s.code.starts) unit_limit (c.begin.ensures.place ∙ c.last_start.ensures ∙ ap last_start (c.deref.ensures.value ∙ ap (λ code. code.starts) c.code-code.ensures.same)) c.begin.ensures.line (c.begin.ensures.units ∙ c.unit_limit.ensures.same) c.begin.ensures.operands c.begin.ensures.noted c.begin.ensures.commands c.begin.ensures.slots in
+    let w = c.requires.0 in
+    let r = c.valid_code_runs_well.ensures s.code w (start_of kept) c.code-code.ensures.valid c.self.invariant.0.fits in
+    let steps = steps_is kept (code_in c.code-code.result.now) c.code-code.ensures.same c.step_limit.result c.step_limit.ensures.same (state_of c.begin.new.self) begun w in
+    omega (arith, steps, c.run.ensures.counted w c.requires.1, r.few, c.step_limit.ensures.same, c.step_limit.ensures.number)
+
+pub returns-in-Fault-clause-bounded : goal.returns-in-Fault-clause-bounded
+returns-in-Fault-clause-bounded g c =
+    let s = c.self.inside in
+    let kept : Kept = record { code = s.code; store = store_of s.machine; seconds = s.seconds } in
+    let begun = begun_state c.begin.new.self s.machine.slots (last_start s.code.starts) unit_limit (c.begin.ensures.place ∙ c.last_start.ensures ∙ ap last_start (c.deref.ensures.value ∙ ap (λ code. code.starts) c.code-code.ensures.same)) c.begin.ensures.line (c.begin.ensures.units ∙ c.unit_limit.ensures.same) c.begin.ensures.operands c.begin.ensures.noted c.begin.ensures.commands c.begin.ensures.slots in
+    let w = c.requires.0 in
+    let r = c.valid_code_runs_well.ensures s.code w (start_of kept) c.code-code.ensures.valid c.self.invariant.0.fits in
+    let steps = steps_is kept (code_in c.code-code.result.now) c.code-code.ensures.same c.step_limit.result c.step_limit.ensures.same (state_of c.begin.new.self) begun w in
+    omega (arith, steps, c.run.ensures.counted w c.requires.1, r.few, c.step_limit.ensures.same, c.step_limit.ensures.number)
