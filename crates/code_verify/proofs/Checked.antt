@@ -46,7 +46,7 @@ ranks_upto Stretch = omega arith
 ranks_upto Shape = omega arith
 ranks_upto Commands = omega arith
 
-same_rank : (a b : VerifyWhy) → check_rank a ≡ check_rank b → a ≡ b
+pub same_rank : (a b : VerifyWhy) → check_rank a ≡ check_rank b → a ≡ b
 same_rank a b e = sym (check_at_rank a) ∙ ap check_at e ∙ check_at_rank b
 
 pub some_start : (starts : List ℕ) → get_or starts 0 1 ≡ 0 → 0 < length starts

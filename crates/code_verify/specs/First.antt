@@ -1,6 +1,8 @@
 -- Why a code is refused.
 use Rattle.vap_code.specs.Codes.{CodeOf}
-use Rattle.vap_code.specs.Valid.{FirstBroken}
+use Rattle.std.specs.Prelude.{◌≡◌, ℕ}
+use Rattle.vap_code.specs.declared.VerifyWhy.{VerifyWhy}
+use Rattle.vap_code.specs.Valid.{Valid, FirstBroken}
 use Rattle.code_verify.specs.declared.first.VerifyRefusal.{VerifyRefusal}
 use Rattle.code_verify.specs.declared.first.VerifyRefusal.TheVariants.{Memory, At}
 
@@ -8,3 +10,11 @@ use Rattle.code_verify.specs.declared.first.VerifyRefusal.TheVariants.{Memory, A
 abbrev pub RefusedBy : CodeOf → VerifyRefusal → Type 0
 RefusedBy code Memory = Unit {0}
 RefusedBy code (At place why) = FirstBroken code why place
+
+-- a code breaks at most one check first, at one least place
+abbrev pub OneIsFirst : Type 0
+OneIsFirst = (code : CodeOf) (why why' : VerifyWhy) (place place' : ℕ) → FirstBroken code why place → FirstBroken code why' place' → (why ≡ why') × (place ≡ place')
+
+-- a valid code breaks none
+abbrev pub ValidBreaksNone : Type 0
+ValidBreaksNone = (code : CodeOf) (why : VerifyWhy) (place : ℕ) → Valid code → FirstBroken code why place → ⊥

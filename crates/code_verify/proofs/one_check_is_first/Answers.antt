@@ -1,0 +1,5 @@
+use Rattle.code_verify.proofs.OneFirst.{one_is_first, valid_breaks_none}
+use Rattle.code_verify.proofs.one_check_is_first.Goals as goal
+
+pub returns : goal.returns
+returns c = record { one = one_is_first; none = valid_breaks_none }
