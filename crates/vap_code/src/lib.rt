@@ -72,7 +72,8 @@ pub enum Instr {
 }
 
 /// A code: its instructions, the places at which its routines begin (the last routine is the main one), the
-/// numbers of its variables and timers, and the values with which its arrays begin.
+/// numbers of its variables and timers, and the values with which its arrays begin. Contracts speak of its plain
+/// data, `code_in` of `specs/Codes.antt`.
 #[derive(Drop)]
 pub struct Code {
     pub instrs: Vec<Instr>,
@@ -99,10 +100,10 @@ pub enum VerifyWhy {
     EdgeToNoTick = 6,
     /// The routine has no next place.
     FallsOff = 7,
-    /// More than 1,022 instructions may follow before the next tick.
+    /// More than 1,022 instructions, this one counted, may run from here before the next tick.
     Stretch = 8,
     /// A count, a start or a line is out of its range.
     Shape = 9,
-    /// More than one command may follow before the next tick.
+    /// More than one command, this one counted, may be given from here before the next tick.
     Commands = 10,
 }
