@@ -1,32 +1,11 @@
 // What the checks ask of one instruction.
 
 ghost use Rattle.std.specs.Prelude.{◌≡◌, ◌≤◌, ◌<◌, ◌^◌, ◌+◌};
-ghost use Rattle.sig_types.specs.Arity.{reading_arity as reading_words, command_arity as command_words};
 ghost use Rattle.vap_code.specs.Valid.{pops as pops_of, pushes as pushes_of, target as target_of, leaves as leaves_of, goes_on as goes_on_of, stands_clear as stands_clear_of, is_tick as is_tick_of, is_call as is_call_of, is_ret as is_ret_of};
 
-use sig_types::{CommandKind, ReadingKind};
 use vap_code::Instr;
 
-fn reading_arity(kind: ReadingKind) -> usize
-    ensures { result ≡ reading_words kind }
-{
-    match kind {
-        ReadingKind::InterstageActive => 2,
-        ReadingKind::AnyInterstage => 0,
-        _ => 1,
-    }
-}
-
-fn command_arity(kind: CommandKind) -> usize
-    ensures { result ≡ command_words kind }
-{
-    match kind {
-        CommandKind::Interstage => 2,
-        _ => 1,
-    }
-}
-
-// How many operands an instruction takes.
+/// How many operands an instruction takes.
 pub fn pops(i: Instr) -> usize
     ensures { result ≡ pops_of i }
 {
@@ -45,13 +24,22 @@ pub fn pops(i: Instr) -> usize
         | Instr::Ge
         | Instr::And
         | Instr::Or => 2,
-        Instr::Read(kind) => reading_arity(kind),
-        Instr::Do(kind) => command_arity(kind),
-        _ => 0,
+        Instr::Read(kind) => kind.arity(),
+        Instr::Do(kind) => kind.arity(),
+        Instr::Tick(_)
+        | Instr::Push(_)
+        | Instr::Load(_)
+        | Instr::Timer(_)
+        | Instr::Start(_)
+        | Instr::Stop(_)
+        | Instr::Reset(_)
+        | Instr::Jump(_)
+        | Instr::Call(_)
+        | Instr::Ret => 0,
     }
 }
 
-// How many operands an instruction puts in their place.
+/// How many operands an instruction puts in their place.
 pub fn pushes(i: Instr) -> usize
     ensures { result ≡ pushes_of i }
 {
@@ -75,11 +63,21 @@ pub fn pushes(i: Instr) -> usize
         | Instr::And
         | Instr::Or
         | Instr::Read(_) => 1,
-        _ => 0,
+        Instr::Tick(_)
+        | Instr::Store(_)
+        | Instr::SetCell(_)
+        | Instr::Do(_)
+        | Instr::Start(_)
+        | Instr::Stop(_)
+        | Instr::Reset(_)
+        | Instr::Jump(_)
+        | Instr::JumpZero(_)
+        | Instr::Call(_)
+        | Instr::Ret => 0,
     }
 }
 
-// What an instruction leaves of so many operands.
+/// What an instruction leaves of so many operands.
 pub fn leaves(height: usize, i: Instr) -> usize
     requires { height < 2 ^ 32 }
     ensures { result ≡ leaves_of height i }
@@ -87,7 +85,7 @@ pub fn leaves(height: usize, i: Instr) -> usize
     height.saturating_sub(pops(i)) + pushes(i)
 }
 
-// Where an instruction may jump to.
+/// Where an instruction may jump to.
 pub fn target(i: Instr) -> Option<usize>
     ensures { result ≡ target_of i }
 {
@@ -97,32 +95,35 @@ pub fn target(i: Instr) -> Option<usize>
     }
 }
 
-// Whether the next place may follow.
+/// Whether the next place may follow.
 pub fn goes_on(i: Instr) -> bool
     ensures { result ≡ goes_on_of i }
 {
     !matches!(i, Instr::Jump(_) | Instr::Ret)
 }
 
-// Whether no operand may stand at an instruction.
+/// Whether no operand may stand at an instruction.
 pub fn stands_clear(i: Instr) -> bool
     ensures { result ≡ stands_clear_of i }
 {
     matches!(i, Instr::Tick(_) | Instr::Call(_) | Instr::Ret)
 }
 
+/// Whether it spends a unit.
 pub fn is_tick(i: Instr) -> bool
     ensures { result ≡ is_tick_of i }
 {
     matches!(i, Instr::Tick(_))
 }
 
+/// Whether it calls a routine.
 pub fn is_call(i: Instr) -> bool
     ensures { result ≡ is_call_of i }
 {
     matches!(i, Instr::Call(_))
 }
 
+/// Whether it ends a routine.
 pub fn is_ret(i: Instr) -> bool
     ensures { result ≡ is_ret_of i }
 {
