@@ -104,7 +104,7 @@ cut_later start mid new n front piece more whole so_far is cut =
 -- a stop in second k + 1 is one of the run
 pub stops_run : (logic : Logic) (site : Site) (seconds k : ℕ) (stop : Stop) (start mid new : Option (List ℕ)) → k < seconds →
     mid ≡ append_known start (run_text logic site k) → IsSecondStop stop mid new (next_text logic site k) → IsPlayStop logic site seconds stop start new
-stops_run logic site seconds k Memory start mid new below so_far same = (suc k, omega arith, same ∙ so_far)
+stops_run logic site seconds k Memory start mid new below so_far is = absurd is
 stops_run logic site seconds k (ReadFault file) start mid new below so_far is = is
 stops_run logic site seconds k WriteFault start mid new below so_far cut =
     let rest = run_text-front logic site (k + 1) (seconds - (k + 1)) in

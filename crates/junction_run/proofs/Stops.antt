@@ -28,7 +28,7 @@ nothing_gained old new same = same ∙ sym (append_known-nil old)
 
 load_meets : (form : Form) (loading : Result Loaded Unloaded) (stop : Stop) (old new : Option (List ℕ)) →
     IsLoadStop form stop loading → new ≡ old → Meets (run_answer form loading) (status_of stop) old new
-load_meets form loading Memory old new is same = (0, omega arith, nothing_gained old new same)
+load_meets form loading Memory old new is same = same
 load_meets form loading (ReadFault file) old new is same = (0, omega arith, nothing_gained old new same)
 load_meets form loading WriteFault old new is same = absurd is
 load_meets form loading (Refused file line reason) old new is same = rw is (refl, nothing_gained old new same)
@@ -40,8 +40,7 @@ front_after form loaded (suc k) = refl
 
 play_meets : (form : Form) (loaded : Loaded) (stop : Stop) (old new : Option (List ℕ)) →
     IsPlayStop (listed loaded.commands) loaded.site form.seconds stop old new → Meets (run_answer form (Ok loaded)) (status_of stop) old new
-play_meets form loaded Memory old new is =
-    (is.0, omega (arith, is.1), is.2 ∙ ap (λ bs. append_known old bs) (front_after form loaded is.0))
+play_meets form loaded Memory old new is = absurd is
 play_meets form loaded (ReadFault file) old new is = absurd is
 play_meets form loaded WriteFault old new is = is
 play_meets form loaded (Refused file line reason) old new is = absurd is
@@ -104,7 +103,7 @@ load_notes form loading (TooLong file) is = rw is refl
 
 play_notes : (form : Form) (loaded : Loaded) (answer : Answer) (stop : Stop) (old new : Option (List ℕ)) → IsPlayStop (listed loaded.commands) loaded.site form.seconds stop old new →
     IsAnswersNote answer (status_of stop) (stop_note form stop)
-play_notes form loaded answer Memory old new is = tt
+play_notes form loaded answer Memory old new is = absurd is
 play_notes form loaded answer (ReadFault file) old new is = absurd is
 play_notes form loaded answer WriteFault old new is = tt
 play_notes form loaded answer (Refused file line reason) old new is = absurd is

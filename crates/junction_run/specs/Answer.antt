@@ -84,7 +84,7 @@ IsBroken a most old new = (k : ℕ) × (k ≤ most) × (new ≡ append_known old
 -- The status, with what out has gained: the answer's own, or want of memory, or a fault on the way.
 abbrev pub Meets : Answer → Status → Option (List ℕ) → Option (List ℕ) → Type 0
 Meets a status.Done old new = IsAnswered a status.Done old new
-Meets a status.Memory old new = IsBroken a a.writes old new
+Meets a status.Memory old new = new ≡ old
 Meets a status.Words old new = IsAnswered a status.Words old new
 Meets a status.ReadFault old new = IsBroken a a.before_reads old new
 Meets a status.WriteFault old new = (n : ℕ) × IsCut old new n (after a a.writes)

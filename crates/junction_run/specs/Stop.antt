@@ -33,7 +33,7 @@ IsLoadStop form (TooLong file) loading = loading ≡ Err (LongFile (word_of form
 
 -- what playing stopped at, with what out has gained
 abbrev pub IsPlayStop : Logic → Site → ℕ → Stop → Option (List ℕ) → Option (List ℕ) → Type 0
-IsPlayStop logic site seconds Memory old new = (k : ℕ) × (k ≤ seconds + 1) × (new ≡ append_known old (log_front logic site k))
+IsPlayStop logic site seconds Memory old new = ⊥
 IsPlayStop logic site seconds (ReadFault file) old new = ⊥
 IsPlayStop logic site seconds WriteFault old new = (n : ℕ) × IsCut old new n (run_text logic site seconds)
 IsPlayStop logic site seconds (Refused file line reason) old new = ⊥
@@ -41,7 +41,7 @@ IsPlayStop logic site seconds (TooLong file) old new = ⊥
 
 -- what a second stopped at: nothing of its record has gone, or only some of it
 abbrev pub IsSecondStop : Stop → Option (List ℕ) → Option (List ℕ) → List ℕ → Type 0
-IsSecondStop Memory old new text = new ≡ old
+IsSecondStop Memory old new text = ⊥
 IsSecondStop (ReadFault file) old new text = ⊥
 IsSecondStop WriteFault old new text = (n : ℕ) × IsCut old new n text
 IsSecondStop (Refused file line reason) old new text = ⊥

@@ -57,9 +57,7 @@ fn play_second<O: Sink>(controller: &mut Controller, frame: &Frame, out: &mut O)
     ensures later { O.faults out.old ≤ O.faults out.new }
     ensures cause { result ≡ Err Stop.WriteFault → Rose (O.faults out.old) (O.faults out.new) }
 {
-    if let Err(_memory) = controller.second(frame) {
-        return Err(Stop::Memory);
-    }
+    controller.second(frame);
     if let Err(_fault) = write_second(controller.last(), controller.plan(), out) {
         return Err(Stop::WriteFault);
     }

@@ -7,7 +7,7 @@ use pua_reader::read_plan;
 use sig_guard::Guard;
 use sig_tables::{read_intergreens, read_times};
 use sig_types::Aspect::{Amber, Green, Red, RedAmber};
-use sig_types::{Aspect, GroupNo, Memory, Rule, TurnRefusal, TurnRefusals, Wishes};
+use sig_types::{Aspect, GroupNo, Rule, TurnRefusal, TurnRefusals, Wishes};
 use std::test::Fail;
 
 // What is wished in each second up to that one, what the groups show then, and the turn that is refused.
@@ -51,7 +51,7 @@ fn only(turns: &TurnRefusals) -> Option<TurnRefusal> {
 }
 
 // The first second in which the guard does otherwise than the rows say.
-fn first_other(guard: &mut Guard, rows: &[Row]) -> Result<Option<u8>, Memory>
+fn first_other(guard: &mut Guard, rows: &[Row]) -> Option<u8>
     requires groups { (rules guard.old).count ≡ 2 }
     requires new { seconds_made guard.old ≡ 0 }
     ensures { (rules guard.new).count ≡ 2 }
@@ -65,15 +65,15 @@ fn first_other(guard: &mut Guard, rows: &[Row]) -> Result<Option<u8>, Memory>
         wishes.set(1, row.wished.1);
         while second < until {
             second += 1;
-            guard.step(&wishes, &mut turns)?;
+            guard.step(&wishes, &mut turns);
             let picture = guard.picture();
             let same = picture.get(0) == row.shown.0 && picture.get(1) == row.shown.1;
             if !same || only(&turns) != row.refused || turns.len() > 1 {
-                return Ok(Some(second));
+                return Some(second);
             }
         }
     }
-    Ok(None)
+    None
 }
 
 #[test]
@@ -134,7 +134,7 @@ fn wished_turns_wait_for_their_rules(rt: HostRuntime) -> Result<(), Fail> {
         let times = read_times(rt.alloc(), times, &plan)?;
         let intergreens = read_intergreens(rt.alloc(), pairs, &plan)?;
         let mut guard = Guard::new(rt.alloc(), times, intergreens)?;
-        assert_eq!(rt; first_other(&mut guard, rows)?, None);
+        assert_eq!(rt; first_other(&mut guard, rows), None);
         assert_eq!(rt; guard.t_green(GroupNo(0)), green);
         assert_eq!(rt; guard.t_red(GroupNo(0)), red);
     }

@@ -58,7 +58,7 @@ fn seconds_as(controller: &mut Controller, rows: &[Row]) -> Result<usize, Fail>
         if !controller.takes(&frame) {
             return Ok(seconds);
         }
-        controller.second(&frame)?;
+        controller.second(&frame);
         if !tells(controller.last(), *row) {
             return Ok(seconds);
         }

@@ -1,3 +1,4 @@
+pub mod Aged
 pub mod Agree
 pub mod EachRefusal
 pub mod LawProofs
@@ -9,5 +10,4 @@ pub mod RefusedBreaks
 pub mod SequenceKept
 pub mod StandsAfter
 pub mod StepKept
-pub mod TurnLemmas
 pub mod TwoWay

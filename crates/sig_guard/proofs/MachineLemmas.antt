@@ -3,41 +3,45 @@ use Rattle.std.proofs.Common.{◌≡◌, ℕ, suc, ◌+◌, ◌<◌, ◌≤◌, 
 use Rattle.sig_types.specs.declared.aspect.Aspect.{Aspect}
 use Rattle.sig_types.specs.declared.aspect.Aspect.TheVariants.{Red, RedAmber, Green, Amber}
 use Rattle.sig_types.specs.declared.aspect.Rule.{Rule}
-use Rattle.sig_guard.specs.declared.history.Turn.TheVariants as turn
 use Rattle.std.proofs.Common.{◌++◌, length}
-use Rattle.std.specs.Option.{unwrap_or}
 use Rattle.sig_guard.proofs.Pictures.{trace-append_old, trace-append_new}
 use Rattle.sig_guard.proofs.Agree.{ends_at-agree}
-use Rattle.sig_types.specs.Turns.{Picture, shown, History, trace, is_green, starts_at, turns_green_at, ends_at}
-use Rattle.sig_types.specs.Words.{last_below}
-use Rattle.sig_guard.specs.TurnKinds.{turned_at}
+use Rattle.sig_types.specs.Turns.{Picture, shown, History, trace, is_red, is_green, starts_at, turns_green_at, ends_at}
+use Rattle.sig_types.specs.Words.{last_below, least_below}
 use Rattle.sig_types.specs.Rules.{Rules}
 use Rattle.std.proofs.Common.{is_some, nat_lt, ◌&&◌, inl, inr}
-use Rattle.std.proofs.lemmas.Bool.{cases_eq, cases_lt, both_ways, and_from, ltb-false, le-ltb}
-use Rattle.sig_types.proofs.LastBelow.{IsLast, last_below-some, last_below-at, last_below-none, last_below-never}
-use Rattle.sig_guard.specs.Step.{is_uncleared, is_due, natural_after, is_short_green, end_breach, first_breach, when}
+use Rattle.std.proofs.lemmas.Bool.{cases_eq, cases_lt, both_ways, and_from, and_left, and_right, ltb-false, le-ltb}
+use Rattle.sig_types.proofs.LastBelow.{IsLast, last_below-some, last_below-at, last_below-never}
+use Rattle.std.proofs.Common.{List, is_none, slice_set, add-one}
+use Rattle.sig_types.specs.declared.numbers.TurnRefusal.{TurnRefusal}
+use Rattle.sig_guard.specs.declared.turn.Breach.{Breach}
+use Rattle.sig_guard.specs.Step.{started, ended, is_uncleared, is_in_conflict, is_due, natural, natural_after, is_short_green, end_breach, start_breach, first_breach, when, wants_end, wants_start, ends_to, starts_to, listed, refusal}
 
-pub natural_red_amber : (ra am : ℕ) (a : ℕ → Aspect) (n m : ℕ) (b : Bool) (o : Option ℕ) → n ≡ suc m → a m ≡ RedAmber →
-    o ≡ last_below (turned_at turn.Start a) n → is_due o ra n ≡ b → (if b then Green else RedAmber) ≡ natural_after ra am a m
-natural_red_amber ra am a n m b o n_is was last due =
-    let last' : o ≡ last_below (starts_at a) (suc m) = rw n_is at last in
-    let due' : is_due o ra (suc m) ≡ b = rw n_is at due in
-    rw (was, ← last', due') refl
+pub natural_red_amber : (ra am : ℕ) (a : ℕ → Aspect) (n m : ℕ) (b : Bool) (s : ℕ) → n ≡ suc m → a m ≡ RedAmber →
+    last_below (starts_at a) (suc m) ≡ Some s → is_due (Some s) ra n ≡ b → (if b then Green else RedAmber) ≡ natural_after ra am a m
+natural_red_amber ra am a n m b s n_is was last due =
+    let due' : is_due (Some s) ra (suc m) ≡ b = rw n_is at due in
+    rw (was, last, due') refl
 
-pub natural_amber : (ra am : ℕ) (a : ℕ → Aspect) (n m : ℕ) (b : Bool) (o : Option ℕ) → n ≡ suc m → a m ≡ Amber →
-    o ≡ last_below (turned_at turn.End a) n → is_due o am n ≡ b → (if b then Red else Amber) ≡ natural_after ra am a m
-natural_amber ra am a n m b o n_is was last due =
-    let last' : o ≡ last_below (ends_at a) (suc m) = rw n_is at last in
-    let due' : is_due o am (suc m) ≡ b = rw n_is at due in
-    rw (was, ← last', due') refl
+pub natural_amber : (ra am : ℕ) (a : ℕ → Aspect) (n m : ℕ) (b : Bool) (s : ℕ) → n ≡ suc m → a m ≡ Amber →
+    last_below (ends_at a) (suc m) ≡ Some s → is_due (Some s) am n ≡ b → (if b then Red else Amber) ≡ natural_after ra am a m
+natural_amber ra am a n m b s n_is was last due =
+    let due' : is_due (Some s) am (suc m) ≡ b = rw n_is at due in
+    rw (was, last, due') refl
 
-pub end_breach_green : (r : Rules) (h : History) (g n m : ℕ) (b : Bool) (o : Option ℕ) → n ≡ suc m → trace h g m ≡ Green →
-    o ≡ last_below (turned_at turn.Green (trace h g)) n → is_short_green (r.least_green g) o n ≡ b → when b Rule.MinGreen ≡ end_breach r h m g
+-- of a group that is red or green by nature nothing changes
+pub natural_red : (ra am : ℕ) (a : ℕ → Aspect) (m : ℕ) → a m ≡ Red → Red ≡ natural_after ra am a m
+natural_red ra am a m was = rw was refl
+
+pub natural_green : (ra am : ℕ) (a : ℕ → Aspect) (m : ℕ) → a m ≡ Green → Green ≡ natural_after ra am a m
+natural_green ra am a m was = rw was refl
+
+pub end_breach_green : (r : Rules) (h : History) (g n m : ℕ) (b : Bool) (s : ℕ) → n ≡ suc m → trace h g m ≡ Green →
+    last_below (turns_green_at (trace h g)) (suc m) ≡ Some s → is_short_green (r.least_green g) (Some s) n ≡ b → when b Rule.MinGreen ≡ end_breach r h m g
 unfolding end_breach
-end_breach_green r h g n m b o n_is was last short =
-    let last' : o ≡ last_below (turns_green_at (trace h g)) (suc m) = rw n_is at last in
-    let short' : is_short_green (r.least_green g) o (suc m) ≡ b = rw n_is at short in
-    rw (was, ← last', short') (two b)
+end_breach_green r h g n m b s n_is was last short =
+    let short' : is_short_green (r.least_green g) (Some s) (suc m) ≡ b = rw n_is at short in
+    rw (was, last, short') (two b)
   where
     two : (b : Bool) → when b Rule.MinGreen ≡ first_breach (when b Rule.MinGreen ∷ [])
     two true = refl
@@ -93,11 +97,93 @@ last_end_before h p i m b len none last =
     agree : (j : ℕ) → j < suc m → ends_at (trace h i) j ≡ ends_at (trace (h ++ p ∷ []) i) j
     agree j lt = ends_at-agree (suc m) _ _ (trace-append_old h p i (suc m) len) j lt
 
--- every group has an end
-pub some_end : (a : ℕ → Aspect) (m : ℕ) → last_below (ends_at a) (suc m) ≡ None → ⊥
-some_end a m none = both_ways (ends_at a 0) (last_below-none (ends_at a) (suc m) none 0 (omega arith)) refl
+-- the rules that a turn breaks, one after the other
+pub end_breach_off : (r : Rules) (h : History) (g m : ℕ) → is_green (trace h g m) ≡ false → Some (record { rule = Rule.Sequence; other = None }) ≡ end_breach r h m g
+unfolding end_breach
+end_breach_off r h g m off = rw off refl
 
-pub last_end_or : (h : History) (p : Picture) (i m : ℕ) (o : Option ℕ) → length h ≡ suc m → (is_green (trace h i m) && not (is_green (shown p i))) ≡ false →
-    o ≡ last_below (ends_at (trace h i)) (suc m) → last_below (ends_at (trace (h ++ p ∷ []) i)) (suc (suc m)) ≡ Some (unwrap_or o 0)
-last_end_or h p i m None len none last = absurd (some_end (trace h i) m (sym last))
-last_end_or h p i m (Some b) len none last = last_end_before h p i m b len none (sym last)
+pub start_breach_off : (r : Rules) (h : History) (p : Picture) (g m : ℕ) → is_red (trace h g m) ≡ false →
+    Some (record { rule = Rule.Sequence; other = None }) ≡ start_breach r h m p g
+unfolding start_breach
+start_breach_off r h p g m off = rw off refl
+
+pub start_breach_conflict : (r : Rules) (h : History) (p : Picture) (g m i : ℕ) → is_red (trace h g m) ≡ true →
+    least_below (λ j. is_in_conflict r p g j) r.count ≡ Some i → Some (record { rule = Rule.Conflict; other = Some i }) ≡ start_breach r h m p g
+unfolding start_breach
+start_breach_conflict r h p g m i red some = rw (red, some) refl
+
+pub start_breach_uncleared : (r : Rules) (h : History) (p : Picture) (g m i : ℕ) → is_red (trace h g m) ≡ true →
+    least_below (λ j. is_in_conflict r p g j) r.count ≡ None →
+    least_below (λ j. is_uncleared (r.between j g) (r.red_amber g) (suc m) (trace (h ++ p ∷ []) j)) r.count ≡ Some i →
+    Some (record { rule = Rule.Intergreen; other = Some i }) ≡ start_breach r h m p g
+unfolding start_breach
+start_breach_uncleared r h p g m i red none some = rw (red, none, some) refl
+
+pub start_breach_none : (r : Rules) (h : History) (p : Picture) (g m : ℕ) → is_red (trace h g m) ≡ true →
+    least_below (λ j. is_in_conflict r p g j) r.count ≡ None →
+    least_below (λ j. is_uncleared (r.between j g) (r.red_amber g) (suc m) (trace (h ++ p ∷ []) j)) r.count ≡ None →
+    None ≡ start_breach r h m p g
+unfolding start_breach
+start_breach_none r h p g m red none no_end = rw (red, none, no_end) refl
+
+-- one group more
+pub ends_obeyed : (r : Rules) (h : History) (m : ℕ) (w : List Bool) (g : ℕ) (n p : Picture) → n ≡ natural r h m → p ≡ ends_to r h m w g → wants_end n w g ≡ true →
+    end_breach r h m g ≡ None → slice_set p g (ended (r.amber g)) ≡ ends_to r h m w (g + 1)
+ends_obeyed r h m w g n p nat so_far wants none =
+    let b : (wants_end (natural r h m) w g && is_none (end_breach r h m g)) ≡ true =
+    and_from _ _ (ap (λ (q : Picture). wants_end q w g) (sym nat) ∙ wants) (ap is_none none) in
+    ap (λ (q : Picture). slice_set q g (ended (r.amber g))) so_far
+    ∙ sym (ap (λ (c : Bool). if c then slice_set (ends_to r h m w g) g (ended (r.amber g)) else ends_to r h m w g) b)
+    ∙ sym (ap (λ (k : ℕ). ends_to r h m w k) (add-one g))
+
+pub ends_left : (r : Rules) (h : History) (m : ℕ) (w : List Bool) (g : ℕ) (p : Picture) → p ≡ ends_to r h m w g →
+    (wants_end (natural r h m) w g && is_none (end_breach r h m g)) ≡ false → p ≡ ends_to r h m w (g + 1)
+ends_left r h m w g p so_far b =
+    so_far ∙ sym (ap (λ (c : Bool). if c then slice_set (ends_to r h m w g) g (ended (r.amber g)) else ends_to r h m w g) b)
+    ∙ sym (ap (λ (k : ℕ). ends_to r h m w k) (add-one g))
+
+pub ends_refused : (r : Rules) (h : History) (m : ℕ) (w : List Bool) (g : ℕ) (p : Picture) (breach : Breach) → p ≡ ends_to r h m w g →
+    end_breach r h m g ≡ Some breach → p ≡ ends_to r h m w (g + 1)
+ends_refused r h m w g p breach so_far some = ends_left r h m w g p so_far (and_right _ _ (ap is_none some))
+
+pub ends_unwanted : (r : Rules) (h : History) (m : ℕ) (w : List Bool) (g : ℕ) (n p : Picture) → n ≡ natural r h m → p ≡ ends_to r h m w g → wants_end n w g ≡ false →
+    p ≡ ends_to r h m w (g + 1)
+ends_unwanted r h m w g n p nat so_far wants = ends_left r h m w g p so_far (and_left _ _ (ap (λ (q : Picture). wants_end q w g) (sym nat) ∙ wants))
+
+pub starts_obeyed : (r : Rules) (h : History) (m : ℕ) (w : List Bool) (g : ℕ) (n p : Picture) → n ≡ natural r h m → p ≡ starts_to r h m w g → wants_start n w g ≡ true →
+    start_breach r h m p g ≡ None → slice_set p g (started (r.red_amber g)) ≡ starts_to r h m w (g + 1)
+starts_obeyed r h m w g n p nat so_far wants none =
+    let b : (wants_start (natural r h m) w g && is_none (start_breach r h m (starts_to r h m w g) g)) ≡ true =
+    and_from _ _ (ap (λ (q : Picture). wants_start q w g) (sym nat) ∙ wants) (ap is_none (ap (λ (q : Picture). start_breach r h m q g) (sym so_far) ∙ none)) in
+    ap (λ (q : Picture). slice_set q g (started (r.red_amber g))) so_far
+    ∙ sym (ap (λ (c : Bool). if c then slice_set (starts_to r h m w g) g (started (r.red_amber g)) else starts_to r h m w g) b)
+    ∙ sym (ap (λ (k : ℕ). starts_to r h m w k) (add-one g))
+
+pub starts_left : (r : Rules) (h : History) (m : ℕ) (w : List Bool) (g : ℕ) (p : Picture) → p ≡ starts_to r h m w g →
+    (wants_start (natural r h m) w g && is_none (start_breach r h m (starts_to r h m w g) g)) ≡ false → p ≡ starts_to r h m w (g + 1)
+starts_left r h m w g p so_far b =
+    so_far ∙ sym (ap (λ (c : Bool). if c then slice_set (starts_to r h m w g) g (started (r.red_amber g)) else starts_to r h m w g) b)
+    ∙ sym (ap (λ (k : ℕ). starts_to r h m w k) (add-one g))
+
+pub starts_refused : (r : Rules) (h : History) (m : ℕ) (w : List Bool) (g : ℕ) (p : Picture) (breach : Breach) → p ≡ starts_to r h m w g →
+    start_breach r h m p g ≡ Some breach → p ≡ starts_to r h m w (g + 1)
+starts_refused r h m w g p breach so_far some =
+    starts_left r h m w g p so_far (and_right _ _ (ap is_none (ap (λ (q : Picture). start_breach r h m q g) (sym so_far) ∙ some)))
+
+pub starts_unwanted : (r : Rules) (h : History) (m : ℕ) (w : List Bool) (g : ℕ) (n p : Picture) → n ≡ natural r h m → p ≡ starts_to r h m w g → wants_start n w g ≡ false →
+    p ≡ starts_to r h m w (g + 1)
+starts_unwanted r h m w g n p nat so_far wants = starts_left r h m w g p so_far (and_left _ _ (ap (λ (q : Picture). wants_start q w g) (sym nat) ∙ wants))
+
+-- and what is refused of it
+pub listed_none : (b : Bool) (g : ℕ) (o : Option Breach) (xs ys : List TurnRefusal) → xs ≡ ys → o ≡ None → xs ≡ listed b g o ys
+listed_none b g o xs ys same none = same ∙ sym (ap (λ (p : Option Breach). listed b g p ys) none)
+
+pub listed_off : (b : Bool) (g : ℕ) (o : Option Breach) (xs ys : List TurnRefusal) → xs ≡ ys → b ≡ false → xs ≡ listed b g o ys
+listed_off b g None xs ys same off = same
+listed_off b g (Some x) xs ys same off = same ∙ sym (ap (λ (c : Bool). if c then ys ++ refusal g x ∷ [] else ys) off)
+
+pub listed_one : (b : Bool) (g : ℕ) (o : Option Breach) (breach : Breach) (xs ys : List TurnRefusal) → xs ≡ ys → b ≡ true → o ≡ Some breach →
+    xs ++ refusal g breach ∷ [] ≡ listed b g o ys
+listed_one b g o breach xs ys same on some =
+    ap (λ l. l ++ refusal g breach ∷ []) same ∙ sym (ap (λ (c : Bool). if c then ys ++ refusal g breach ∷ [] else ys) on)
+    ∙ sym (ap (λ (p : Option Breach). listed b g p ys) some)

@@ -10,16 +10,20 @@ use Rattle.sig_types.specs.Words.{least_below}
 use Rattle.sig_types.specs.Rules.{Rules}
 use Rattle.sig_guard.specs.declared.turn.Breach.{Breach}
 use Rattle.sig_types.specs.Recorded.{IsTurn}
+use Rattle.sig_guard.specs.Count.{many}
 use Rattle.sig_guard.specs.Step.{first_breach, when, with_group, end_breach, start_breach, natural, starts_to, wants_end, wants_start, refusal, listed, refused_ends_to, refused_to, guard_refused}
 use Rattle.sig_types.proofs.LastBelow.{least_below-some}
 use Rattle.sig_guard.proofs.RefusedBreaks.{end_cases, StartCase, not_red, conflicting, uncleared, start_cases}
 
--- how many numbers below n pass the test
-abbrev many : (ℕ → Bool) → ℕ → ℕ
-many p zero = 0
-many p (suc n) = if p n then suc (many p n) else many p n
+pub many_le : (p : ℕ → Bool) (n : ℕ) → many p n ≤ n
+many_le p zero = omega arith
+many_le p (suc n) = go (p n) (many_le p n)
+  where
+    go : (b : Bool) → many p n ≤ n → (if b then suc (many p n) else many p n) ≤ suc n
+    go true le = omega (arith, le)
+    go false le = omega (arith, le)
 
-many_apart : (p q : ℕ → Bool) → ((j : ℕ) → q j ≡ true → p j ≡ false) → (n : ℕ) → many p n + many q n ≤ n
+pub many_apart : (p q : ℕ → Bool) → ((j : ℕ) → q j ≡ true → p j ≡ false) → (n : ℕ) → many p n + many q n ≤ n
 many_apart p q apart zero = omega arith
 many_apart p q apart (suc n) = go (p n) (q n) (apart n) (many_apart p q apart n)
   where
@@ -40,7 +44,7 @@ many_least q k (suc n) le = elim (cases_eq k (suc n)) [
     go true le = omega (arith, le)
     go false le = le
 
-many_more : (q : ℕ → Bool) (k n : ℕ) → k < n → q k ≡ true → many q k < many q n
+pub many_more : (q : ℕ → Bool) (k n : ℕ) → k < n → q k ≡ true → many q k < many q n
 many_more q k n lt here =
     let next : many q (suc k) ≤ many q n = many_least q (suc k) n (omega arith) in
     let more : suc (many q k) ≤ many q n = rw here at next in
@@ -53,7 +57,7 @@ listed_length false g None xs = omega arith
 listed_length true g (Some breach) xs = omega (arith, length-append xs (refusal g breach ∷ []))
 listed_length false g (Some breach) xs = omega arith
 
-grown : (b : Bool) (x n m : ℕ) → x ≤ (if b then suc n else n) → n ≤ m → x ≤ (if b then suc m else m)
+pub grown : (b : Bool) (x n m : ℕ) → x ≤ (if b then suc n else n) → n ≤ m → x ≤ (if b then suc m else m)
 grown true x n m h le = omega arith
 grown false x n m h le = omega arith
 
@@ -77,7 +81,7 @@ starts_many r h m w (suc k) = go (wants_start (natural r h m) w k) (starts_many 
     go true old h = omega (arith, old, h)
     go false old h = omega (arith, old, h)
 
-not_both : (on wish : Bool) → (not on && wish) ≡ true → (on && not wish) ≡ false
+pub not_both : (on wish : Bool) → (not on && wish) ≡ true → (on && not wish) ≡ false
 not_both true wish h = absurd (cc)
 not_both false wish h = refl
 
@@ -103,14 +107,14 @@ starts_fit r h m w g lt wants =
     )
 
 -- each refused turn names groups below the count, and the other group where its rule speaks of two
-end_is_turn : (n g : ℕ) (breach : Breach) (b c : Bool) → g < n →
+pub end_is_turn : (n g : ℕ) (breach : Breach) (b c : Bool) → g < n →
     first_breach (when b rule.Sequence ∷ when c rule.MinGreen ∷ []) ≡ Some breach → IsTurn n (refusal g breach)
 end_is_turn n g breach b c lt h = elim (end_cases b c breach h) [
   | inl e ↦ rw e.1 (record { group = lt; other = λ i e. absurd (cc); named = λ e. absurd (elim e [ inl x ↦ cc | inr x ↦ cc ]) })
   | inr e ↦ rw e.2 (record { group = lt; other = λ i e. absurd (cc); named = λ e. absurd (elim e [ inl x ↦ cc | inr x ↦ cc ]) })
 ]
 
-start_is_turn : (n g : ℕ) (breach : Breach) (b : Bool) (p q : ℕ → Bool) → g < n →
+pub start_is_turn : (n g : ℕ) (breach : Breach) (b : Bool) (p q : ℕ → Bool) → g < n →
     first_breach (when b rule.Sequence ∷ with_group (least_below p n) rule.Conflict ∷ with_group (least_below q n) rule.Intergreen ∷ []) ≡ Some breach →
     IsTurn n (refusal g breach)
 start_is_turn n g breach b p q lt h = go (start_cases b (least_below p n) (least_below q n) breach h)

@@ -1,77 +1,81 @@
-// The guard over a kept history.
-ghost use Rattle.std.specs.Prelude.{◌≡◌, ℕ, suc, All, ◌+◌, ◌-◌, ◌<◌, ◌≤◌, [], ◌∷◌, ◌++◌, length, replicate, slice_index_or, IfOk, IfSome, OnOk, OnErr};
-ghost use Rattle.sig_types.specs.Turns.{History, trace, is_green, is_red};
+// The guard, over ages.
+ghost use Rattle.std.specs.Prelude.{◌≡◌, ℕ, suc, All, ◌+◌, ◌-◌, ◌<◌, ◌≤◌, [], ◌∷◌, ◌++◌, length, replicate, slice_index_or, true, if◌then◌else◌, IfOk, IfSome, Some};
+ghost use Rattle.sig_types.specs.Turns.{History, shown, trace, is_green, is_red};
 ghost use Rattle.sig_types.specs.Words.{last_below, least_below, run_to};
 ghost use Rattle.sig_types.specs.Recorded.{IsTurn};
 ghost use Rattle.sig_tables.specs.Pairs.{ArePairs};
+ghost use Rattle.sig_guard.specs.Ages.{age_at};
 ghost use Rattle.sig_guard.specs.Tables.{rules_of};
 ghost use Rattle.sig_guard.specs.Step.{guard_picture, guard_refused};
 
-use crate::history::{Turn, last_turn, run, shows, turns};
-use crate::turn::{Breach, ended, is_due, is_on, is_short_green, refusal, started};
+use crate::ages::{GroupAge, age_all, first_ages};
+use crate::turn::{Breach, ended, ends, is_due, is_on, is_short_green, refusal, started};
 use sig_tables::{Intergreens, Times};
 use sig_types::{Aspect, GroupNo, Memory, Picture, Rule, TurnRefusals, Wishes};
 use std::alloc::Global;
 
-/// The guard of a junction, after some second.
+/// The guard of a junction, after some second: what each group shows, for how long, and when it ended last.
 #[derive(Drop)]
 pub struct Guard {
     times: Times,
     intergreens: Intergreens,
-    history: Vec<Picture>,
+    picture: Picture,
+    ages: Vec<GroupAge>,
+    seconds: u32,
     ghost pairs: { ArePairs intergreens },
     ghost one_plan: { intergreens.count ≡ length times },
     ghost few_groups: { length times ≤ 64 },
-    ghost begun: { 1 ≤ length history.items },
-    ghost few: { length history.items ≤ 604802 },
-    ghost sizes: { (t : ℕ) → t < length history.items → length (slice_index_or history.items t []) ≡ length times },
+    ghost pictured: { length picture ≡ length times },
+    ghost aged: { length ages.items ≡ length times },
+    ghost few: { seconds ≤ 604801 },
+    ghost ages_fit: { (g : ℕ) → g < length ages.items → (age_at ages.items g).age ≤ seconds + 1 },
+    ghost ends_fit: { (g : ℕ) → g < length ages.items → (age_at ages.items g).last_end ≤ seconds },
 }
 
 impl Guard {
-    ghost use Rattle.sig_guard.specs.Stands.{StandsFor, rules, seconds_made};
+    ghost use Rattle.sig_guard.specs.Stands.{StandsFor, rules, tables, seconds_made};
 
     /// A guard at second 0, in which every group is red. Both tables are of one plan.
-    #[tactic(auto, unfolding(crate::specs::Stands::StandsFor, crate::specs::Stands::rules, crate::specs::Stands::seconds_made))]
+    #[tactic(auto, unfolding(crate::specs::Stands::StandsFor, crate::specs::Stands::rules, crate::specs::Stands::tables, crate::specs::Stands::seconds_made))]
     pub fn new(alloc: Global, times: Times, intergreens: Intergreens) -> Result<Guard, Memory>
         requires one_plan { intergreens.count ≡ length times }
+        ensures tables { IfOk result (λ guard. tables guard ≡ (times, intergreens)) }
         ensures rules { IfOk result (λ guard. rules guard ≡ rules_of times intergreens) }
         ensures seconds { IfOk result (λ guard. seconds_made guard ≡ 0) }
         ensures history { IfOk result (λ guard. StandsFor guard (replicate (rules_of times intergreens).count Aspect.Red ∷ [])) }
     {
-        let mut history = Vec::new(alloc);
-        let red = Picture::all_red(intergreens.groups());
-        match history.push(red) {
-            Ok(()) => Ok(Guard {
-                times,
-                intergreens,
-                history,
-            }),
-            Err(_) => Err(Memory),
-        }
+        let groups = intergreens.groups();
+        let ages = first_ages(alloc, groups)?;
+        Ok(Guard {
+            times,
+            intergreens,
+            picture: Picture::all_red(groups),
+            ages,
+            seconds: 0,
+        })
     }
 
-    /// Makes the next second, and leaves in `out` exactly its refused turns. `Memory` leaves the guard as before.
-    #[tactic(auto, unfolding(crate::specs::Stands::StandsFor, crate::specs::Stands::rules, crate::specs::Stands::seconds_made, crate::specs::Step::guard_picture, crate::specs::Step::guard_refused))]
-    pub fn step(&mut self, wishes: &Wishes, out: &mut TurnRefusals) -> Result<(), Memory>
+    /// Makes the next second, and leaves in `out` exactly its refused turns. It takes no memory.
+    #[tactic(auto, unfolding(crate::specs::Stands::StandsFor, crate::specs::Stands::rules, crate::specs::Stands::tables, crate::specs::Stands::seconds_made, crate::specs::Step::guard_picture, crate::specs::Step::guard_refused))]
+    pub fn step(&mut self, wishes: &Wishes, out: &mut TurnRefusals)
         requires wished { length wishes.now ≡ (rules self.old).count }
         requires few { seconds_made self.old < 604801 }
+        ensures tables { tables self.new ≡ tables self.old }
         ensures rules { rules self.new ≡ rules self.old }
-        ensures seconds { OnOk result (seconds_made self.new ≡ seconds_made self.old + 1) }
-        ensures history { OnOk result ((h : History) → StandsFor self.old h → StandsFor self.new (h ++ guard_picture (rules self.old) h wishes.now ∷ [])) }
-        ensures refused { OnOk result ((h : History) → StandsFor self.old h → out.new ≡ guard_refused (rules self.old) h wishes.now) }
-        ensures turns { OnOk result (All (IsTurn (rules self.old).count) out.new) }
-        ensures unmade { OnErr result (seconds_made self.new ≡ seconds_made self.old) }
-        ensures unchanged { OnErr result ((h : History) → StandsFor self.old h → StandsFor self.new h) }
+        ensures seconds { seconds_made self.new ≡ seconds_made self.old + 1 }
+        ensures history { (h : History) → StandsFor self.old h → StandsFor self.new (h ++ guard_picture (rules self.old) h wishes.now ∷ []) }
+        ensures refused { (h : History) → StandsFor self.old h → out.new ≡ guard_refused (rules self.old) h wishes.now }
+        ensures turns { All (IsTurn (rules self.old).count) out.new }
     {
         out.clear();
         let natural = self.natural();
         let mut picture = natural.copy();
         self.show_ends(&natural, wishes, &mut picture, out);
         self.show_starts(&natural, wishes, &mut picture, out);
-        match self.history.push(picture) {
-            Ok(()) => Ok(()),
-            Err(_) => Err(Memory),
-        }
+        let now = self.now();
+        age_all(&mut self.ages, &self.picture, &picture, now);
+        self.picture = picture;
+        self.seconds = now;
     }
 
     /// The picture of the last second.
@@ -80,7 +84,7 @@ impl Guard {
         ensures history { (h : History) → StandsFor self.now h → result.now ≡ slice_index_or h (length h - 1) [] }
         ensures size { length result.now ≡ (rules self.now).count }
     {
-        &self.history[self.history.len() - 1]
+        &self.picture
     }
 
     /// The number of unbroken green seconds of a group up to the last second; 0 where it is not green then.
@@ -90,7 +94,11 @@ impl Guard {
         ensures history { (h : History) → StandsFor self.now h → result ≡ run_to (λ t. is_green (trace h g.0 t)) (length h - 1) }
         ensures few { result ≤ 604802 }
     {
-        run(&self.history, g.0, Aspect::Green) as u32
+        if self.aspect(g.0) == Aspect::Green {
+            self.age(g.0)
+        } else {
+            0
+        }
     }
 
     /// The number of unbroken red seconds of a group up to the last second, second 0 included; 0 where it is not red
@@ -101,51 +109,75 @@ impl Guard {
         ensures history { (h : History) → StandsFor self.now h → result ≡ run_to (λ t. is_red (trace h g.0 t)) (length h - 1) }
         ensures few { result ≤ 604802 }
     {
-        run(&self.history, g.0, Aspect::Red) as u32
+        if self.aspect(g.0) == Aspect::Red {
+            self.age(g.0)
+        } else {
+            0
+        }
     }
 }
 
 // The parts of a step.
 impl Guard {
     ghost use Rattle.sig_types.specs.Turns.{ends_at};
-    ghost use Rattle.sig_guard.specs.Stands.{kept_rules, kept, last_second};
-    ghost use Rattle.sig_guard.specs.TurnKinds.{turned_at};
-    ghost use Rattle.sig_guard.specs.Step.{natural_after, end_breach, start_breach, is_in_conflict, is_uncleared, natural as natural_spec, natural_to, ends_to, starts_to, refused_ends_to, refused_to};
+    ghost use Rattle.sig_guard.specs.Ages.{HasAge};
+    ghost use Rattle.sig_guard.specs.Count.{many};
+    ghost use Rattle.sig_guard.specs.Stands.{kept_rules, HasPast};
+    ghost use Rattle.sig_guard.specs.Step.{natural_after, end_breach, start_breach, is_in_conflict, is_uncleared, natural as natural_spec, natural_to, ends_to, starts_to, refused_ends_to, refused_to, refusal as refusal_spec, wants_end, wants_start};
 
     /// The second that comes next.
-    fn now(&self) -> usize
-        ensures now { result ≡ suc (last_second self.now) }
+    fn now(&self) -> u32
+        ensures now { result ≡ self.now.seconds + 1 }
         ensures few { result ≤ 604802 }
     {
-        self.history.len()
+        self.seconds + 1
     }
 
     /// What the group showed in the last second.
     fn aspect(&self, g: u8) -> Aspect
         requires { g < (kept_rules self.now).count }
-        ensures { result ≡ trace (kept self.now) g (last_second self.now) }
+        ensures { result ≡ shown self.now.picture g }
     {
-        shows(&self.history, g, self.history.len() - 1)
+        self.picture.get(g)
     }
 
-    /// The last second in which the group made the turn.
-    fn last(&self, g: u8, turn: Turn) -> Option<usize>
+    /// For how long the group shows that.
+    fn age(&self, g: u8) -> u32
         requires { g < (kept_rules self.now).count }
-        ensures last { result ≡ last_below (turned_at turn (trace (kept self.now) g)) (suc (last_second self.now)) }
-        ensures within { IfSome result (λ t. t < 604802) }
+        ensures age { result ≡ (age_at self.now.ages.items g).age }
+        ensures few { result ≤ self.now.seconds + 1 }
+        ensures limit { result ≤ 604802 }
     {
-        last_turn(&self.history, g, turn)
+        self.ages[g as usize].age
+    }
+
+    /// The second since which it does.
+    fn since(&self, g: u8) -> u32
+        requires { g < (kept_rules self.now).count }
+        ensures since { result ≡ self.now.seconds + 1 - (age_at self.now.ages.items g).age }
+        ensures few { result ≤ 604802 }
+    {
+        self.now() - self.age(g)
+    }
+
+    /// The second of the group's last end.
+    fn last_ended(&self, g: u8) -> u32
+        requires { g < (kept_rules self.now).count }
+        ensures last { result ≡ (age_at self.now.ages.items g).last_end }
+        ensures few { result ≤ 604801 }
+    {
+        self.ages[g as usize].last_end
     }
 
     /// What the group shows in the next second by nature.
     fn natural_aspect(&self, g: u8) -> Aspect
         requires { g < (kept_rules self.now).count }
-        ensures { result ≡ natural_after ((kept_rules self.now).red_amber g) ((kept_rules self.now).amber g) (trace (kept self.now) g) (last_second self.now) }
+        ensures { (h : History) → HasPast self.now h → result ≡ natural_after ((kept_rules self.now).red_amber g) ((kept_rules self.now).amber g) (trace h g) (length h - 1) }
     {
         match self.aspect(g) {
             Aspect::RedAmber => {
                 let red_amber = self.times.red_amber(GroupNo(g));
-                if is_due(self.last(g, Turn::Start), red_amber, self.now()) {
+                if is_due(self.since(g), red_amber, self.now()) {
                     Aspect::Green
                 } else {
                     Aspect::RedAmber
@@ -153,7 +185,7 @@ impl Guard {
             }
             Aspect::Amber => {
                 let amber = self.times.amber(GroupNo(g));
-                if is_due(self.last(g, Turn::End), amber, self.now()) {
+                if is_due(self.last_ended(g), amber, self.now()) {
                     Aspect::Red
                 } else {
                     Aspect::Amber
@@ -164,10 +196,10 @@ impl Guard {
     }
 
     /// The first rule that an end of the group breaks.
-    #[tactic(auto, unfolding(crate::specs::Step::end_breach))]
     fn end_breach(&self, g: u8) -> Option<Breach>
         requires { g < (kept_rules self.now).count }
-        ensures { result ≡ end_breach (kept_rules self.now) (kept self.now) (last_second self.now) g }
+        ensures breach { (h : History) → HasPast self.now h → result ≡ end_breach (kept_rules self.now) h (length h - 1) g }
+        ensures turn { IfSome result (λ b. IsTurn (kept_rules self.now).count (refusal_spec g b)) }
     {
         if self.aspect(g) != Aspect::Green {
             return Some(Breach {
@@ -175,11 +207,7 @@ impl Guard {
                 other: None,
             });
         }
-        if is_short_green(
-            self.times.min(GroupNo(g)),
-            self.last(g, Turn::Green),
-            self.now(),
-        ) {
+        if is_short_green(self.times.min(GroupNo(g)), self.since(g), self.now()) {
             return Some(Breach {
                 rule: Rule::MinGreen,
                 other: None,
@@ -189,16 +217,16 @@ impl Guard {
     }
 
     /// The second of the group's last end, where the next second shows the picture.
-    fn last_end(&self, picture: &Picture, i: u8) -> usize
+    fn last_end(&self, picture: &Picture, i: u8) -> u32
         requires group { i < (kept_rules self.now).count }
         requires size { length picture.now ≡ (kept_rules self.now).count }
-        ensures last { last_below (ends_at (trace (kept self.now ++ picture.now ∷ []) i)) (suc (suc (last_second self.now))) ≡ Some result }
+        ensures last { (h : History) → HasPast self.now h → last_below (ends_at (trace (h ++ picture.now ∷ []) i)) (suc (suc (length h - 1))) ≡ Some result }
         ensures few { result ≤ 604802 }
     {
-        if turns(Turn::End, self.aspect(i), picture.get(i)) {
+        if ends(self.aspect(i), picture.get(i)) {
             return self.now();
         }
-        self.last(i, Turn::End).unwrap_or(0)
+        self.last_ended(i)
     }
 
     /// Whether an end of `i` lies too close before a green of `g` that starts in the next second.
@@ -206,12 +234,12 @@ impl Guard {
         requires first { i < (kept_rules self.now).count }
         requires second { g < (kept_rules self.now).count }
         requires size { length picture.now ≡ (kept_rules self.now).count }
-        ensures { result ≡ is_uncleared ((kept_rules self.now).between i g) ((kept_rules self.now).red_amber g) (suc (last_second self.now)) (trace (kept self.now ++ picture.now ∷ []) i) }
+        ensures { (h : History) → HasPast self.now h → result ≡ is_uncleared ((kept_rules self.now).between i g) ((kept_rules self.now).red_amber g) (suc (length h - 1)) (trace (h ++ picture.now ∷ []) i) }
     {
         match self.intergreens.between(GroupNo(i), GroupNo(g)) {
             Some(z) => {
-                let green = self.now() + self.times.red_amber(GroupNo(g)) as usize;
-                green < self.last_end(picture, i) + z as usize
+                let green = self.now() + u32::from(self.times.red_amber(GroupNo(g)));
+                green < self.last_end(picture, i) + u32::from(z)
             }
             None => false,
         }
@@ -221,7 +249,8 @@ impl Guard {
     fn conflict_with(&self, picture: &Picture, g: u8) -> Option<u8>
         requires group { g < (kept_rules self.now).count }
         requires size { length picture.now ≡ (kept_rules self.now).count }
-        ensures { result ≡ least_below (λ i. is_in_conflict (kept_rules self.now) picture.now g i) (kept_rules self.now).count }
+        ensures conflict { result ≡ least_below (λ i. is_in_conflict (kept_rules self.now) picture.now g i) (kept_rules self.now).count }
+        ensures inside { IfSome result (λ i. i < (kept_rules self.now).count) }
     {
         for i in 0..self.times.groups() {
             if self.intergreens.between(GroupNo(i), GroupNo(g)).is_some() && is_on(picture.get(i)) {
@@ -235,7 +264,8 @@ impl Guard {
     fn uncleared_by(&self, picture: &Picture, g: u8) -> Option<u8>
         requires group { g < (kept_rules self.now).count }
         requires size { length picture.now ≡ (kept_rules self.now).count }
-        ensures { result ≡ least_below (λ i. is_uncleared ((kept_rules self.now).between i g) ((kept_rules self.now).red_amber g) (suc (last_second self.now)) (trace (kept self.now ++ picture.now ∷ []) i)) (kept_rules self.now).count }
+        ensures uncleared { (h : History) → HasPast self.now h → result ≡ least_below (λ i. is_uncleared ((kept_rules self.now).between i g) ((kept_rules self.now).red_amber g) (suc (length h - 1)) (trace (h ++ picture.now ∷ []) i)) (kept_rules self.now).count }
+        ensures inside { IfSome result (λ i. i < (kept_rules self.now).count) }
     {
         for i in 0..self.times.groups() {
             if self.is_uncleared(picture, g, i) {
@@ -246,11 +276,11 @@ impl Guard {
     }
 
     /// The first rule that a start of the group breaks, against the picture so far.
-    #[tactic(auto, unfolding(crate::specs::Step::start_breach))]
     fn start_breach(&self, picture: &Picture, g: u8) -> Option<Breach>
         requires group { g < (kept_rules self.now).count }
         requires size { length picture.now ≡ (kept_rules self.now).count }
-        ensures { result ≡ start_breach (kept_rules self.now) (kept self.now) (last_second self.now) picture.now g }
+        ensures breach { (h : History) → HasPast self.now h → result ≡ start_breach (kept_rules self.now) h (length h - 1) picture.now g }
+        ensures turn { IfSome result (λ b. IsTurn (kept_rules self.now).count (refusal_spec g b)) }
     {
         if self.aspect(g) != Aspect::Red {
             return Some(Breach {
@@ -275,14 +305,75 @@ impl Guard {
 
     /// What the next second shows by nature.
     fn natural(&self) -> Picture
-        ensures picture { result ≡ natural_spec (kept_rules self.now) (kept self.now) (last_second self.now) }
+        ensures picture { (h : History) → HasPast self.now h → result ≡ natural_spec (kept_rules self.now) h (length h - 1) }
         ensures size { length result ≡ (kept_rules self.now).count }
     {
-        let mut picture = self.history[self.history.len() - 1].copy();
+        let mut picture = self.picture.copy();
         for g in 0..self.times.groups() {
             picture.set(g, self.natural_aspect(g));
         }
         picture
+    }
+
+    /// Shows a wished end of the group, or notes it where it breaks a rule.
+    fn end_one(
+        &self,
+        natural: &Picture,
+        wishes: &Wishes,
+        picture: &mut Picture,
+        out: &mut TurnRefusals,
+        g: u8,
+    )
+        requires group { g < (kept_rules self.now).count }
+        requires wished { length wishes.now ≡ (kept_rules self.now).count }
+        requires natural_size { length natural.now ≡ (kept_rules self.now).count }
+        requires size { length picture.old ≡ (kept_rules self.now).count }
+        requires room { length out.old < 64 }
+        ensures picture { (h : History) → HasPast self.now h → natural.now ≡ natural_spec (kept_rules self.now) h (length h - 1) →
+            picture.old ≡ ends_to (kept_rules self.now) h (length h - 1) wishes.now g → picture.new ≡ ends_to (kept_rules self.now) h (length h - 1) wishes.now (g + 1) }
+        ensures size { length picture.new ≡ (kept_rules self.now).count }
+        ensures refused { (h : History) → HasPast self.now h → natural.now ≡ natural_spec (kept_rules self.now) h (length h - 1) →
+            out.old ≡ refused_ends_to (kept_rules self.now) h (length h - 1) wishes.now g → out.new ≡ refused_ends_to (kept_rules self.now) h (length h - 1) wishes.now (g + 1) }
+        ensures turns { All (IsTurn (kept_rules self.now).count) out.old → All (IsTurn (kept_rules self.now).count) out.new }
+        ensures count { length out.new ≤ (if wants_end natural.now wishes.now g then suc (length out.old) else length out.old) }
+    {
+        if is_on(natural.get(g)) && !wishes.get(g) {
+            match self.end_breach(g) {
+                None => picture.set(g, ended(self.times.amber(GroupNo(g)))),
+                Some(breach) => out.push(refusal(g, breach)),
+            }
+        }
+    }
+
+    /// Shows a wished start of the group, or notes it where it breaks a rule.
+    fn start_one(
+        &self,
+        natural: &Picture,
+        wishes: &Wishes,
+        picture: &mut Picture,
+        out: &mut TurnRefusals,
+        g: u8,
+    )
+        requires group { g < (kept_rules self.now).count }
+        requires wished { length wishes.now ≡ (kept_rules self.now).count }
+        requires natural_size { length natural.now ≡ (kept_rules self.now).count }
+        requires size { length picture.old ≡ (kept_rules self.now).count }
+        requires room { wants_start natural.now wishes.now g ≡ true → length out.old < 64 }
+        ensures picture { (h : History) → HasPast self.now h → natural.now ≡ natural_spec (kept_rules self.now) h (length h - 1) →
+            picture.old ≡ starts_to (kept_rules self.now) h (length h - 1) wishes.now g → picture.new ≡ starts_to (kept_rules self.now) h (length h - 1) wishes.now (g + 1) }
+        ensures size { length picture.new ≡ (kept_rules self.now).count }
+        ensures refused { (h : History) → HasPast self.now h → natural.now ≡ natural_spec (kept_rules self.now) h (length h - 1) →
+            picture.old ≡ starts_to (kept_rules self.now) h (length h - 1) wishes.now g →
+            out.old ≡ refused_to (kept_rules self.now) h (length h - 1) wishes.now g → out.new ≡ refused_to (kept_rules self.now) h (length h - 1) wishes.now (g + 1) }
+        ensures turns { All (IsTurn (kept_rules self.now).count) out.old → All (IsTurn (kept_rules self.now).count) out.new }
+        ensures count { length out.new ≤ (if wants_start natural.now wishes.now g then suc (length out.old) else length out.old) }
+    {
+        if !is_on(natural.get(g)) && wishes.get(g) {
+            match self.start_breach(picture, g) {
+                None => picture.set(g, started(self.times.red_amber(GroupNo(g)))),
+                Some(breach) => out.push(refusal(g, breach)),
+            }
+        }
     }
 
     /// Shows the wished ends that break no rule in the natural picture, and notes the others.
@@ -294,21 +385,18 @@ impl Guard {
         out: &mut TurnRefusals,
     )
         requires wished { length wishes.now ≡ (kept_rules self.now).count }
-        requires natural { natural.now ≡ natural_spec (kept_rules self.now) (kept self.now) (last_second self.now) }
+        requires natural { (h : History) → HasPast self.now h → natural.now ≡ natural_spec (kept_rules self.now) h (length h - 1) }
         requires size { length natural.now ≡ (kept_rules self.now).count }
         requires start { picture.old ≡ natural.now }
         requires none { out.old ≡ [] }
-        ensures picture { picture.new ≡ ends_to (kept_rules self.now) (kept self.now) (last_second self.now) wishes.now (kept_rules self.now).count }
+        ensures picture { (h : History) → HasPast self.now h → picture.new ≡ ends_to (kept_rules self.now) h (length h - 1) wishes.now (kept_rules self.now).count }
         ensures size { length picture.new ≡ (kept_rules self.now).count }
-        ensures refused { out.new ≡ refused_ends_to (kept_rules self.now) (kept self.now) (last_second self.now) wishes.now (kept_rules self.now).count }
+        ensures refused { (h : History) → HasPast self.now h → out.new ≡ refused_ends_to (kept_rules self.now) h (length h - 1) wishes.now (kept_rules self.now).count }
+        ensures turns { All (IsTurn (kept_rules self.now).count) out.new }
+        ensures count { length out.new ≤ many (wants_end natural.now wishes.now) (kept_rules self.now).count }
     {
         for g in 0..self.times.groups() {
-            if is_on(natural.get(g)) && !wishes.get(g) {
-                match self.end_breach(g) {
-                    None => picture.set(g, ended(self.times.amber(GroupNo(g)))),
-                    Some(breach) => out.push(refusal(g, breach)),
-                }
-            }
+            self.end_one(natural, wishes, picture, out, g);
         }
     }
 
@@ -321,22 +409,20 @@ impl Guard {
         out: &mut TurnRefusals,
     )
         requires wished { length wishes.now ≡ (kept_rules self.now).count }
-        requires natural { natural.now ≡ natural_spec (kept_rules self.now) (kept self.now) (last_second self.now) }
+        requires natural { (h : History) → HasPast self.now h → natural.now ≡ natural_spec (kept_rules self.now) h (length h - 1) }
         requires size { length natural.now ≡ (kept_rules self.now).count }
         requires start_size { length picture.old ≡ (kept_rules self.now).count }
-        requires start { picture.old ≡ ends_to (kept_rules self.now) (kept self.now) (last_second self.now) wishes.now (kept_rules self.now).count }
-        requires ends { out.old ≡ refused_ends_to (kept_rules self.now) (kept self.now) (last_second self.now) wishes.now (kept_rules self.now).count }
-        ensures picture { picture.new ≡ starts_to (kept_rules self.now) (kept self.now) (last_second self.now) wishes.now (kept_rules self.now).count }
+        requires start { (h : History) → HasPast self.now h → picture.old ≡ ends_to (kept_rules self.now) h (length h - 1) wishes.now (kept_rules self.now).count }
+        requires ends { (h : History) → HasPast self.now h → out.old ≡ refused_ends_to (kept_rules self.now) h (length h - 1) wishes.now (kept_rules self.now).count }
+        requires turns { All (IsTurn (kept_rules self.now).count) out.old }
+        requires count { length out.old ≤ many (wants_end natural.now wishes.now) (kept_rules self.now).count }
+        ensures picture { (h : History) → HasPast self.now h → picture.new ≡ starts_to (kept_rules self.now) h (length h - 1) wishes.now (kept_rules self.now).count }
         ensures size { length picture.new ≡ (kept_rules self.now).count }
-        ensures refused { out.new ≡ refused_to (kept_rules self.now) (kept self.now) (last_second self.now) wishes.now (kept_rules self.now).count }
+        ensures refused { (h : History) → HasPast self.now h → out.new ≡ refused_to (kept_rules self.now) h (length h - 1) wishes.now (kept_rules self.now).count }
+        ensures turns { All (IsTurn (kept_rules self.now).count) out.new }
     {
         for g in 0..self.times.groups() {
-            if !is_on(natural.get(g)) && wishes.get(g) {
-                match self.start_breach(picture, g) {
-                    None => picture.set(g, started(self.times.red_amber(GroupNo(g)))),
-                    Some(breach) => out.push(refusal(g, breach)),
-                }
-            }
+            self.start_one(natural, wishes, picture, out, g);
         }
     }
 }

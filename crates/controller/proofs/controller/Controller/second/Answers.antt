@@ -24,11 +24,11 @@ returns-clause-record c = λ past s.
     subst (λ l. StagesStand c.obey.new.stages me.plan (orders_after me.plan (next past) past.orders l) (next past)) c.deref.ensures.value (c.obey.ensures.stages past.orders (next past) stages) in
     let wishes : c.gather.new.wishes ≡ wishes_of me.plan (place_at me.plan (orders_after me.plan (next past) past.orders cs) (next past)) cs =
     c.gather.ensures.wishes _ (next past) after ∙ ap (λ l. wishes_of me.plan (place_at me.plan (orders_after me.plan (next past) past.orders cs) (next past)) l) c.deref-2.ensures.value in
-    let guard = c.in_ok-step.ensures.history past.history s.guard in
+    let guard = c.step-2.ensures.history past.history s.guard in
     let place = c.place-self.ensures me.plan _ (next past) after in
     let picture = c.copy-self.ensures ∙ c.picture.ensures.history _ guard ∙ last-append past.history _ [] ∙ ap (λ ws. guard_picture (rules me.guard) past.history ws) wishes in
     let refused = c.obey.ensures.refused past.orders (next past) stages ∙ ap (λ l. refusals_of me.plan (next past) past.orders l) c.deref.ensures.value in
-    let turns = c.in_ok-step.ensures.refused past.history s.guard ∙ ap (λ ws. guard_refused (rules me.guard) past.history ws) wishes in
+    let turns = c.step-2.ensures.refused past.history s.guard ∙ ap (λ ws. guard_refused (rules me.guard) past.history ws) wishes in
     λ i. record {
       second = record { 0 = second i };
       place = place i;
@@ -52,17 +52,17 @@ returns-clause-stands c = λ past s.
     subst (λ l. StagesStand c.obey.new.stages me.plan (orders_after me.plan (next past) past.orders l) (next past)) c.deref.ensures.value (c.obey.ensures.stages past.orders (next past) stages) in
     let wishes : c.gather.new.wishes ≡ wishes_of me.plan (place_at me.plan (orders_after me.plan (next past) past.orders cs) (next past)) cs =
     c.gather.ensures.wishes _ (next past) after ∙ ap (λ l. wishes_of me.plan (place_at me.plan (orders_after me.plan (next past) past.orders cs) (next past)) l) c.deref-2.ensures.value in
-    let guard = subst (λ ws. GuardStands c.step-2.new.self (past.history ++ guard_picture (rules me.guard) past.history ws ∷ [])) wishes (c.in_ok-step.ensures.history past.history s.guard) in
+    let guard = subst (λ ws. GuardStands c.step-2.new.self (past.history ++ guard_picture (rules me.guard) past.history ws ∷ [])) wishes (c.step-2.ensures.history past.history s.guard) in
     let len : length (past.frames ++ frame ∷ []) ≡ length past.frames + 1 = length-append past.frames (frame ∷ []) in
     let world = world_in me.plan past (past.frames ++ frame ∷ []) in
     record {
-      groups = ap (λ r. r.count) c.in_ok-step.ensures.rules ∙ s.groups;
+      groups = ap (λ r. r.count) c.step-2.ensures.rules ∙ s.groups;
       wished = c.gather.ensures.groups;
       few = s.few;
       commands = s.commands;
       guard = guard;
       safe = guard_is_safe c.step-2.new.self _ guard;
-      made = c.in_ok-step.ensures.seconds ∙ ap (λ n. n + 1) s.made ∙ sym len;
+      made = c.step-2.ensures.seconds ∙ ap (λ n. n + 1) s.made ∙ sym len;
       stages = subst (λ k. StagesStand c.obey.new.stages me.plan (orders_after me.plan (next past) past.orders cs) k) (s.seconds ∙ sym len) after;
       counts = c.take.ensures past.frames s.counts;
       clears = ap (λ l. clears_after (next past) l cs) s.clears ∙ clears_nothing me.plan (next past) cs s.commands;

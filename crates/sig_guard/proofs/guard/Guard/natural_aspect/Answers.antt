@@ -1,21 +1,23 @@
-use Rattle.std.proofs.Common.{rules, suc, true, false, refl, sym}
-use Rattle.sig_guard.specs.Stands.{kept, last_second}
+use Rattle.std.proofs.Common.{◌≡◌, ◌∙◌, ◌-◌, true, false, length, sym, ap, Some}
+use Rattle.sig_types.specs.declared.aspect.Aspect.TheVariants.{RedAmber}
 use Rattle.sig_types.specs.Turns.{trace}
-use Rattle.sig_guard.proofs.MachineLemmas.{natural_red_amber, natural_amber}
+use Rattle.sig_guard.specs.Step.{is_due}
+use Rattle.sig_guard.proofs.MachineLemmas.{natural_red_amber}
+use Rattle.sig_guard.proofs.StandsAfter.{next_is, shows, last_start}
 use Rattle.sig_guard.proofs.guard.Guard.natural_aspect.Goals as goal
 
 pub returns-then-is_due : goal.returns-then-is_due
-returns-then-is_due c = natural_red_amber _ _ (trace (kept c.args.self.now) c.args.g) (suc (last_second c.args.self.now)) _ true c.last.result
-    refl (sym c.in-RedAmber.ensures) c.last.ensures.last (search rules)
+returns-then-is_due c = λ h s.
+    let me = c.args.self.now in
+    let was : trace h c.args.g (length h - 1) ≡ RedAmber = sym (c.aspect.ensures ∙ shows me h c.args.g s) ∙ c.in-RedAmber.is in
+    natural_red_amber _ _ (trace h c.args.g) c.now.result (length h - 1) true c.since.result (c.now.ensures.now ∙ next_is me h s) was
+    (last_start me h c.args.g s c.requires was ∙ ap Some (sym c.since.ensures.since))
+    ((λ j. is_due (Some c.since.result) (sym c.red_amber-red_amber.ensures.red_amber j) c.now.result) ∙ sym c.is_due.ensures ∙ c.if-is_due.true)
 
 pub returns-else-is_due : goal.returns-else-is_due
-returns-else-is_due c = natural_red_amber _ _ (trace (kept c.args.self.now) c.args.g) (suc (last_second c.args.self.now)) _ false c.last.result
-    refl (sym c.in-RedAmber.ensures) c.last.ensures.last (search rules)
-
-pub returns-then-is_due-2 : goal.returns-then-is_due-2
-returns-then-is_due-2 c = natural_amber _ _ (trace (kept c.args.self.now) c.args.g) (suc (last_second c.args.self.now)) _ true c.last-in-Amber.result
-    refl (sym c.in-Amber.ensures) c.last-in-Amber.ensures.last (search rules)
-
-pub returns-else-is_due-2 : goal.returns-else-is_due-2
-returns-else-is_due-2 c = natural_amber _ _ (trace (kept c.args.self.now) c.args.g) (suc (last_second c.args.self.now)) _ false c.last-in-Amber.result
-    refl (sym c.in-Amber.ensures) c.last-in-Amber.ensures.last (search rules)
+returns-else-is_due c = λ h s.
+    let me = c.args.self.now in
+    let was : trace h c.args.g (length h - 1) ≡ RedAmber = sym (c.aspect.ensures ∙ shows me h c.args.g s) ∙ c.in-RedAmber.is in
+    natural_red_amber _ _ (trace h c.args.g) c.now.result (length h - 1) false c.since.result (c.now.ensures.now ∙ next_is me h s) was
+    (last_start me h c.args.g s c.requires was ∙ ap Some (sym c.since.ensures.since))
+    ((λ j. is_due (Some c.since.result) (sym c.red_amber-red_amber.ensures.red_amber j) c.now.result) ∙ sym c.is_due.ensures ∙ c.if-is_due.false)

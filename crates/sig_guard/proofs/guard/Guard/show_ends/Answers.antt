@@ -1,11 +1,9 @@
-use Rattle.std.proofs.Common.{length, arith, ap}
-use Rattle.sig_guard.specs.Stands.{kept_rules, kept, last_second}
-use Rattle.sig_guard.proofs.Refusals.{ends_fit}
+use Rattle.std.proofs.Common.{arith}
+use Rattle.sig_guard.specs.Step.{wants_end}
+use Rattle.sig_guard.proofs.Refusals.{many_le}
 use Rattle.sig_guard.proofs.guard.Guard.show_ends.Goals as goal
 
-pub push-requires : goal.push-requires
-push-requires c = omega (
-  arith,
-  ap length c.loop-g.invariant.refused,
-  ends_fit (kept_rules c.args.self.now) (kept c.args.self.now) (last_second c.args.self.now) c.args.wishes.now c.loop-g.g,
-)
+pub end_one-requires-clause-room : goal.end_one-requires-clause-room
+end_one-requires-clause-room c =
+    let few = many_le (wants_end c.args.natural.now c.args.wishes.now) c.loop-g.g in
+    omega (arith, c.loop-g.invariant.count, few, c.loop-g-test.true, c.groups-g-end.ensures.count, c.args.self.now.few_groups)

@@ -1,14 +1,16 @@
-use Rattle.std.proofs.Common.{rules, ◌≡◌, length, arith, ap, true}
-use Rattle.sig_guard.specs.Stands.{kept_rules, kept, last_second}
-use Rattle.sig_guard.specs.Step.{natural, wants_start}
-use Rattle.sig_guard.proofs.Refusals.{starts_fit}
+use Rattle.std.proofs.Common.{arith, ◌<◌, slice_index_or, false}
+use Rattle.sig_types.specs.Turns.{shown, is_on}
+use Rattle.sig_guard.specs.Stands.{kept_rules}
+use Rattle.sig_guard.specs.Step.{wants_end, wants_start}
+use Rattle.sig_guard.proofs.Refusals.{many_apart, many_more, not_both}
 use Rattle.sig_guard.proofs.guard.Guard.show_starts.Goals as goal
 
-pub push-requires : goal.push-requires
-push-requires c =
-    let wants : wants_start (natural (kept_rules c.args.self.now) (kept c.args.self.now) (last_second c.args.self.now)) c.args.wishes.now c.loop-g.g ≡ true = search rules in
-    omega (
-      arith,
-      ap length c.loop-g.invariant.refused,
-      starts_fit (kept_rules c.args.self.now) (kept c.args.self.now) (last_second c.args.self.now) c.args.wishes.now c.loop-g.g (omega arith) wants,
-    )
+pub start_one-requires-clause-room : goal.start_one-requires-clause-room
+start_one-requires-clause-room c = λ wants.
+    let n = c.args.natural.now in
+    let w = c.args.wishes.now in
+    let count = (kept_rules c.args.self.now).count in
+    let lt : c.loop-g.g < count = omega (arith, c.loop-g-test.true, c.groups-g-end.ensures.count) in
+    let more = many_more (wants_start n w) c.loop-g.g count lt wants in
+    let apart = many_apart (wants_end n w) (wants_start n w) (λ j. not_both (is_on (shown n j)) (slice_index_or w j false)) count in
+    omega (arith, c.loop-g.invariant.count, more, apart, c.args.self.now.few_groups)

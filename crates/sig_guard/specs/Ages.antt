@@ -1,0 +1,34 @@
+-- What is kept of a group beside what it shows.
+use Rattle.std.specs.Prelude.{◌≡◌, ℕ, suc, ◌+◌, ◌≤◌, Bool, not, ◌&&◌, List, slice_index_or, Some, if◌then◌else◌}
+use Rattle.sig_types.specs.declared.aspect.Aspect.{Aspect}
+use Rattle.sig_types.specs.declared.aspect.Aspect.TheVariants.{Red, RedAmber, Green, Amber}
+use Rattle.sig_types.specs.Turns.{is_red, is_green, is_on, ends_at}
+use Rattle.sig_types.specs.Words.{last_below}
+use Rattle.sig_guard.specs.declared.ages.GroupAge.{GroupAge}
+
+abbrev pub first_age : GroupAge
+first_age = record { age = 1; last_end = 0 }
+
+abbrev pub age_at : List GroupAge → ℕ → GroupAge
+age_at ages g = slice_index_or ages g first_age
+
+-- whether a group that showed the first aspect shows it still
+abbrev pub same_aspect : Aspect → Aspect → Bool
+same_aspect Red x = is_red x
+same_aspect RedAmber x = is_on x && not (is_green x)
+same_aspect Green x = is_green x
+same_aspect Amber x = not (is_on x) && not (is_red x)
+
+abbrev pub next_age : GroupAge → Aspect → Aspect → ℕ → GroupAge
+next_age x before after now = record {
+  age = if same_aspect before after then x.age + 1 else 1;
+  last_end = if is_green before && not (is_green after) then now else x.last_end;
+}
+
+-- Of a trace in seconds 0 to m: it shows its last aspect for `age` seconds and no longer, and `last_end` is its last end.
+pub record HasAge (x : GroupAge) (a : ℕ → Aspect) (m : ℕ) : Type 0 where
+  pub some : 1 ≤ x.age
+  pub most : x.age ≤ suc m
+  pub stays : (t : ℕ) → suc m ≤ t + x.age → t ≤ m → a t ≡ a m
+  pub began : (t : ℕ) → suc t + x.age ≡ suc m → a t ≡ a m → ⊥
+  pub ended_last : last_below (ends_at a) (suc m) ≡ Some x.last_end
