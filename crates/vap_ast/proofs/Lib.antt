@@ -1,5 +1,6 @@
 pub mod Depth
 pub mod Room
 pub mod Shape
-mod Sample
+mod ValueSamples
+mod ProgramSamples
 mod Stores

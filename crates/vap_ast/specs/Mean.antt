@@ -37,19 +37,24 @@ abbrev pub after_done : Outcome → (Store → ℕ → Outcome) → Outcome
 after_done (Done s units) go = go s units
 after_done (Faulted kind line) go = Faulted kind line
 
+-- the number of a variable, which a checked program always has
 abbrev pub variable_number : Option Meaning → ℕ
 variable_number (Some (Variable x)) = x
 variable_number _ = 0
 
+-- the number of a timer, which a checked program always has
 abbrev pub timer_number : Option Meaning → ℕ
 timer_number (Some (Timer_of t)) = t
 timer_number _ = 0
 
+-- the body of a subroutine, which a checked program always has
 abbrev pub sub_body : List Items → Option Meaning → Items
 sub_body subs (Some (Sub k)) = at subs k Items.none
 sub_body subs _ = Items.none
 
 module _ (source : Source) (world : World) where
+  -- one statement of a routine, and then the rest of its list: `next` goes on with items, and a jump looks for its label in
+  -- the whole routine
   abbrev pub step :
       (Items → Items → Store → ℕ → Outcome) → Items → ℕ → Stmt → Items → Store → ℕ → Outcome
   step next routine line (Stmt.Assign name e) rest s units =
@@ -77,6 +82,7 @@ module _ (source : Source) (world : World) where
   mean_within (suc depth) routine todo s units =
       at_step todo (Done s units) (λ line what rest. spend line units (λ left. step (mean_within depth) routine line what rest s left))
 
+  -- the meaning of the items still to do
   abbrev pub mean : Items → Items → Store → ℕ → Outcome
   mean todo routine s units = mean_within units routine todo s units
 

@@ -22,6 +22,7 @@ abbrev mutual
 abbrev pub Fits : Expr → Type 0
 Fits e = room e ≤ 198
 
+-- the same of arguments
 abbrev pub FitAll : Exprs → Type 0
 FitAll args = room_of_all args ≤ 198
 
@@ -50,6 +51,7 @@ module _ (most : ℕ) where
     ParsedItems ifs Items.none = Unit {0}
     ParsedItems ifs (Items.next item items) = ParsedItem ifs item × ParsedItems ifs items
 
+  -- a routine of a text of so many lines, in which 100 IF may nest
   pub record ParsedRoutine (r : Routine) : Type 0 where
     pub line : IsLine most r.line
     pub body : ParsedItems 100 r.body

@@ -29,8 +29,8 @@ impl Model for Name {
 impl Name {
     /// The name of a word, which is a letter or `_` and then letters, digits and `_`.
     pub fn make(alloc: Global, bytes: &[u8]) -> Result<Name, Memory>
-        requires { IsWord bytes.now }
-        ensures { IfOk result (λ name. name ≡ lowered bytes.now) }
+        requires word { IsWord bytes.now }
+        ensures lowered { IfOk result (λ name. name ≡ lowered bytes.now) }
     {
         match bytes.iter().map(|b| b.to_ascii_lowercase()).collect(alloc) {
             Ok(bytes) => Ok(Name { bytes }),
@@ -40,7 +40,7 @@ impl Name {
 
     /// An equal name, with memory of its own.
     pub fn copy(&self, alloc: Global) -> Result<Name, Memory>
-        ensures { IfOk result (λ name. name ≡ self.now) }
+        ensures equal { IfOk result (λ name. name ≡ self.now) }
     {
         match Vec::from_slice(alloc, self.bytes.as_slice()) {
             Ok(bytes) => Ok(Name { bytes }),
@@ -50,7 +50,7 @@ impl Name {
 
     /// The bytes of the name, in lower case.
     pub fn bytes(&self) -> &[u8]
-        ensures { result.now ≡ self.now }
+        ensures bytes { result.now ≡ self.now }
     {
         self.bytes.as_slice()
     }
@@ -103,10 +103,15 @@ impl Hash for Name {
 /// number from 0.
 #[derive(Clone, Copy, PartialEq, Eq, Debug, Drop)]
 pub enum Meaning {
+    /// A constant and its value.
     Constant(i32),
+    /// An array, by the order of the declarations.
     Array(u16),
+    /// A subroutine, by the order of the declarations.
     Sub(u16),
+    /// A timer, by the order of first use.
     Timer(u16),
+    /// A variable, by the order of first use.
     Variable(u16),
 }
 

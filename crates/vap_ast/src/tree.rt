@@ -53,55 +53,69 @@ pub enum Item {
 #[cycle(tree)]
 #[derive(Debug, Drop, PartialEq)]
 pub enum Stmt {
+    /// `target := value`
     Assign {
         target: Name,
         value: Expr,
     },
+    /// `array[index] := value`
     Cell {
         array: Name,
         index: Expr,
         value: Expr,
     },
+    /// `IF test THEN yes ELSE no END`
     If {
         test: Expr,
         yes: Items,
         no: Items,
     },
+    /// A jump to a label of the same routine.
     Goto {
         label: Name,
     },
+    /// A call of a subroutine.
     Gosub {
         sub: Name,
     },
+    /// A command to the controller.
     Do {
         kind: CommandKind,
         args: Vec<Expr>,
     },
+    /// A command to a timer.
     Timer {
         kind: TimerKind,
         timer: Name,
     },
+    /// `TRACE`, which does nothing.
     Trace,
 }
 
 /// An expression. Brackets are no part of it.
 #[derive(Debug, Drop, PartialEq)]
 pub enum Expr {
+    /// A number.
     Literal(i32),
+    /// A plain name.
     Name(Name),
+    /// A cell of an array, counted from 1.
     Cell {
         array: Name,
         index: Box<Expr>,
     },
+    /// An operator on one number.
     Unary {
         op: UnaryOp,
         arg: Box<Expr>,
     },
+    /// An operator on two numbers.
     Binary {
         op: BinaryOp,
         left: Box<Expr>,
         right: Box<Expr>,
     },
+    /// A reading of the controller.
     Read {
         kind: ReadingKind,
         args: Vec<Expr>,
@@ -111,23 +125,37 @@ pub enum Expr {
 /// An operator on one number.
 #[derive(Clone, Copy, PartialEq, Eq, Debug, Drop)]
 pub enum UnaryOp {
+    /// `-`
     Neg,
+    /// `NOT`
     Not,
 }
 
 /// An operator on two numbers; both sides are always computed, the left one first.
 #[derive(Clone, Copy, PartialEq, Eq, Debug, Drop)]
 pub enum BinaryOp {
+    /// `OR`
     Or,
+    /// `AND`
     And,
+    /// `=`
     Eq,
+    /// `<>`
     Ne,
+    /// `<`
     Lt,
+    /// `<=`
     Le,
+    /// `>`
     Gt,
+    /// `>=`
     Ge,
+    /// `+`
     Add,
+    /// `-`
     Sub,
+    /// `*`
     Mul,
+    /// `/`
     Div,
 }
