@@ -4,6 +4,7 @@ use Rattle.vap_lex.specs.declared.token.Token.{Token}
 use Rattle.vap_lex.specs.declared.token.TokenKind.{TokenKind}
 use Rattle.vap_lex.specs.declared.token.TokenKind.TheVariants as kind
 
+-- not below 0
 abbrev pub IsNatural : ℤ → Type 0
 IsNatural (pos n) = Unit {0}
 IsNatural (negsuc n) = ⊥
@@ -14,6 +15,7 @@ IsUnsigned (kind.Word w) = Unit {0}
 IsUnsigned (kind.Number n) = IsNatural n
 IsUnsigned (kind.Sign s) = Unit {0}
 
+-- a token with a place that has a next one in 32 bits, and without a sign where it is a number
 abbrev pub IsKept : Token → Type 0
 IsKept t = (t.place < 4294967294) × IsUnsigned t.kind
 

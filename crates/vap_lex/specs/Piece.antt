@@ -11,6 +11,7 @@ use Rattle.vap_lex.specs.declared.token.Sign.{Sign as AnySign}
 use Rattle.vap_lex.specs.declared.token.Sign.TheVariants as s
 use Rattle.vap_lex.specs.Kept.{IsNatural}
 
+-- a space, a tab, a carriage return or a line feed
 abbrev pub is_blank : ℕ → Bool
 is_blank b = b == 32 || b == 9 || b == 13 || b == 10
 
@@ -18,6 +19,7 @@ is_blank b = b == 32 || b == 9 || b == 13 || b == 10
 abbrev pub run_len : (ℕ → Bool) → List ℕ → ℕ
 run_len test bytes = length (take_while test bytes)
 
+-- whether the first byte is `/`
 abbrev pub begins_slash : List ℕ → Bool
 begins_slash [] = false
 begins_slash (b ∷ bs) = b == 47
@@ -27,12 +29,15 @@ abbrev pub comment_len : List ℕ → Option ℕ
 comment_len [] = None
 comment_len (b ∷ bs) = if b == 42 && begins_slash bs then Some 2 else option_map (λ n. n + 1) (comment_len bs)
 
+-- the value of digits
 abbrev pub decimal : List ℕ → ℕ
 decimal = fold (λ n d. n * 10 + (d - 48)) 0
 
+-- the value of digits, where it isn't too large
 abbrev pub number : List ℕ → Option ℕ
 number digits = if nat_le (decimal digits) 2147483647 then Some (decimal digits) else None
 
+-- the byte at a place, 0 past the end
 abbrev pub byte_at : List ℕ → ℕ → ℕ
 byte_at bytes i = slice_index bytes i
 
@@ -63,33 +68,36 @@ short_sign a =
     else (if a == 42 then Some s.Star
     else (if a == 47 then Some s.Slash else None))))))))))))))
 
-abbrev pub signed : ℕ → Option AnySign → Result (Piece × ℕ) LexWhy → Result (Piece × ℕ) LexWhy
-signed len None other = other
-signed len (Some sign) other = Ok (Sign sign, len)
+-- a sign that was found with its length, or else the other
+abbrev pub sign_or : ℕ → Option AnySign → Result (Piece × ℕ) LexWhy → Result (Piece × ℕ) LexWhy
+sign_or len None other = other
+sign_or len (Some sign) other = Ok (Sign sign, len)
 
 -- the longest sign
 unfoldable pub sign : List ℕ → Result (Piece × ℕ) LexWhy
-sign bytes = signed 2 (long_sign (byte_at bytes 0) (byte_at bytes 1)) (signed 1 (short_sign (byte_at bytes 0)) (Err Byte))
+sign bytes = sign_or 2 (long_sign (byte_at bytes 0) (byte_at bytes 1)) (sign_or 1 (short_sign (byte_at bytes 0)) (Err Byte))
 
-abbrev pub valued : ℕ → Option ℕ → Result (Piece × ℕ) LexWhy
-valued len (Some n) = Ok (Number (pos n), len)
-valued len None = Err NumberRange
+-- a number with its length, where it isn't too large
+abbrev pub number_piece : ℕ → Option ℕ → Result (Piece × ℕ) LexWhy
+number_piece len (Some n) = Ok (Number (pos n), len)
+number_piece len None = Err NumberRange
 
 -- all digits in a row
 unfoldable pub digits : List ℕ → Result (Piece × ℕ) LexWhy
 digits bytes =
     let len = run_len is_digit (drop 1 bytes) + 1 in
-    if byte_at bytes len == 46 && is_digit (byte_at bytes (len + 1)) then Err Decimal else valued len (number (take len bytes))
+    if byte_at bytes len == 46 && is_digit (byte_at bytes (len + 1)) then Err Decimal else number_piece len (number (take len bytes))
 
-abbrev pub closed : Option ℕ → Result (Piece × ℕ) LexWhy
-closed (Some n) = Ok (Gap, n + 2)
-closed None = Err OpenComment
+-- a comment with its length, where it is closed
+abbrev pub comment_gap : Option ℕ → Result (Piece × ℕ) LexWhy
+comment_gap (Some n) = Ok (Gap, n + 2)
+comment_gap None = Err OpenComment
 
 -- what stands at the front, and how many bytes it has
 unfoldable pub front : List ℕ → Result (Piece × ℕ) LexWhy
 front bytes =
     if is_blank (byte_at bytes 0) then Ok (Gap, 1)
-    else (if byte_at bytes 0 == 47 && byte_at bytes 1 == 42 then closed (comment_len (drop 2 bytes))
+    else (if byte_at bytes 0 == 47 && byte_at bytes 1 == 42 then comment_gap (comment_len (drop 2 bytes))
     else (if is_letter (byte_at bytes 0) then Ok (Word, run_len is_word_byte (drop 1 bytes) + 1)
     else (if is_digit (byte_at bytes 0) then digits bytes else sign bytes)))
 

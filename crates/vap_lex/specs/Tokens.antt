@@ -29,6 +29,7 @@ found p line (Some k) = record { place = p; line = line; kind = k } ∷ []
 abbrev pub start_of : List ℕ → ℕ
 start_of text = if slice_index text 0 == 239 && (slice_index text 1 == 187 && slice_index text 2 == 191) then 3 else 0
 
+-- where a text is done with: at its end, or at the place that is refused for this reason
 pub data End : Type 0 where
   done : End
   stuck : ℕ → LexWhy → End

@@ -12,40 +12,47 @@ use sig_types::text::{is_digit, is_letter};
 /// Why a text has no token at a place.
 #[derive(Clone, Copy, Debug, PartialEq, Eq)]
 pub enum LexWhy {
-    /// A byte that begins nothing.
+    /// 1: a byte that begins nothing.
     Byte = 1,
-    /// A comment that is not closed.
+    /// 2: a comment that is not closed; the line is that of its beginning.
     OpenComment = 2,
-    /// A number with a decimal point.
+    /// 3: a number with a decimal point.
     Decimal = 3,
-    /// A number above 2,147,483,647.
+    /// 4: a number above 2,147,483,647.
     NumberRange = 4,
 }
 
 /// What stands at a place of a text.
 #[derive(Clone, Copy, Debug, PartialEq, Eq)]
-pub enum Piece {
+pub(crate) enum Piece {
     /// A blank or a comment.
     Gap,
+    /// A word, reserved or a name.
     Word,
+    /// A number and its value.
     Number(i32),
+    /// A sign.
     Sign(Sign),
 }
 
+// The largest number of a text.
 const MOST: u64 = 2_147_483_647;
 
+// Whether a byte is a space, a tab, a carriage return or a line feed.
 fn is_blank(b: u8) -> bool
     ensures { result ≡ spec.is_blank b }
 {
     b == b' ' || b == b'\t' || b == b'\r' || b == b'\n'
 }
 
+// Whether a word may go on with a byte.
 fn is_word_byte(b: u8) -> bool
     ensures { result ≡ is_word_byte b }
 {
     is_letter(b) || is_digit(b)
 }
 
+// How many bytes from the front on a word may have.
 fn word_len(bytes: &[u8]) -> usize
     ensures len { result ≡ spec.run_len is_word_byte bytes.now }
     ensures within { result ≤ length bytes.now }
@@ -53,6 +60,7 @@ fn word_len(bytes: &[u8]) -> usize
     bytes.iter().take_while(|b| is_word_byte(**b)).count()
 }
 
+// How many digits stand at the front.
 fn digits_len(bytes: &[u8]) -> usize
     ensures len { result ≡ spec.run_len is_digit bytes.now }
     ensures within { result ≤ length bytes.now }
@@ -77,6 +85,7 @@ fn comment_len(bytes: &[u8]) -> Option<usize>
     None
 }
 
+// Whether the bytes begin with `/`.
 fn begins_slash(bytes: &[u8]) -> bool
     ensures { result ≡ spec.begins_slash bytes.now }
 {
@@ -89,7 +98,7 @@ fn begins_slash(bytes: &[u8]) -> bool
 // The value of the digits, where it is not too large.
 fn number(digits: &[u8]) -> Option<u32>
     ensures value { result ≡ spec.number digits.now }
-    ensures small { IfSome result (λ n. n ≤ 2147483647) }
+    ensures at_most { IfSome result (λ n. n ≤ 2147483647) }
 {
     let mut value: u64 = 0;
     for digit in digits {
@@ -115,7 +124,7 @@ fn byte_at(bytes: &[u8], place: usize) -> u8
 // The sign of one byte.
 fn short_sign(byte: u8) -> Option<Sign>
     ensures sign { result ≡ spec.short_sign byte }
-    ensures some { IfSome result (λ s. 0 < byte) }
+    ensures not_zero { IfSome result (λ s. 0 < byte) }
 {
     match byte {
         b':' => Some(Sign::Colon),
@@ -140,7 +149,7 @@ fn short_sign(byte: u8) -> Option<Sign>
 // The sign of two bytes.
 fn long_sign(first: u8, second: u8) -> Option<Sign>
     ensures sign { result ≡ spec.long_sign first second }
-    ensures some { IfSome result (λ s. 0 < second) }
+    ensures not_zero { IfSome result (λ s. 0 < second) }
 {
     if first == b':' && second == b'=' {
         Some(Sign::Assign)
@@ -155,11 +164,12 @@ fn long_sign(first: u8, second: u8) -> Option<Sign>
     }
 }
 
+// The longest sign at the front, and how many bytes it has.
 #[tactic(auto, unfolding(crate::specs::Piece::sign))]
 fn sign(bytes: &[u8]) -> Result<(Piece, usize), LexWhy>
     ensures sign { result ≡ spec.sign bytes.now }
     ensures within { IfOk result (λ r. (0 < r.1) × (r.1 ≤ length bytes.now)) }
-    ensures kind { IfOk result (λ r. IsNumbered r.0) }
+    ensures unsigned { IfOk result (λ r. IsNumbered r.0) }
     ensures word { IfOk result (λ r. r.0 ≡ Word → IsWord (take r.1 bytes.now)) }
 {
     if let Some(sign) = long_sign(byte_at(bytes, 0), byte_at(bytes, 1)) {
@@ -171,13 +181,14 @@ fn sign(bytes: &[u8]) -> Result<(Piece, usize), LexWhy>
     }
 }
 
+// The number at the front, and how many digits it has.
 #[tactic(auto, unfolding(crate::specs::Piece::digits))]
 fn digits(bytes: &[u8]) -> Result<(Piece, usize), LexWhy>
-    requires some { 0 < length bytes.now }
+    requires not_empty { 0 < length bytes.now }
     requires short { length bytes.now < 2 ^ 32 }
     ensures digits { result ≡ spec.digits bytes.now }
     ensures within { IfOk result (λ r. (0 < r.1) × (r.1 ≤ length bytes.now)) }
-    ensures kind { IfOk result (λ r. IsNumbered r.0) }
+    ensures unsigned { IfOk result (λ r. IsNumbered r.0) }
     ensures word { IfOk result (λ r. r.0 ≡ Word → IsWord (take r.1 bytes.now)) }
 {
     let len = digits_len(&bytes[1..]) + 1;
@@ -192,12 +203,12 @@ fn digits(bytes: &[u8]) -> Result<(Piece, usize), LexWhy>
 
 /// What stands at the front, and how many bytes it has.
 #[tactic(auto, unfolding(crate::specs::Piece::front))]
-pub fn front(bytes: &[u8]) -> Result<(Piece, usize), LexWhy>
-    requires some { 0 < length bytes.now }
+pub(crate) fn front(bytes: &[u8]) -> Result<(Piece, usize), LexWhy>
+    requires not_empty { 0 < length bytes.now }
     requires short { length bytes.now < 2 ^ 32 }
     ensures front { result ≡ spec.front bytes.now }
     ensures within { IfOk result (λ r. (0 < r.1) × (r.1 ≤ length bytes.now)) }
-    ensures kind { IfOk result (λ r. IsNumbered r.0) }
+    ensures unsigned { IfOk result (λ r. IsNumbered r.0) }
     ensures word { IfOk result (λ r. r.0 ≡ Word → IsWord (take r.1 bytes.now)) }
 {
     let first = byte_at(bytes, 0);

@@ -19,10 +19,12 @@ use thiserror::Error;
 use vap_ast::Name;
 
 /// Why a text has no tokens: the line of the first place that is refused, from 1, and the reason.
-#[derive(Debug, Drop, Error)]
+#[derive(Clone, Copy, Debug, PartialEq, Eq, Error)]
 pub enum LexRefusal {
+    /// Memory was wanted and there was none.
     #[error("out of memory")]
     Memory,
+    /// The first place at which no token, blank or comment stands.
     #[error("the text has no token here")]
     At { line: u32, why: LexWhy },
 }
@@ -43,6 +45,7 @@ impl<T: Drop> From<AllocFailed<T>> for LexRefusal {
     }
 }
 
+// The line feeds among these bytes.
 fn lines_in(bytes: &[u8]) -> u32
     requires { length bytes.now < 2 ^ 32 }
     ensures count { result ≡ count_by (λ b. b == 10) bytes.now }

@@ -36,7 +36,7 @@ loop-place-preserved c =
     record {
       within = omega arith;
       line = rw (c.lines_in-line.ensures.count, bytes, c.loop-place.invariant.line) (line_on c.args.bytes.now c.loop-place.place c.in-Ok.found.1);
-      few = omega arith;
+      at_most = omega arith;
       goes_on = λ ts e r. rw (c.in_ok-note.ensures.noted, c.in_ok-found.ensures.kind, bytes)
           (goes c.args.bytes.now c.loop-place.place c.in-Ok.found.1 c.loop-place.line c.in-Ok.found.0 c.loop-place.tokens.items lt is c.loop-place.invariant.line c.loop-place.invariant.goes_on ts e r);
       kept = rw c.in_ok-note.ensures.noted (kept_on c.loop-place.place c.loop-place.line c.in_ok-found.found c.loop-place.tokens.items c.loop-place.invariant.kept near c.in_ok-found.ensures.unsigned);

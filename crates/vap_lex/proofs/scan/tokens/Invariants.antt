@@ -10,7 +10,7 @@ abbrev pub invariant-loop-place : goal.invariant-loop-place
 invariant-loop-place l = record {
   within : l.place ≤ length l.bytes;
   line : l.line ≡ line_at l.bytes l.place;
-  few : l.line ≤ l.place + 1;
+  at_most : l.line ≤ l.place + 1;
   goes_on : (ts : List Token) (e : End) → Scans l.bytes l.place ts e → Scans l.bytes (start_of l.bytes) (l.tokens.items ++ ts) e;
   kept : All IsKept l.tokens.items;
   lines : All (λ t. HasLine (length l.bytes) t) l.tokens.items;
