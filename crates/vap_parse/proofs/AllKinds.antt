@@ -2,11 +2,8 @@
 use Rattle.std.proofs.Common.{◌≡◌, ℕ, ◌<◌, List, [], ◌∷◌, length, get_or, Bool, true, refl, sym, ap, ◌∙◌, arith, rules}
 use Rattle.std.specs.List.{list_all}
 use Rattle.std.proofs.lemmas.List.Sums.{AllPass-from_list_all}
-use denote.Enum.Bare.{same_true}
-use Rattle.vap_parse.specs.contracts.kind.Kind.{the_type}
 use Rattle.vap_parse.specs.declared.kind.Kind.{Kind}
 use Rattle.vap_parse.specs.declared.kind.Kind.TheVariants as k
-use Rattle.vap_parse.specs.Kinds.{same_kind}
 
 abbrev kinds : List Kind
 kinds = k.Nothing ∷ k.Name ∷ k.Number ∷ k.Program ∷ k.VapFrequency ∷ k.Const ∷ k.Array ∷ k.Subroutine ∷ k.ProgEnde ∷ k.If ∷ k.Then ∷ k.Else ∷ k.End ∷ k.Goto ∷ k.Gosub ∷ k.And ∷ k.Or ∷ k.Not ∷ k.Trace ∷ k.Start ∷ k.Stop ∷ k.Reset ∷ k.Interstage ∷ k.SgGreen ∷ k.SgRed ∷ k.ClearFrontEnds ∷ k.ClearRearEnds ∷ k.CurrentState ∷ k.AnyInterstageActive ∷ k.Detection ∷ k.Occupancy ∷ k.Headway ∷ k.FrontEnds ∷ k.RearEnds ∷ k.TGreen ∷ k.TRed ∷ k.StageActive ∷ k.StageDuration ∷ k.InterstageActive ∷ k.Assign ∷ k.Colon ∷ k.Semi ∷ k.Comma ∷ k.Dot ∷ k.Open ∷ k.Close ∷ k.OpenIndex ∷ k.CloseIndex ∷ k.Eq ∷ k.Ne ∷ k.Lt ∷ k.Le ∷ k.Gt ∷ k.Ge ∷ k.Plus ∷ k.Minus ∷ k.Star ∷ k.Slash ∷ []
@@ -87,7 +84,3 @@ of_all test = list_all test kinds
 
 pub by_kinds : (test : Kind → Bool) → of_all test ≡ true → (kind : Kind) → test kind ≡ true
 by_kinds test is kind = ap test (sym (placed kind)) ∙ AllPass-from_list_all test kinds is (place kind) k.Nothing (within kind)
-
-pub same_kind-true : (a b : Kind) → same_kind a b ≡ true → a ≡ b
-unfolding same_kind
-same_kind-true a b is = same_true the_type (search rules) a b is

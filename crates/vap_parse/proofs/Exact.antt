@@ -1,4 +1,16 @@
 -- The parse is exact: it gives the tree of a text, or the first token that is refused.
+--
+-- How the proofs go together. A *law* (Law) ties a parser of Descent.antt to a form of Grammar.antt. It says five things:
+-- the form spells something (`some`); what it spells begins with some kinds of tokens alone (`heads`); the parser reads
+-- whatever the form spells, if the next token can't belong to it (`complete`, with After for tokens that bear a mark);
+-- what the parser reads the form spells, and what it refuses stands behind a front of what the form spells (`meets`,
+-- with Meets); and what the parser answers at a token doesn't depend on the tokens behind it (`local`, with Alike).
+-- Laws are put together as the rules are: one token (Tokens), one after another and one of two (Law), any number of
+-- turns (Turns), the brackets of TRACE (Skips). So ExprLaws and TextLaws have a line or two for each rule, of which the
+-- kinds of tokens are found by trying them all (AllKinds). This file takes the law of a whole program: its `complete`
+-- gives that each text is read, its `meets` that what is read is a text and that a refused token follows a front of a
+-- text, and its `local` that no text goes on with the refused token. Shrinks tells the loops that a turn takes a token,
+-- and Keeps what the tree of any text keeps.
 use Rattle.std.proofs.Common.{◌≡◌, ℕ, suc, ◌<◌, ◌≤◌, length, List, [], ◌∷◌, ◌++◌, append_assoc, Ok, Err, refl, sym, ap, subst, ◌∙◌, inl, inr, arith}
 use Rattle.std.proofs.lemmas.List.{append-nil, length-append}
 use Rattle.std.proofs.lemmas.Bool.{cases_lt}
@@ -8,7 +20,7 @@ use Rattle.vap_parse.specs.declared.kind.Reason.{Reason}
 use Rattle.vap_parse.specs.declared.kind.Reason.TheVariants.{Unexpected, Frequency, TooDeep}
 use Rattle.vap_parse.specs.Input.{Mark, fine, deep, wrong, Input, input, Outcome, Parser, and_then, ◌>>=◌, pure, ended, ended_at, max_operators}
 use Rattle.vap_parse.specs.Kinds.{same_kind}
-use Rattle.vap_parse.specs.Reading.{program, whole, text}
+use Rattle.vap_parse.specs.Descent.{program, whole, text}
 use Rattle.vap_parse.specs.Forms.{Marked, tokens, fines}
 use Rattle.vap_parse.specs.Grammar as g
 use Rattle.vap_parse.specs.Grammar.{Text, Accepts, Begins, Ends, Refuses}

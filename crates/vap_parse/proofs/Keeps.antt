@@ -12,8 +12,8 @@ use Rattle.vap_parse.specs.declared.kind.Kind.TheVariants as k
 use Rattle.vap_parse.specs.declared.kind.Rank.{Rank}
 use Rattle.vap_parse.specs.declared.kind.Rank.TheVariants as rank
 use Rattle.vap_parse.specs.Kinds.{kind_of, same_kind, command_of, timer_of}
-use Rattle.vap_parse.specs.Input.{Mark, fine, deep, wrong, where_kind, with_line, line_of, called_by, no_limit, as_many, limit}
-use Rattle.vap_parse.specs.Reading.{max_levels, max_ifs, Declared}
+use Rattle.vap_parse.specs.Input.{Mark, fine, deep, wrong, where_kind, with_line, line_of, name_in, name_at, no_limit, as_many, limit, max_levels, max_ifs}
+use Rattle.vap_parse.specs.Descent.{Declared}
 use Rattle.vap_parse.specs.Forms.{Marked, fines, Form, Picks, picks, Gives, gives, Then, then_, Either, this, that, Many, none, turn, Anew, counted, Balanced}
 use Rattle.vap_parse.specs.Grammar as g
 use Rattle.vap_parse.specs.Grammar.{Accepts}
@@ -111,16 +111,12 @@ module _ (most : ℕ) where
   enter_keep : (l : ℕ) (kd : Kind) → Keeps (g.enter l kd) (λ x. IsLine most x × (0 < l))
   enter_keep l kd = picks_keep (where_kind kd line_of) (λ n t. limit l) as_many (λ x. IsLine most x × (0 < l)) (λ o t x e marks line. (subst (IsLine most) (where_line (same_kind (kind_of t.kind) kd) t.line x e) line, limited l marks))
 
-  called_line : (b : Bool) (t : Token) (x : List ℕ × ℕ) → (if b then Some (called_by t) else None) ≡ Some x → t.line ≡ x.1
-  called_line true t x e = let same : called_by t ≡ x = cc in ap (λ (w : List ℕ × ℕ). w.1) same
-  called_line false t x e = absurd cc
-
-  called_keep : Keeps g.called (λ w. IsLine most w.1)
-  called_keep = picks_keep (where_kind k.Name called_by) no_limit as_many (λ w. IsLine most w.1) (λ o t x e marks line. subst (IsLine most) (called_line (same_kind (kind_of t.kind) k.Name) t x e) line)
-
   lined : {A : Type 0} (c : Option A) (line : ℕ) (x : A × ℕ) → with_line c line ≡ Some x → line ≡ x.1
   lined None line x e = absurd cc
   lined {A = A} (Some y) line x e = let same : (y, line) ≡ x = cc in ap (λ (w : A × ℕ). w.1) same
+
+  called_keep : Keeps g.called (λ w. IsLine most w.1)
+  called_keep = picks_keep name_at no_limit as_many (λ w. IsLine most w.1) (λ o t x e marks line. subst (IsLine most) (lined (name_in t.kind) t.line x e) line)
 
   command_keep : Keeps g.command (λ w. IsLine most w.1)
   command_keep = picks_keep (λ t. with_line (command_of (kind_of t.kind)) t.line) no_limit as_many (λ w. IsLine most w.1) (λ o t x e marks line. subst (IsLine most) (lined (command_of (kind_of t.kind)) t.line x e) line)

@@ -1,6 +1,6 @@
 -- The laws of single tokens.
 use Rattle.std.proofs.Common.{◌≡◌, ℕ, List, Option, Some, None, Bool, true, false, refl, sym, subst}
-use Rattle.std.specs.Prelude.{pos, if◌then◌else◌, is_some, codes}
+use Rattle.std.specs.Prelude.{ℤ, pos, if◌then◌else◌, is_some, codes}
 use Rattle.std.specs.Str.{bytes_eq}
 use Rattle.std.proofs.lemmas.Slice.Eq.{bytes_eq-Decides}
 use Rattle.sig_types.specs.declared.aspect.ReadingKind.{ReadingKind}
@@ -15,12 +15,12 @@ use Rattle.vap_ast.specs.declared.tree.BinaryOp.{BinaryOp}
 use Rattle.vap_parse.specs.declared.kind.Kind.{Kind}
 use Rattle.vap_parse.specs.declared.kind.Kind.TheVariants as k
 use Rattle.vap_parse.specs.declared.kind.Rank.{Rank}
-use Rattle.vap_parse.specs.Kinds.{kind_of, structure_word, statement_word, command_word, reading_word, same_kind, operator_of, reading_of, command_of, timer_of, aspect_of}
-use Rattle.vap_parse.specs.Input.{Mark, token, where_kind, with_line, line_of, called_by, numbered_by, word_of, no_limit, as_many, limit, below, frequency_mark}
+use Rattle.vap_parse.specs.Kinds.{kind_of, structure_word, statement_word, command_word, reading_word, same_kind, operator_of, reading_of, command_of, timer_of}
+use Rattle.vap_parse.specs.Input.{Mark, token, where_kind, with_line, line_of, word_in, name_in, name_at, number_in, aspect_in, no_limit, as_many, limit, below, frequency_mark}
 use Rattle.vap_parse.specs.Input as p
 use Rattle.vap_parse.specs.Grammar as g
 use Rattle.vap_parse.specs.Forms.{Picks}
-use Rattle.vap_parse.specs.Reading.{is, is_operator, is_timer}
+use Rattle.vap_parse.specs.Descent.{is, is_operator, is_timer}
 use Rattle.vap_parse.proofs.AllKinds.{by_kinds}
 use Rattle.vap_parse.proofs.Law.{Law, no_kind, picks_law}
 
@@ -121,14 +121,27 @@ expect_law kd some = where_law kd line_of no_limit as_many some
 pub enter_law : (levels : ℕ) (kd : Kind) → some_kind kd ≡ true → Law (p.enter levels kd) (g.enter levels kd) (is kd) no_kind false
 enter_law levels kd some = where_law kd line_of (λ n t. limit levels) as_many some
 
+name_first : (named : Bool) (word : Option (List ℕ)) (line : ℕ) (x : List ℕ × ℕ) → with_line (if named then word else None) line ≡ Some x → named ≡ true
+name_first true word line x e = refl
+name_first false word line x e = absurd cc
+
 pub called_law : Law p.called g.called (is k.Name) no_kind false
-called_law = where_law k.Name called_by no_limit as_many refl
+unfolding sample
+called_law = picks_law name_at no_limit as_many (is k.Name) (λ t x e. name_first (same_kind (kind_of t.kind) k.Name) (word_in t.kind) t.line x e) (sample_token k.Name) (codes "a", 1) (rw (sampled k.Name refl, same_kind-refl k.Name) refl)
+
+number_first : (kind : TokenKind) (x : ℤ) → number_in kind ≡ Some x → is k.Number (kind_of kind) ≡ true
+unfolding same_kind
+number_first (t.Number n) x e = refl
+number_first (t.Word w) x e = absurd cc
+number_first (t.Sign s) x e = absurd cc
 
 pub number_law : Law p.number g.number (is k.Number) no_kind false
-number_law = where_law k.Number numbered_by no_limit as_many refl
+unfolding sample
+number_law = picks_law (λ t. number_in t.kind) no_limit as_many (is k.Number) (λ t x e. number_first t.kind x e) (sample_token k.Number) (pos 0) refl
 
 pub frequency_law : Law p.frequency g.frequency (is k.Number) no_kind false
-frequency_law = where_law k.Number numbered_by frequency_mark as_many refl
+unfolding sample
+frequency_law = picks_law (λ t. number_in t.kind) frequency_mark as_many (is k.Number) (λ t x e. number_first t.kind x e) (sample_token k.Number) (pos 0) refl
 
 -- ---- tokens that are picked by a table
 
@@ -167,7 +180,7 @@ is_named : (w v : List ℕ) → bytes_eq w v ≡ true → is k.Name (kind_of (t.
 is_named w v same named =
     subst (λ (u : List ℕ). is k.Name (kind_of (t.Word u)) ≡ true) (sym ((bytes_eq-Decides w v).0 same)) named
 
-aspect_first : (kind : TokenKind) (x : ReadingKind) → aspect_of (word_of kind) ≡ Some x → is k.Name (kind_of kind) ≡ true
+aspect_first : (kind : TokenKind) (x : ReadingKind) → aspect_in kind ≡ Some x → is k.Name (kind_of kind) ≡ true
 unfolding same_kind structure_word statement_word command_word reading_word
 aspect_first (t.Number n) x e = absurd cc
 aspect_first (t.Sign s) x e = absurd cc
@@ -184,4 +197,4 @@ aspect_first (t.Word w) x e = by (bytes_eq w (codes "red")) (bytes_eq w (codes "
 
 pub aspect_law : Law p.aspect g.aspect (is k.Name) no_kind false
 unfolding red
-aspect_law = picks_law (λ t. aspect_of (word_of t.kind)) no_limit as_many (is k.Name) (λ t x e. aspect_first t.kind x e) red reading_kind.IsRed refl
+aspect_law = picks_law (λ t. aspect_in t.kind) no_limit as_many (is k.Name) (λ t x e. aspect_first t.kind x e) red reading_kind.IsRed refl

@@ -5,9 +5,11 @@ use Rattle.vap_parse.specs.declared.kind.Kind.TheVariants as k
 use Rattle.vap_parse.specs.Kinds.{kind_of}
 use Rattle.vap_parse.specs.Input.{Mark, fine, max_operators}
 
+-- a token with its mark
 abbrev pub Marked : Type 0
 Marked = Token × Mark
 
+-- the tokens without their marks
 abbrev pub tokens : List Marked → List Token
 tokens [] = []
 tokens (m ∷ ms) = m.0 ∷ tokens ms

@@ -1,5 +1,5 @@
 -- What a parser reads from, and the steps that every rule is made of.
-use Rattle.std.specs.Prelude.{ℤ, pos, negsuc, Option, Some, None, ◌≡◌, ℕ, zero, suc, ◌==◌, ◌+◌, Bool, false, if◌then◌else◌, List, [], ◌∷◌, length, Result, Ok, Err, codes}
+use Rattle.std.specs.Prelude.{ℤ, pos, negsuc, Option, Some, None, ◌≡◌, ℕ, zero, suc, ◌==◌, ◌+◌, Bool, false, if◌then◌else◌, List, [], ◌∷◌, length, Result, Ok, Err}
 use Rattle.vap_lex.specs.declared.token.Token.{Token}
 use Rattle.vap_lex.specs.declared.token.TokenKind.{TokenKind}
 use Rattle.vap_lex.specs.declared.token.TokenKind.TheVariants as t
@@ -21,6 +21,7 @@ pub record Input : Type 0 where
   pub rest : List Token
   pub operators : ℕ
 
+-- these tokens, and so many operators
 abbrev pub input : List Token → ℕ → Input
 input rest operators = record { rest = rest; operators = operators }
 
@@ -30,71 +31,83 @@ pub data Mark : Type 0 where
   deep : Mark
   wrong : Mark
 
--- ---- what a token tells; what it does not tell is never asked
+-- ---- what a token tells
 
+-- the kind of the first token
 abbrev pub kind_first : List Token → Kind
 kind_first [] = k.Nothing
 kind_first (x ∷ xs) = kind_of x.kind
 
+-- the kind of the next token
 unfoldable pub kind : Input → Kind
 kind i = kind_first i.rest
 
-abbrev pub word_of : TokenKind → List ℕ
-word_of (t.Word w) = w
-word_of (t.Number n) = codes "a"
-word_of (t.Sign s) = codes "a"
+-- the word of a token
+abbrev pub word_in : TokenKind → Option (List ℕ)
+word_in (t.Word w) = Some w
+word_in (t.Number n) = None
+word_in (t.Sign s) = None
 
--- a number of a text has no sign
-abbrev pub unsigned : ℤ → ℤ
-unsigned (pos n) = pos n
-unsigned (negsuc n) = pos 0
+-- the name that a token is: a word that isn't reserved
+abbrev pub name_in : TokenKind → Option (List ℕ)
+name_in kind = if same_kind (kind_of kind) k.Name then word_in kind else None
 
-abbrev pub number_of : TokenKind → ℤ
-number_of (t.Word w) = pos 0
-number_of (t.Number n) = unsigned n
-number_of (t.Sign s) = pos 0
+-- the number that a token is, which has no sign
+abbrev pub number_in : TokenKind → Option ℤ
+number_in (t.Number (pos n)) = Some (pos n)
+number_in (t.Number (negsuc n)) = None
+number_in (t.Word w) = None
+number_in (t.Sign s) = None
 
+-- the reading of the aspect whose name a token is
 abbrev pub aspect_in : TokenKind → Option ReadingKind
-aspect_in kind = aspect_of (word_of kind)
+aspect_in (t.Word w) = aspect_of w
+aspect_in (t.Number n) = None
+aspect_in (t.Sign s) = None
 
 -- the value of a token of this kind
 abbrev pub where_kind : {A : Type 0} → Kind → (Token → A) → Token → Option A
 where_kind kind value t = if same_kind (kind_of t.kind) kind then Some (value t) else None
 
+-- a value with the line, where there is one
 abbrev pub with_line : {A : Type 0} → Option A → ℕ → Option (A × ℕ)
 with_line None line = None
 with_line (Some a) line = Some (a, line)
 
+-- the line of a token
 abbrev pub line_of : Token → ℕ
 line_of t = t.line
 
 -- a name with its line
-abbrev pub called_by : Token → List ℕ × ℕ
-called_by t = (word_of t.kind, t.line)
-
-abbrev pub numbered_by : Token → ℤ
-numbered_by t = number_of t.kind
+abbrev pub name_at : Token → Option (List ℕ × ℕ)
+name_at t = with_line (name_in t.kind) t.line
 
 -- ---- parsers
 
+-- a value and what is left behind it, or a refusal with the tokens from the refused one on
 abbrev pub Outcome : Type 0 → Type 0
 Outcome A = Result (A × Input) (Reason × List Token)
 
+-- what is read from an input
 abbrev pub Parser : Type 0 → Type 0
 Parser A = Input → Outcome A
 
+-- goes on with a value, or stays at the refusal
 abbrev pub and_then : {A B : Type 0} → Outcome A → (A → Parser B) → Outcome B
 and_then (Ok p) f = f p.0 p.1
 and_then (Err e) f = Err e
 
+-- one parser, and then one that may depend on its value
 infixl 10 ◌>>=◌
 abbrev pub ◌>>=◌ : {A B : Type 0} → Parser A → (A → Parser B) → Parser B
 p >>= f = λ i. and_then (p i) f
 
+-- one parser, and then another
 infixl 10 ◌>>◌
 abbrev pub ◌>>◌ : {A B : Type 0} → Parser A → Parser B → Parser B
 p >> q = p >>= (λ _. q)
 
+-- a value, for which nothing is read
 abbrev pub pure : {A : Type 0} → A → Parser A
 pure a = λ i. Ok (a, i)
 
@@ -108,6 +121,7 @@ by_mark fine a t s n = Ok (a, input s n)
 by_mark deep a t s n = Err (TooDeep, t ∷ s)
 by_mark wrong a t s n = Err (Frequency, t ∷ s)
 
+-- a token of which nothing was picked is refused
 abbrev pub picked : {A : Type 0} → Option A → Mark → Token → List Token → ℕ → Outcome A
 picked None mark t s n = Err (Unexpected, t ∷ s)
 picked (Some a) mark t s n = by_mark mark a t s n
@@ -117,12 +131,15 @@ abbrev pub token_at : {A : Type 0} → (Token → Option A) → (ℕ → Token �
 token_at pick mark left [] n = Err (Unexpected, [])
 token_at pick mark left (t ∷ s) n = picked (pick t) (mark n t) t s (left n)
 
+-- one token, as it stands at the front of an input
 unfoldable pub token : {A : Type 0} → (Token → Option A) → (ℕ → Token → Mark) → (ℕ → ℕ) → Parser A
 token pick mark left = λ i. token_at pick mark left i.rest i.operators
 
+-- no token passes a limit
 abbrev pub no_limit : ℕ → Token → Mark
 no_limit n t = fine
 
+-- as many operators are left
 abbrev pub as_many : ℕ → ℕ
 as_many n = n
 
@@ -131,6 +148,7 @@ abbrev pub limit : ℕ → Mark
 limit zero = deep
 limit (suc n) = fine
 
+-- one operator less is left
 abbrev pub below : ℕ → ℕ
 below zero = zero
 below (suc n) = n
@@ -139,11 +157,13 @@ below (suc n) = n
 abbrev pub expect : Kind → Parser ℕ
 expect kind = token (where_kind kind line_of) no_limit as_many
 
+-- a name, and its line
 abbrev pub called : Parser (List ℕ × ℕ)
-called = token (where_kind k.Name called_by) no_limit as_many
+called = token name_at no_limit as_many
 
+-- a number
 abbrev pub number : Parser ℤ
-number = token (where_kind k.Number numbered_by) no_limit as_many
+number = token (λ t. number_in t.kind) no_limit as_many
 
 -- a token that opens a level, where this many are left
 abbrev pub enter : ℕ → Kind → Parser ℕ
@@ -153,33 +173,48 @@ enter levels kind = token (where_kind kind line_of) (λ n t. limit levels) as_ma
 abbrev pub operator : Rank → Parser BinaryOp
 operator rank = token (λ t. operator_of rank (kind_of t.kind)) (λ n t. limit n) below
 
+-- the word of a reading
 abbrev pub reading : Parser ReadingKind
 reading = token (λ t. reading_of (kind_of t.kind)) no_limit as_many
 
+-- the name of an aspect
 abbrev pub aspect : Parser ReadingKind
-aspect = token (λ t. aspect_of (word_of t.kind)) no_limit as_many
+aspect = token (λ t. aspect_in t.kind) no_limit as_many
 
+-- the word of a command, and its line
 abbrev pub command : Parser (CommandKind × ℕ)
 command = token (λ t. with_line (command_of (kind_of t.kind)) t.line) no_limit as_many
 
+-- the word of a timer command, and its line
 abbrev pub timer : Parser (TimerKind × ℕ)
 timer = token (λ t. with_line (timer_of (kind_of t.kind)) t.line) no_limit as_many
 
 -- a frequency is 1
-abbrev pub is_one : ℤ → Bool
-is_one (pos n) = n == 1
-is_one _ = false
+abbrev pub is_one : Option ℤ → Bool
+is_one (Some (pos n)) = n == 1
+is_one (Some (negsuc n)) = false
+is_one None = false
 
 abbrev pub frequency_mark : ℕ → Token → Mark
-frequency_mark n t = if is_one (number_of t.kind) then fine else wrong
+frequency_mark n t = if is_one (number_in t.kind) then fine else wrong
 
+-- the number of a frequency
 abbrev pub frequency : Parser ℤ
-frequency = token (where_kind k.Number numbered_by) frequency_mark as_many
+frequency = token (λ t. number_in t.kind) frequency_mark as_many
 
--- the operators are counted anew
+-- how many operators on two numbers a statement may have, its branches not counted
 abbrev pub max_operators : ℕ
 max_operators = 900
 
+-- how deep brackets and signs may nest in an expression
+abbrev pub max_levels : ℕ
+max_levels = 32
+
+-- how deep IF may nest
+abbrev pub max_ifs : ℕ
+max_ifs = 100
+
+-- the operators are counted anew
 abbrev pub anew : {A : Type 0} → Parser A → Parser A
 anew p = λ i. p (input i.rest max_operators)
 
@@ -190,10 +225,12 @@ depth_behind k.Close zero = None
 depth_behind k.Close (suc depth) = Some depth
 depth_behind _ depth = Some depth
 
+-- goes on inside, or is done
 abbrev pub skip_on : Option ℕ → (ℕ → Outcome (Unit {0})) → Outcome (Unit {0}) → Outcome (Unit {0})
 skip_on None deeper done = done
 skip_on (Some depth) deeper done = deeper depth
 
+-- goes on by the kind of a token
 abbrev pub skip_by : Kind → ℕ → (ℕ → Outcome (Unit {0})) → Outcome (Unit {0}) → Outcome (Unit {0})
 skip_by kind depth deeper done = skip_on (depth_behind kind depth) deeper done
 
@@ -202,6 +239,7 @@ abbrev pub skip : List Token → ℕ → ℕ → Outcome (Unit {0})
 skip [] depth n = Err (Unexpected, [])
 skip (t ∷ s) depth n = skip_by (kind_of t.kind) depth (λ m. skip s m n) (Ok (tt, input s n))
 
+-- tokens up to the round bracket that closes
 unfoldable pub skipped : Parser (Unit {0})
 skipped = λ i. skip i.rest 0 i.operators
 
@@ -215,19 +253,23 @@ ended = λ i. ended_at i.rest i.operators
 
 -- ---- turns, each of which takes a token, so that the count of tokens is enough
 
+-- at most so many turns
 unfoldable pub repeat : {A : Type 0} → (Kind → Bool) → (A → Parser A) → ℕ → A → Parser A
 repeat test turn zero x = pure x
 repeat test turn (suc n) x = λ i. if test (kind i) then and_then (turn x i) (repeat test turn n) else Ok (x, i)
 
+-- turns as long as the next token passes the test
 unfoldable pub many : {A : Type 0} → (Kind → Bool) → (A → Parser A) → A → Parser A
 many test turn x = λ i. repeat test turn (suc (length i.rest)) x i
 
 -- ---- what a function that parses ensures: the parser's outcome, unless memory fails
 
+-- memory ran out, or the refusal is the outcome
 abbrev pub Stopped : {A : Type 0} → Outcome A → Stop → Input → Type 0
 Stopped outcome Memory new = Unit {0}
 Stopped outcome (Refused why) new = outcome ≡ Err (why, new.rest)
 
+-- what was read is the outcome
 abbrev pub Reads : {A : Type 0} → Outcome A → Result A Stop → Input → Type 0
 Reads outcome (Ok a) new = outcome ≡ Ok (a, new)
 Reads outcome (Err e) new = Stopped outcome e new

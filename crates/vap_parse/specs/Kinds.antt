@@ -20,6 +20,7 @@ use Rattle.vap_parse.specs.declared.kind.Kind.TheVariants as k
 use Rattle.vap_parse.specs.declared.kind.Rank.{Rank}
 use Rattle.vap_parse.specs.declared.kind.Rank.TheVariants as rank
 
+-- the kind of each sign
 abbrev pub sign_kind : Sign → Kind
 sign_kind s.Assign = k.Assign
 sign_kind s.Colon = k.Colon
@@ -41,6 +42,7 @@ sign_kind s.Minus = k.Minus
 sign_kind s.Star = k.Star
 sign_kind s.Slash = k.Slash
 
+-- reserved words of readings, and else a name
 unfoldable pub reading_word : List ℕ → Kind
 reading_word w =
     if bytes_eq w (codes "occupancy") then k.Occupancy
@@ -54,6 +56,7 @@ reading_word w =
     else (if bytes_eq w (codes "interstage_active") then k.InterstageActive
     else k.Name))))))))
 
+-- reserved words of commands, and else those of readings
 unfoldable pub command_word : List ℕ → Kind
 command_word w =
     if bytes_eq w (codes "reset") then k.Reset
@@ -67,6 +70,7 @@ command_word w =
     else (if bytes_eq w (codes "detection") then k.Detection
     else reading_word w))))))))
 
+-- reserved words of statements and operators, and else those of commands
 unfoldable pub statement_word : List ℕ → Kind
 statement_word w =
     if bytes_eq w (codes "end") then k.End
@@ -80,6 +84,7 @@ statement_word w =
     else (if bytes_eq w (codes "stop") then k.Stop
     else command_word w))))))))
 
+-- the kind of a word: reserved words of the structure, and else those of statements
 unfoldable pub structure_word : List ℕ → Kind
 structure_word w =
     if bytes_eq w (codes "program") then k.Program
@@ -97,6 +102,7 @@ structure_word w =
 abbrev pub word_kind : List ℕ → Kind
 word_kind w = structure_word w
 
+-- the kind of a token
 abbrev pub kind_of : TokenKind → Kind
 kind_of (t.Word w) = word_kind w
 kind_of (t.Number n) = k.Number
@@ -122,6 +128,7 @@ operator_of rank.Product k.Star = Some op.Mul
 operator_of rank.Product k.Slash = Some op.Div
 operator_of _ _ = None
 
+-- the reading of a word
 abbrev pub reading_of : Kind → Option ReadingKind
 reading_of k.Detection = Some reading.Detection
 reading_of k.Occupancy = Some reading.Occupancy
@@ -135,6 +142,7 @@ reading_of k.StageDuration = Some reading.StageDuration
 reading_of k.InterstageActive = Some reading.InterstageActive
 reading_of _ = None
 
+-- the command of a word
 abbrev pub command_of : Kind → Option CommandKind
 command_of k.Interstage = Some command.Interstage
 command_of k.SgGreen = Some command.SgGreen
@@ -143,6 +151,7 @@ command_of k.ClearFrontEnds = Some command.ClearFronts
 command_of k.ClearRearEnds = Some command.ClearRears
 command_of _ = None
 
+-- the timer command of a word
 abbrev pub timer_of : Kind → Option TimerKind
 timer_of k.Start = Some timer.Start
 timer_of k.Stop = Some timer.Stop

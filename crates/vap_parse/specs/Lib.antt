@@ -1,7 +1,7 @@
 pub mod Kinds
 pub mod Input
 pub mod Forms
-pub mod Reading
+pub mod Descent
 pub mod View
 pub mod Grammar
 pub mod Refusal

@@ -1,17 +1,19 @@
 // The tokens that are left.
-ghost use Rattle.std.specs.Prelude.{◌≡◌, ◌<◌, ◌≤◌, ◌+◌, IfOk, IfSome, IsOk};
+ghost use Rattle.std.specs.Prelude.{◌≡◌, ◌<◌, ◌≤◌, ◌+◌, [], ◌∷◌, None, Some, Ok, Err, IfOk, IfErr, IfSome, IsOk, MatchOption};
 ghost use Rattle.std.specs.List.{All};
 ghost use Rattle.vap_lex.specs.Kept.{IsKept, IsNatural};
 ghost use Rattle.vap_parse.specs.Kinds.{same_kind};
 ghost use Rattle.vap_parse.specs.Input as spec;
 ghost use Rattle.vap_parse.specs.Input.{Reads, Input};
+ghost use Rattle.vap_parse.specs.declared.kind.Reason.TheVariants.{Unexpected};
+ghost use Rattle.vap_parse.specs.declared.stop.Stop.TheVariants.{Refused};
 
 use crate::kind::{
     Kind, Rank, Reason, aspect_of, command_of, kind_of, operator_of, reading_of, same_kind,
     timer_of,
 };
 use crate::stop::Stop;
-use sig_types::{CommandKind, Memory, ReadingKind, TimerKind};
+use sig_types::{CommandKind, ReadingKind, TimerKind};
 use std::alloc::Global;
 use std::marker::Model;
 use vap_ast::{BinaryOp, Name};
@@ -72,21 +74,26 @@ impl<'a> Cursor<'a> {
         self.operators = operators;
     }
 
+    // The next token and those behind it.
+    fn first(&self) -> Result<(&'a Token, &'a [Token]), Stop>
+        ensures found { IfOk result (λ p. self.now.rest ≡ p.0.now ∷ p.1.now) }
+        ensures none_left { IfErr result (λ e. (self.now.rest ≡ []) × (e ≡ Refused Unexpected)) }
+    {
+        match self.tokens {
+            [first, rest @ ..] => Ok((first, rest)),
+            [] => Err(Stop::Refused(Reason::Unexpected)),
+        }
+    }
+
     /// Takes a token of this kind; its line.
     #[tactic(auto, unfolding(crate::specs::Input::token))]
     pub fn expect(&mut self, kind: Kind) -> Result<u32, Stop>
         ensures { Reads (spec.expect kind self.old) result self.new }
     {
-        match self.tokens {
-            [first, rest @ ..] => {
-                if !same_kind(kind_of(&first.kind), kind) {
-                    return Err(Stop::Refused(Reason::Unexpected));
-                }
-                self.tokens = rest;
-                Ok(first.line)
-            }
-            [] => Err(Stop::Refused(Reason::Unexpected)),
-        }
+        let (first, rest) = self.first()?;
+        let line = expected(line_where(kind, first))?;
+        self.tokens = rest;
+        Ok(line)
     }
 
     /// Takes a name; its word and its line.
@@ -94,17 +101,10 @@ impl<'a> Cursor<'a> {
     pub fn called(&mut self, alloc: Global) -> Result<(Name, u32), Stop>
         ensures { Reads (spec.called self.old) result self.new }
     {
-        match self.tokens {
-            [first, rest @ ..] => {
-                if !same_kind(kind_of(&first.kind), Kind::Name) {
-                    return Err(Stop::Refused(Reason::Unexpected));
-                }
-                let word = word_of(alloc, &first.kind)?;
-                self.tokens = rest;
-                Ok((word, first.line))
-            }
-            [] => Err(Stop::Refused(Reason::Unexpected)),
-        }
+        let (first, rest) = self.first()?;
+        let name = expected(name_in(&first.kind))?.copy(alloc)?;
+        self.tokens = rest;
+        Ok((name, first.line))
     }
 
     /// Takes a number.
@@ -113,16 +113,10 @@ impl<'a> Cursor<'a> {
         ensures reads { Reads (spec.number self.old) result self.new }
         ensures natural { IfOk result IsNatural }
     {
-        match self.tokens {
-            [first, rest @ ..] => {
-                if !same_kind(kind_of(&first.kind), Kind::Number) {
-                    return Err(Stop::Refused(Reason::Unexpected));
-                }
-                self.tokens = rest;
-                Ok(number_of(&first.kind))
-            }
-            [] => Err(Stop::Refused(Reason::Unexpected)),
-        }
+        let (first, rest) = self.first()?;
+        let number = expected(number_in(&first.kind))?;
+        self.tokens = rest;
+        Ok(number)
     }
 
     /// Takes the number of a frequency, which is 1.
@@ -130,41 +124,28 @@ impl<'a> Cursor<'a> {
     pub fn frequency(&mut self) -> Result<i32, Stop>
         ensures { Reads (spec.frequency self.old) result self.new }
     {
-        match self.tokens {
-            [first, rest @ ..] => {
-                if !same_kind(kind_of(&first.kind), Kind::Number) {
-                    return Err(Stop::Refused(Reason::Unexpected));
-                }
-                let number = number_of(&first.kind);
-                if !is_one(number) {
-                    return Err(Stop::Refused(Reason::Frequency));
-                }
-                self.tokens = rest;
-                Ok(number)
-            }
-            [] => Err(Stop::Refused(Reason::Unexpected)),
+        let (first, rest) = self.first()?;
+        let number = expected(number_in(&first.kind))?;
+        if number != 1 {
+            return Err(Stop::Refused(Reason::Frequency));
         }
+        self.tokens = rest;
+        Ok(number)
     }
 
     /// Takes a token of this kind, which opens a level, where this many are left; its line.
     #[tactic(auto, unfolding(crate::specs::Input::token))]
     pub fn enter(&mut self, levels: usize, kind: Kind) -> Result<u32, Stop>
         ensures reads { Reads (spec.enter levels kind self.old) result self.new }
-        ensures some { IsOk result → 0 < levels }
+        ensures level_left { IsOk result → 0 < levels }
     {
-        match self.tokens {
-            [first, rest @ ..] => {
-                if !same_kind(kind_of(&first.kind), kind) {
-                    return Err(Stop::Refused(Reason::Unexpected));
-                }
-                if levels == 0 {
-                    return Err(Stop::Refused(Reason::TooDeep));
-                }
-                self.tokens = rest;
-                Ok(first.line)
-            }
-            [] => Err(Stop::Refused(Reason::Unexpected)),
+        let (first, rest) = self.first()?;
+        let line = expected(line_where(kind, first))?;
+        if levels == 0 {
+            return Err(Stop::Refused(Reason::TooDeep));
         }
+        self.tokens = rest;
+        Ok(line)
     }
 
     /// Takes an operator of this rank, where the statement may have one more.
@@ -172,20 +153,14 @@ impl<'a> Cursor<'a> {
     pub fn operator(&mut self, rank: Rank) -> Result<BinaryOp, Stop>
         ensures { Reads (spec.operator rank self.old) result self.new }
     {
-        match self.tokens {
-            [first, rest @ ..] => match operator_of(rank, kind_of(&first.kind)) {
-                Some(op) => {
-                    if self.operators == 0 {
-                        return Err(Stop::Refused(Reason::TooDeep));
-                    }
-                    self.operators -= 1;
-                    self.tokens = rest;
-                    Ok(op)
-                }
-                None => Err(Stop::Refused(Reason::Unexpected)),
-            },
-            [] => Err(Stop::Refused(Reason::Unexpected)),
+        let (first, rest) = self.first()?;
+        let op = expected(operator_of(rank, kind_of(&first.kind)))?;
+        if self.operators == 0 {
+            return Err(Stop::Refused(Reason::TooDeep));
         }
+        self.operators -= 1;
+        self.tokens = rest;
+        Ok(op)
     }
 
     /// Takes the word of a reading.
@@ -193,16 +168,10 @@ impl<'a> Cursor<'a> {
     pub fn reading(&mut self) -> Result<ReadingKind, Stop>
         ensures { Reads (spec.reading self.old) result self.new }
     {
-        match self.tokens {
-            [first, rest @ ..] => match reading_of(kind_of(&first.kind)) {
-                Some(kind) => {
-                    self.tokens = rest;
-                    Ok(kind)
-                }
-                None => Err(Stop::Refused(Reason::Unexpected)),
-            },
-            [] => Err(Stop::Refused(Reason::Unexpected)),
-        }
+        let (first, rest) = self.first()?;
+        let kind = expected(reading_of(kind_of(&first.kind)))?;
+        self.tokens = rest;
+        Ok(kind)
     }
 
     /// Takes the name of an aspect; the reading of it.
@@ -210,16 +179,10 @@ impl<'a> Cursor<'a> {
     pub fn aspect(&mut self) -> Result<ReadingKind, Stop>
         ensures { Reads (spec.aspect self.old) result self.new }
     {
-        match self.tokens {
-            [first, rest @ ..] => match aspect_in(&first.kind) {
-                Some(kind) => {
-                    self.tokens = rest;
-                    Ok(kind)
-                }
-                None => Err(Stop::Refused(Reason::Unexpected)),
-            },
-            [] => Err(Stop::Refused(Reason::Unexpected)),
-        }
+        let (first, rest) = self.first()?;
+        let kind = expected(aspect_in(&first.kind))?;
+        self.tokens = rest;
+        Ok(kind)
     }
 
     /// Takes the word of a command; the command and its line.
@@ -227,16 +190,10 @@ impl<'a> Cursor<'a> {
     pub fn command(&mut self) -> Result<(CommandKind, u32), Stop>
         ensures { Reads (spec.command self.old) result self.new }
     {
-        match self.tokens {
-            [first, rest @ ..] => match command_of(kind_of(&first.kind)) {
-                Some(kind) => {
-                    self.tokens = rest;
-                    Ok((kind, first.line))
-                }
-                None => Err(Stop::Refused(Reason::Unexpected)),
-            },
-            [] => Err(Stop::Refused(Reason::Unexpected)),
-        }
+        let (first, rest) = self.first()?;
+        let kind = expected(command_of(kind_of(&first.kind)))?;
+        self.tokens = rest;
+        Ok((kind, first.line))
     }
 
     /// Takes the word of a timer command; the command and its line.
@@ -244,16 +201,10 @@ impl<'a> Cursor<'a> {
     pub fn timer(&mut self) -> Result<(TimerKind, u32), Stop>
         ensures { Reads (spec.timer self.old) result self.new }
     {
-        match self.tokens {
-            [first, rest @ ..] => match timer_of(kind_of(&first.kind)) {
-                Some(kind) => {
-                    self.tokens = rest;
-                    Ok((kind, first.line))
-                }
-                None => Err(Stop::Refused(Reason::Unexpected)),
-            },
-            [] => Err(Stop::Refused(Reason::Unexpected)),
-        }
+        let (first, rest) = self.first()?;
+        let kind = expected(timer_of(kind_of(&first.kind)))?;
+        self.tokens = rest;
+        Ok((kind, first.line))
     }
 
     /// Takes tokens up to the bracket that closes, round brackets being balanced before it.
@@ -289,7 +240,7 @@ impl<'a> Cursor<'a> {
 fn depth_behind(kind: Kind, depth: usize) -> Option<usize>
     requires { depth < 9223372036854775808 }
     ensures depth { result ≡ spec.depth_behind kind depth }
-    ensures near { IfSome result (λ d. d ≤ depth + 1) }
+    ensures one_more_at_most { IfSome result (λ d. d ≤ depth + 1) }
 {
     match kind {
         Kind::Open => Some(depth + 1),
@@ -298,43 +249,54 @@ fn depth_behind(kind: Kind, depth: usize) -> Option<usize>
     }
 }
 
-fn is_one(number: i32) -> bool
-    ensures { result ≡ spec.is_one number }
+// What was picked of a token, or a refusal where nothing was.
+fn expected<A: Drop>(picked: Option<A>) -> Result<A, Stop>
+    ensures { MatchOption picked (result ≡ Err (Refused Unexpected)) (λ a. result ≡ Ok a) }
 {
-    number == 1
-}
-
-fn unsigned(number: i32) -> i32
-    ensures number { result ≡ spec.unsigned number }
-    ensures natural { IsNatural result }
-{
-    if number < 0 { 0 } else { number }
-}
-
-fn number_of(token: &TokenKind) -> i32
-    ensures number { result ≡ spec.number_of token.now }
-    ensures natural { IsNatural result }
-{
-    match token {
-        TokenKind::Number(n) => unsigned(*n),
-        TokenKind::Word(_) | TokenKind::Sign(_) => 0,
+    match picked {
+        Some(value) => Ok(value),
+        None => Err(Stop::Refused(Reason::Unexpected)),
     }
 }
 
+// The line of a token, where it is of this kind.
+fn line_where(kind: Kind, token: &Token) -> Option<u32>
+    ensures { result ≡ spec.where_kind kind spec.line_of token.now }
+{
+    if same_kind(kind_of(&token.kind), kind) {
+        Some(token.line)
+    } else {
+        None
+    }
+}
+
+// The name that a token is, if it is one.
+fn name_in(token: &TokenKind) -> Option<&Name>
+    ensures { MatchOption result (spec.name_in token.now ≡ None) (λ n. spec.name_in token.now ≡ Some n.now) }
+{
+    match token {
+        TokenKind::Word(name) if same_kind(kind_of(token), Kind::Name) => Some(name),
+        TokenKind::Word(_) | TokenKind::Number(_) | TokenKind::Sign(_) => None,
+    }
+}
+
+// The number that a token is, if it is one; a number of a text has no sign.
+fn number_in(token: &TokenKind) -> Option<i32>
+    ensures number { result ≡ spec.number_in token.now }
+    ensures natural { IfSome result IsNatural }
+{
+    match token {
+        TokenKind::Number(n) if *n >= 0 => Some(*n),
+        TokenKind::Number(_) | TokenKind::Word(_) | TokenKind::Sign(_) => None,
+    }
+}
+
+// The reading of an aspect whose name a token is, if it is one.
 fn aspect_in(token: &TokenKind) -> Option<ReadingKind>
     ensures { result ≡ spec.aspect_in token.now }
 {
     match token {
         TokenKind::Word(name) => aspect_of(name.bytes()),
         TokenKind::Number(_) | TokenKind::Sign(_) => None,
-    }
-}
-
-fn word_of(alloc: Global, token: &TokenKind) -> Result<Name, Memory>
-    ensures { IfOk result (λ w. w ≡ spec.word_of token.now) }
-{
-    match token {
-        TokenKind::Word(name) => name.copy(alloc),
-        TokenKind::Number(_) | TokenKind::Sign(_) => Name::make(alloc, b"a"),
     }
 }

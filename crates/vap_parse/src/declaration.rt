@@ -3,7 +3,7 @@ ghost use Rattle.std.specs.Prelude.{◌≡◌, map, IfOk};
 ghost use Rattle.vap_ast.specs.Tree.{array_of, constant_of};
 ghost use Rattle.vap_parse.specs.Input as spec;
 ghost use Rattle.vap_parse.specs.Input.{Builds, Leaves, Reads};
-ghost use Rattle.vap_parse.specs.Reading as rule;
+ghost use Rattle.vap_parse.specs.Descent as rule;
 ghost use Rattle.vap_parse.specs.View.{values_of};
 ghost use Rattle.vap_parse.specs.declared.kind.Kind.TheVariants as kind;
 
@@ -14,7 +14,7 @@ use crate::stop::Stop;
 use std::alloc::Global;
 use vap_ast::{ArrayDecl, ConstDecl};
 
-#[tactic(auto, unfolding(crate::specs::Reading::below_zero))]
+#[tactic(auto, unfolding(crate::specs::Descent::below_zero))]
 fn below_zero(tokens: &mut Cursor<'_>) -> Result<i32, Stop>
     ensures { Reads (rule.below_zero tokens.old) result tokens.new }
 {
@@ -23,7 +23,7 @@ fn below_zero(tokens: &mut Cursor<'_>) -> Result<i32, Stop>
     Ok(-number)
 }
 
-#[tactic(auto, unfolding(crate::specs::Reading::value))]
+#[tactic(auto, unfolding(crate::specs::Descent::value))]
 fn value(tokens: &mut Cursor<'_>) -> Result<i32, Stop>
     ensures { Reads (rule.value tokens.old) result tokens.new }
 {
@@ -34,7 +34,7 @@ fn value(tokens: &mut Cursor<'_>) -> Result<i32, Stop>
     }
 }
 
-#[tactic(auto, unfolding(crate::specs::Reading::constant))]
+#[tactic(auto, unfolding(crate::specs::Descent::constant))]
 fn constant(alloc: Global, tokens: &mut Cursor<'_>) -> Result<ConstDecl, Stop>
     ensures { Builds constant_of (rule.constant tokens.old) result tokens.new }
 {
@@ -44,7 +44,7 @@ fn constant(alloc: Global, tokens: &mut Cursor<'_>) -> Result<ConstDecl, Stop>
     Ok(ConstDecl { name, line, value })
 }
 
-#[tactic(auto, unfolding(crate::specs::Reading::next_constant))]
+#[tactic(auto, unfolding(crate::specs::Descent::next_constant))]
 fn more_constants(
     alloc: Global,
     tokens: &mut Cursor<'_>,
@@ -60,7 +60,7 @@ fn more_constants(
     Ok(())
 }
 
-#[tactic(auto, unfolding(crate::specs::Reading::constants))]
+#[tactic(auto, unfolding(crate::specs::Descent::constants))]
 fn constants(
     alloc: Global,
     tokens: &mut Cursor<'_>,
@@ -74,7 +74,7 @@ fn constants(
     more_constants(alloc, tokens, consts)
 }
 
-#[tactic(auto, unfolding(crate::specs::Reading::next_value))]
+#[tactic(auto, unfolding(crate::specs::Descent::next_value))]
 fn more_values(tokens: &mut Cursor<'_>, values: &mut Vec<i32>) -> Result<(), Stop>
     ensures { Leaves (spec.many (rule.is kind.Comma) rule.next_value values.old.items tokens.old) result values.new.items tokens.new }
 {
@@ -86,7 +86,7 @@ fn more_values(tokens: &mut Cursor<'_>, values: &mut Vec<i32>) -> Result<(), Sto
     Ok(())
 }
 
-#[tactic(auto, unfolding(crate::specs::Reading::values))]
+#[tactic(auto, unfolding(crate::specs::Descent::values))]
 fn values(alloc: Global, tokens: &mut Cursor<'_>) -> Result<Vec<i32>, Stop>
     ensures { Builds values_of (rule.values tokens.old) result tokens.new }
 {
@@ -99,7 +99,7 @@ fn values(alloc: Global, tokens: &mut Cursor<'_>) -> Result<Vec<i32>, Stop>
     Ok(values)
 }
 
-#[tactic(auto, unfolding(crate::specs::Reading::array))]
+#[tactic(auto, unfolding(crate::specs::Descent::array))]
 fn array(alloc: Global, tokens: &mut Cursor<'_>) -> Result<ArrayDecl, Stop>
     ensures { Builds array_of (rule.array tokens.old) result tokens.new }
 {
@@ -117,7 +117,7 @@ fn array(alloc: Global, tokens: &mut Cursor<'_>) -> Result<ArrayDecl, Stop>
     })
 }
 
-#[tactic(auto, unfolding(crate::specs::Reading::next_array))]
+#[tactic(auto, unfolding(crate::specs::Descent::next_array))]
 fn more_arrays(
     alloc: Global,
     tokens: &mut Cursor<'_>,
@@ -133,7 +133,7 @@ fn more_arrays(
     Ok(())
 }
 
-#[tactic(auto, unfolding(crate::specs::Reading::arrays))]
+#[tactic(auto, unfolding(crate::specs::Descent::arrays))]
 fn arrays(alloc: Global, tokens: &mut Cursor<'_>, arrays: &mut Vec<ArrayDecl>) -> Result<(), Stop>
     ensures { Leaves (rule.arrays (map array_of arrays.old.items) tokens.old) result (map array_of arrays.new.items) tokens.new }
 {
@@ -143,7 +143,7 @@ fn arrays(alloc: Global, tokens: &mut Cursor<'_>, arrays: &mut Vec<ArrayDecl>) -
     more_arrays(alloc, tokens, arrays)
 }
 
-#[tactic(auto, unfolding(crate::specs::Reading::frequencies))]
+#[tactic(auto, unfolding(crate::specs::Descent::frequencies))]
 fn frequency(tokens: &mut Cursor<'_>) -> Result<(), Stop>
     ensures { Reads (rule.frequencies tokens.old) result tokens.new }
 {
@@ -152,7 +152,7 @@ fn frequency(tokens: &mut Cursor<'_>) -> Result<(), Stop>
     Ok(())
 }
 
-#[tactic(auto, unfolding(crate::specs::Reading::one_declaration, crate::specs::Reading::declared_frequency, crate::specs::Reading::declared_constants, crate::specs::Reading::declared_arrays))]
+#[tactic(auto, unfolding(crate::specs::Descent::one_declaration, crate::specs::Descent::declared_frequency, crate::specs::Descent::declared_constants, crate::specs::Descent::declared_arrays))]
 fn one_declaration(
     alloc: Global,
     tokens: &mut Cursor<'_>,
@@ -170,7 +170,7 @@ fn one_declaration(
     }
 }
 
-#[tactic(auto, unfolding(crate::specs::Reading::declaration))]
+#[tactic(auto, unfolding(crate::specs::Descent::declaration))]
 fn declaration(
     alloc: Global,
     tokens: &mut Cursor<'_>,

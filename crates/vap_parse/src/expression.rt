@@ -3,7 +3,7 @@ ghost use Rattle.std.specs.Prelude.{◌≡◌, ◌<◌, ◌∷◌, [], IfOk};
 ghost use Rattle.vap_ast.specs.Syntax as tree;
 ghost use Rattle.vap_ast.specs.Tree.{exprs, expr_of, exprs_of};
 ghost use Rattle.vap_parse.specs.Input.{Builds, Reads};
-ghost use Rattle.vap_parse.specs.Reading as rule;
+ghost use Rattle.vap_parse.specs.Descent as rule;
 ghost use Rattle.vap_parse.specs.View.{args_of};
 ghost use Rattle.vap_parse.specs.declared.kind.Rank.TheVariants as rank;
 
@@ -62,14 +62,14 @@ fn is_operator(rank: Rank, kind: Kind) -> bool
     operator_of(rank, kind).is_some()
 }
 
-#[tactic(auto, unfolding(crate::specs::Reading::literal))]
+#[tactic(auto, unfolding(crate::specs::Descent::literal))]
 fn literal(tokens: &mut Cursor<'_>) -> Result<Expr, Stop>
     ensures { Builds expr_of (rule.literal tokens.old) result tokens.new }
 {
     Ok(Expr::Literal(tokens.number()?))
 }
 
-#[tactic(auto, unfolding(crate::specs::Reading::active, crate::specs::Reading::empty_brackets))]
+#[tactic(auto, unfolding(crate::specs::Descent::active, crate::specs::Descent::empty_brackets))]
 fn active(alloc: Global, tokens: &mut Cursor<'_>, levels: usize) -> Result<Expr, Stop>
     ensures { Builds expr_of (rule.active levels (rule.inner levels) tokens.old) result tokens.new }
 {
@@ -83,7 +83,7 @@ fn active(alloc: Global, tokens: &mut Cursor<'_>, levels: usize) -> Result<Expr,
 
 /// An index in brackets, where so many levels are left.
 #[cycle(expression)]
-#[tactic(auto, unfolding(crate::specs::Reading::index))]
+#[tactic(auto, unfolding(crate::specs::Descent::index))]
 pub fn index(alloc: Global, tokens: &mut Cursor<'_>, levels: usize) -> Result<Expr, Stop>
     ensures { Builds expr_of (rule.index levels (rule.inner levels) tokens.old) result tokens.new }
 {
@@ -94,7 +94,7 @@ pub fn index(alloc: Global, tokens: &mut Cursor<'_>, levels: usize) -> Result<Ex
 }
 
 #[cycle(expression)]
-#[tactic(auto, unfolding(crate::specs::Reading::brackets))]
+#[tactic(auto, unfolding(crate::specs::Descent::brackets))]
 fn brackets(alloc: Global, tokens: &mut Cursor<'_>, levels: usize) -> Result<Expr, Stop>
     ensures { Builds expr_of (rule.brackets levels (rule.inner levels) tokens.old) result tokens.new }
 {
@@ -106,7 +106,7 @@ fn brackets(alloc: Global, tokens: &mut Cursor<'_>, levels: usize) -> Result<Exp
 
 /// Arguments in brackets, where so many levels are left.
 #[cycle(expression)]
-#[tactic(auto, unfolding(crate::specs::Reading::arguments))]
+#[tactic(auto, unfolding(crate::specs::Descent::arguments))]
 pub fn arguments(alloc: Global, tokens: &mut Cursor<'_>, levels: usize) -> Result<Vec<Expr>, Stop>
     ensures { Builds args_of (rule.arguments levels (rule.inner levels) tokens.old) result tokens.new }
 {
@@ -120,7 +120,7 @@ pub fn arguments(alloc: Global, tokens: &mut Cursor<'_>, levels: usize) -> Resul
 }
 
 #[cycle(expression)]
-#[tactic(auto, unfolding(crate::specs::Reading::some_arguments, crate::specs::Reading::next_argument))]
+#[tactic(auto, unfolding(crate::specs::Descent::some_arguments, crate::specs::Descent::next_argument))]
 fn some_arguments(alloc: Global, tokens: &mut Cursor<'_>, levels: usize) -> Result<Vec<Expr>, Stop>
     requires { 0 < levels }
     ensures { Builds args_of (rule.some_arguments levels (rule.inner levels) tokens.old) result tokens.new }
@@ -137,7 +137,7 @@ fn some_arguments(alloc: Global, tokens: &mut Cursor<'_>, levels: usize) -> Resu
 }
 
 #[cycle(expression)]
-#[tactic(auto, unfolding(crate::specs::Reading::a_reading))]
+#[tactic(auto, unfolding(crate::specs::Descent::a_reading))]
 fn reading(alloc: Global, tokens: &mut Cursor<'_>, levels: usize) -> Result<Expr, Stop>
     ensures { Builds expr_of (rule.a_reading levels (rule.inner levels) tokens.old) result tokens.new }
 {
@@ -147,7 +147,7 @@ fn reading(alloc: Global, tokens: &mut Cursor<'_>, levels: usize) -> Result<Expr
 }
 
 #[cycle(expression)]
-#[tactic(auto, unfolding(crate::specs::Reading::state))]
+#[tactic(auto, unfolding(crate::specs::Descent::state))]
 fn state(alloc: Global, tokens: &mut Cursor<'_>, levels: usize) -> Result<Expr, Stop>
     ensures { Builds expr_of (rule.state levels (rule.inner levels) tokens.old) result tokens.new }
 {
@@ -161,7 +161,7 @@ fn state(alloc: Global, tokens: &mut Cursor<'_>, levels: usize) -> Result<Expr, 
 }
 
 #[cycle(expression)]
-#[tactic(auto, unfolding(crate::specs::Reading::named, crate::specs::Reading::cell_of))]
+#[tactic(auto, unfolding(crate::specs::Descent::named, crate::specs::Descent::cell_of))]
 fn named(alloc: Global, tokens: &mut Cursor<'_>, levels: usize) -> Result<Expr, Stop>
     ensures { Builds expr_of (rule.named levels (rule.inner levels) tokens.old) result tokens.new }
 {
@@ -175,7 +175,7 @@ fn named(alloc: Global, tokens: &mut Cursor<'_>, levels: usize) -> Result<Expr, 
 }
 
 #[cycle(expression)]
-#[tactic(auto, unfolding(crate::specs::Reading::atom))]
+#[tactic(auto, unfolding(crate::specs::Descent::atom))]
 fn atom(alloc: Global, tokens: &mut Cursor<'_>, levels: usize) -> Result<Expr, Stop>
     ensures { Builds expr_of (rule.atom levels (rule.inner levels) tokens.old) result tokens.new }
 {
@@ -195,7 +195,7 @@ fn atom(alloc: Global, tokens: &mut Cursor<'_>, levels: usize) -> Result<Expr, S
 }
 
 #[cycle(expression)]
-#[tactic(auto, unfolding(crate::specs::Reading::sign, crate::specs::Reading::negative))]
+#[tactic(auto, unfolding(crate::specs::Descent::sign, crate::specs::Descent::negative))]
 fn signed(alloc: Global, tokens: &mut Cursor<'_>, levels: usize) -> Result<Expr, Stop>
     ensures { Builds expr_of (rule.sign levels (rule.inner levels) tokens.old) result tokens.new }
 {
@@ -208,7 +208,7 @@ fn signed(alloc: Global, tokens: &mut Cursor<'_>, levels: usize) -> Result<Expr,
 }
 
 #[cycle(expression)]
-#[tactic(auto, unfolding(crate::specs::Reading::chain, crate::specs::Reading::operation))]
+#[tactic(auto, unfolding(crate::specs::Descent::chain, crate::specs::Descent::operation))]
 fn chain(
     alloc: Global,
     tokens: &mut Cursor<'_>,
@@ -229,7 +229,7 @@ fn chain(
 }
 
 #[cycle(expression)]
-#[tactic(auto, unfolding(crate::specs::Reading::comparison, crate::specs::Reading::operation))]
+#[tactic(auto, unfolding(crate::specs::Descent::comparison, crate::specs::Descent::operation))]
 fn comparison(alloc: Global, tokens: &mut Cursor<'_>, levels: usize) -> Result<Expr, Stop>
     ensures { Builds expr_of (rule.comparison levels (rule.inner levels) tokens.old) result tokens.new }
 {
@@ -243,7 +243,7 @@ fn comparison(alloc: Global, tokens: &mut Cursor<'_>, levels: usize) -> Result<E
 }
 
 #[cycle(expression)]
-#[tactic(auto, unfolding(crate::specs::Reading::negation, crate::specs::Reading::inverse))]
+#[tactic(auto, unfolding(crate::specs::Descent::negation, crate::specs::Descent::inverse))]
 fn negation(alloc: Global, tokens: &mut Cursor<'_>, levels: usize) -> Result<Expr, Stop>
     ensures { Builds expr_of (rule.negation levels (rule.inner levels) tokens.old) result tokens.new }
 {
@@ -257,7 +257,7 @@ fn negation(alloc: Global, tokens: &mut Cursor<'_>, levels: usize) -> Result<Exp
 
 /// An expression of this rank, where so many levels are left.
 #[cycle(expression)]
-#[tactic(auto, unfolding(crate::specs::Reading::disjunction, crate::specs::Reading::conjunction, crate::specs::Reading::sum, crate::specs::Reading::product))]
+#[tactic(auto, unfolding(crate::specs::Descent::disjunction, crate::specs::Descent::conjunction, crate::specs::Descent::sum, crate::specs::Descent::product))]
 pub fn ranked(
     alloc: Global,
     tokens: &mut Cursor<'_>,

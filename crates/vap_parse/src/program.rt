@@ -8,7 +8,7 @@ ghost use Rattle.vap_lex.specs.declared.token.Token.{Token};
 ghost use Rattle.vap_parse.specs.Grammar.{Accepts, Refuses};
 ghost use Rattle.vap_parse.specs.Input as spec;
 ghost use Rattle.vap_parse.specs.Input.{Builds, Reads};
-ghost use Rattle.vap_parse.specs.Reading as rule;
+ghost use Rattle.vap_parse.specs.Descent as rule;
 ghost use Rattle.vap_parse.specs.Refusal.{IsRefused, line_of, place_of, refusal_of};
 ghost use Rattle.vap_parse.specs.View.{subs_of};
 ghost use Rattle.vap_parse.specs.declared.kind.Kind.TheVariants as kind;
@@ -31,25 +31,28 @@ const MAX_IFS: usize = 100;
 /// Why tokens are no program.
 #[derive(Clone, Copy, Debug, PartialEq, Eq)]
 pub enum ParseWhy {
-    /// A token that can't follow those before it; its place. Where the tokens end too early, it is the last token's
+    /// 1: a token that can't follow those before it; its place. Where the tokens end too early, it is the last token's
     /// place plus 1, and 0 without any token.
     Unexpected(u32),
-    /// A frequency that is not 1.
+    /// 2: a frequency that is not 1.
     Frequency,
-    /// A bracket or sign that opens level 33, an `IF` that opens level 101 of `IF`, or the 901st operator of a statement.
+    /// 3: a bracket or sign that opens level 33, an `IF` that opens level 101 of `IF`, or the 901st operator of a statement.
     TooDeep,
 }
 
-/// Why tokens have no tree: the line of the first token that is refused, from 1, and the reason.
-#[derive(Debug, Drop, Error)]
+/// Why tokens have no tree: the line of the first token that is refused, from 1, and the reason. Where the tokens end too
+/// early, the line is that of the last token, and 1 without any token.
+#[derive(Clone, Copy, Debug, PartialEq, Eq, Error)]
 pub enum ParseRefusal {
+    /// Memory was wanted and there was none.
     #[error("out of memory")]
     Memory,
+    /// The first token that is refused.
     #[error("the program is refused at this token")]
     At { line: u32, why: ParseWhy },
 }
 
-#[tactic(auto, unfolding(crate::specs::Reading::ending))]
+#[tactic(auto, unfolding(crate::specs::Descent::ending))]
 fn ending(tokens: &mut Cursor<'_>) -> Result<(), Stop>
     ensures { Reads (rule.ending tokens.old) result tokens.new }
 {
@@ -59,7 +62,7 @@ fn ending(tokens: &mut Cursor<'_>) -> Result<(), Stop>
     semis(tokens)
 }
 
-#[tactic(auto, unfolding(crate::specs::Reading::sub))]
+#[tactic(auto, unfolding(crate::specs::Descent::sub))]
 fn sub(alloc: Global, tokens: &mut Cursor<'_>) -> Result<Routine, Stop>
     ensures { Builds routine_of (rule.sub tokens.old) result tokens.new }
 {
@@ -70,7 +73,7 @@ fn sub(alloc: Global, tokens: &mut Cursor<'_>) -> Result<Routine, Stop>
     Ok(Routine { name, line, body })
 }
 
-#[tactic(auto, unfolding(crate::specs::Reading::next_sub))]
+#[tactic(auto, unfolding(crate::specs::Descent::next_sub))]
 fn subs(alloc: Global, tokens: &mut Cursor<'_>) -> Result<Vec<Routine>, Stop>
     ensures { Builds subs_of (spec.many (rule.is kind.Subroutine) rule.next_sub [] tokens.old) result tokens.new }
 {
@@ -82,7 +85,7 @@ fn subs(alloc: Global, tokens: &mut Cursor<'_>) -> Result<Vec<Routine>, Stop>
     Ok(subs)
 }
 
-#[tactic(auto, unfolding(crate::specs::Reading::program))]
+#[tactic(auto, unfolding(crate::specs::Descent::program))]
 fn program(alloc: Global, tokens: &mut Cursor<'_>) -> Result<Program, Stop>
     ensures { Builds program_of (rule.program tokens.old) result tokens.new }
 {
@@ -104,7 +107,7 @@ fn program(alloc: Global, tokens: &mut Cursor<'_>) -> Result<Program, Stop>
     })
 }
 
-#[tactic(auto, unfolding(crate::specs::Reading::whole))]
+#[tactic(auto, unfolding(crate::specs::Descent::whole))]
 fn whole(alloc: Global, tokens: &mut Cursor<'_>) -> Result<Program, Stop>
     ensures { Builds program_of (rule.whole tokens.old) result tokens.new }
 {

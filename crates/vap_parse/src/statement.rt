@@ -4,7 +4,7 @@ ghost use Rattle.vap_ast.specs.Syntax as tree;
 ghost use Rattle.vap_ast.specs.Tree.{expr_of, exprs_of, item_of, items_of};
 ghost use Rattle.vap_parse.specs.Input as spec;
 ghost use Rattle.vap_parse.specs.Input.{Builds, Reads};
-ghost use Rattle.vap_parse.specs.Reading as rule;
+ghost use Rattle.vap_parse.specs.Descent as rule;
 ghost use Rattle.vap_parse.specs.View.{items_in};
 
 use crate::cursor::Cursor;
@@ -47,7 +47,7 @@ fn cell_step(line: u32, array: Name, index: Expr, value: Expr) -> Item
 }
 
 /// Passes over semicolons.
-#[tactic(auto, unfolding(crate::specs::Reading::semis, crate::specs::Reading::one_semi))]
+#[tactic(auto, unfolding(crate::specs::Descent::semis, crate::specs::Descent::one_semi))]
 pub fn semis(tokens: &mut Cursor<'_>) -> Result<(), Stop>
     ensures { Reads (rule.semis tokens.old) result tokens.new }
 {
@@ -57,7 +57,7 @@ pub fn semis(tokens: &mut Cursor<'_>) -> Result<(), Stop>
     Ok(())
 }
 
-#[tactic(auto, unfolding(crate::specs::Reading::expression))]
+#[tactic(auto, unfolding(crate::specs::Descent::expression))]
 fn expression(alloc: Global, tokens: &mut Cursor<'_>) -> Result<Expr, Stop>
     ensures { Builds expr_of (rule.expression tokens.old) result tokens.new }
 {
@@ -65,7 +65,7 @@ fn expression(alloc: Global, tokens: &mut Cursor<'_>) -> Result<Expr, Stop>
     ranked(alloc, tokens, MAX_LEVELS, Rank::Or)
 }
 
-#[tactic(auto, unfolding(crate::specs::Reading::labelled))]
+#[tactic(auto, unfolding(crate::specs::Descent::labelled))]
 fn labelled(tokens: &mut Cursor<'_>, name: Name, line: u32) -> Result<Item, Stop>
     ensures { Builds item_of (rule.labelled (name, line) tokens.old) result tokens.new }
 {
@@ -73,7 +73,7 @@ fn labelled(tokens: &mut Cursor<'_>, name: Name, line: u32) -> Result<Item, Stop
     Ok(Item::Label { name, line })
 }
 
-#[tactic(auto, unfolding(crate::specs::Reading::assigned))]
+#[tactic(auto, unfolding(crate::specs::Descent::assigned))]
 fn assigned(alloc: Global, tokens: &mut Cursor<'_>, target: Name, line: u32) -> Result<Item, Stop>
     ensures { Builds item_of (rule.assigned (target, line) tokens.old) result tokens.new }
 {
@@ -83,7 +83,7 @@ fn assigned(alloc: Global, tokens: &mut Cursor<'_>, target: Name, line: u32) -> 
     Ok(Item::Step { line, what })
 }
 
-#[tactic(auto, unfolding(crate::specs::Reading::cell_assigned))]
+#[tactic(auto, unfolding(crate::specs::Descent::cell_assigned))]
 fn cell_assigned(
     alloc: Global,
     tokens: &mut Cursor<'_>,
@@ -99,7 +99,7 @@ fn cell_assigned(
     Ok(cell_step(line, array, index, value))
 }
 
-#[tactic(auto, unfolding(crate::specs::Reading::named_item))]
+#[tactic(auto, unfolding(crate::specs::Descent::named_item))]
 fn named_item(alloc: Global, tokens: &mut Cursor<'_>) -> Result<Item, Stop>
     ensures { Builds item_of (rule.named_item tokens.old) result tokens.new }
 {
@@ -113,7 +113,7 @@ fn named_item(alloc: Global, tokens: &mut Cursor<'_>) -> Result<Item, Stop>
     }
 }
 
-#[tactic(auto, unfolding(crate::specs::Reading::to_end))]
+#[tactic(auto, unfolding(crate::specs::Descent::to_end))]
 fn to_end(alloc: Global, tokens: &mut Cursor<'_>) -> Result<Name, Stop>
     ensures { Reads (rule.to_end tokens.old) result tokens.new }
 {
@@ -121,7 +121,7 @@ fn to_end(alloc: Global, tokens: &mut Cursor<'_>) -> Result<Name, Stop>
     Ok(Name::make(alloc, b"prog_ende")?)
 }
 
-#[tactic(auto, unfolding(crate::specs::Reading::to_label))]
+#[tactic(auto, unfolding(crate::specs::Descent::to_label))]
 fn to_label(alloc: Global, tokens: &mut Cursor<'_>) -> Result<Name, Stop>
     ensures { Reads (rule.to_label tokens.old) result tokens.new }
 {
@@ -139,7 +139,7 @@ fn destination(alloc: Global, tokens: &mut Cursor<'_>) -> Result<Name, Stop>
     }
 }
 
-#[tactic(auto, unfolding(crate::specs::Reading::goto))]
+#[tactic(auto, unfolding(crate::specs::Descent::goto))]
 fn goto(alloc: Global, tokens: &mut Cursor<'_>) -> Result<Item, Stop>
     ensures { Builds item_of (rule.goto tokens.old) result tokens.new }
 {
@@ -149,7 +149,7 @@ fn goto(alloc: Global, tokens: &mut Cursor<'_>) -> Result<Item, Stop>
     Ok(Item::Step { line, what })
 }
 
-#[tactic(auto, unfolding(crate::specs::Reading::gosub))]
+#[tactic(auto, unfolding(crate::specs::Descent::gosub))]
 fn gosub(alloc: Global, tokens: &mut Cursor<'_>) -> Result<Item, Stop>
     ensures { Builds item_of (rule.gosub tokens.old) result tokens.new }
 {
@@ -159,7 +159,7 @@ fn gosub(alloc: Global, tokens: &mut Cursor<'_>) -> Result<Item, Stop>
     Ok(Item::Step { line, what })
 }
 
-#[tactic(auto, unfolding(crate::specs::Reading::trace))]
+#[tactic(auto, unfolding(crate::specs::Descent::trace))]
 fn trace(tokens: &mut Cursor<'_>) -> Result<Item, Stop>
     ensures { Builds item_of (rule.trace tokens.old) result tokens.new }
 {
@@ -177,7 +177,7 @@ fn timer_step(line: u32, kind: TimerKind, timer: Name) -> Item
     Item::Step { line, what }
 }
 
-#[tactic(auto, unfolding(crate::specs::Reading::timing))]
+#[tactic(auto, unfolding(crate::specs::Descent::timing))]
 fn timing(alloc: Global, tokens: &mut Cursor<'_>) -> Result<Item, Stop>
     ensures { Builds item_of (rule.timing tokens.old) result tokens.new }
 {
@@ -188,7 +188,7 @@ fn timing(alloc: Global, tokens: &mut Cursor<'_>) -> Result<Item, Stop>
     Ok(timer_step(line, kind, timer))
 }
 
-#[tactic(auto, unfolding(crate::specs::Reading::commanded))]
+#[tactic(auto, unfolding(crate::specs::Descent::commanded))]
 fn commanded(alloc: Global, tokens: &mut Cursor<'_>) -> Result<Item, Stop>
     ensures { Builds item_of (rule.commanded tokens.old) result tokens.new }
 {
@@ -204,7 +204,7 @@ fn is_timer(kind: Kind) -> bool
     timer_of(kind).is_some()
 }
 
-#[tactic(auto, unfolding(crate::specs::Reading::simple))]
+#[tactic(auto, unfolding(crate::specs::Descent::simple))]
 fn simple(alloc: Global, tokens: &mut Cursor<'_>) -> Result<Item, Stop>
     ensures { Builds item_of (rule.simple tokens.old) result tokens.new }
 {
@@ -234,7 +234,7 @@ fn begins(kind: Kind) -> bool
 }
 
 #[cycle(statement)]
-#[tactic(auto, unfolding(crate::specs::Reading::otherwise, crate::specs::Reading::other_branch))]
+#[tactic(auto, unfolding(crate::specs::Descent::otherwise, crate::specs::Descent::other_branch))]
 fn otherwise(alloc: Global, tokens: &mut Cursor<'_>, ifs: usize) -> Result<Items, Stop>
     requires { 0 < ifs }
     ensures { Builds items_in (rule.otherwise ifs (rule.inside ifs) tokens.old) result tokens.new }
@@ -247,7 +247,7 @@ fn otherwise(alloc: Global, tokens: &mut Cursor<'_>, ifs: usize) -> Result<Items
 }
 
 #[cycle(statement)]
-#[tactic(auto, unfolding(crate::specs::Reading::branch))]
+#[tactic(auto, unfolding(crate::specs::Descent::branch))]
 fn branch(alloc: Global, tokens: &mut Cursor<'_>, ifs: usize) -> Result<Item, Stop>
     ensures { Builds item_of (rule.branch ifs (rule.inside ifs) tokens.old) result tokens.new }
 {
@@ -261,7 +261,7 @@ fn branch(alloc: Global, tokens: &mut Cursor<'_>, ifs: usize) -> Result<Item, St
 }
 
 #[cycle(statement)]
-#[tactic(auto, unfolding(crate::specs::Reading::one))]
+#[tactic(auto, unfolding(crate::specs::Descent::one))]
 fn one(alloc: Global, tokens: &mut Cursor<'_>, ifs: usize) -> Result<Item, Stop>
     ensures { Builds item_of (rule.one ifs (rule.inside ifs) tokens.old) result tokens.new }
 {
@@ -276,7 +276,7 @@ fn one(alloc: Global, tokens: &mut Cursor<'_>, ifs: usize) -> Result<Item, Stop>
 
 /// Labels and statements, in which `IF` may nest so deep.
 #[cycle(statement)]
-#[tactic(auto, unfolding(crate::specs::Reading::items, crate::specs::Reading::one_more))]
+#[tactic(auto, unfolding(crate::specs::Descent::items, crate::specs::Descent::one_more))]
 pub fn items(alloc: Global, tokens: &mut Cursor<'_>, ifs: usize) -> Result<Items, Stop>
     ensures { Builds items_in (rule.items ifs (rule.inside ifs) tokens.old) result tokens.new }
 {
@@ -291,7 +291,7 @@ pub fn items(alloc: Global, tokens: &mut Cursor<'_>, ifs: usize) -> Result<Items
 
 /// A body, in which `IF` may nest so deep.
 #[cycle(statement)]
-#[tactic(auto, unfolding(crate::specs::Reading::block))]
+#[tactic(auto, unfolding(crate::specs::Descent::block))]
 pub fn block(alloc: Global, tokens: &mut Cursor<'_>, ifs: usize) -> Result<Items, Stop>
     ensures { Builds items_in (rule.body ifs tokens.old) result tokens.new }
 {

@@ -2,7 +2,7 @@ use Rattle.std.proofs.Common.{◌<◌, length, map, arith, rules}
 use Rattle.std.proofs.lemmas.Grind.{common_steps}
 use Rattle.vap_ast.specs.Tree.{array_of}
 use Rattle.vap_parse.specs.Input.{where_kind, line_of, no_limit, as_many}
-use Rattle.vap_parse.specs.Reading.{next_array}
+use Rattle.vap_parse.specs.Descent.{next_array}
 use Rattle.vap_parse.specs.declared.kind.Kind.TheVariants as k
 use Rattle.vap_parse.proofs.TextLaws.{array_law}
 use Rattle.vap_parse.proofs.Shrinks.{arrays_once, token_takes, takes}

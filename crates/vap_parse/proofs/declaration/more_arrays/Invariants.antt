@@ -1,7 +1,7 @@
 use Rattle.std.proofs.Common.{◌≡◌, length, map}
 use Rattle.vap_ast.specs.Tree.{array_of}
 use Rattle.vap_parse.specs.Input.{many}
-use Rattle.vap_parse.specs.Reading.{is, next_array}
+use Rattle.vap_parse.specs.Descent.{is, next_array}
 use Rattle.vap_parse.specs.declared.kind.Kind.TheVariants as k
 use Rattle.vap_parse.proofs.declaration.more_arrays.Given as goal
 

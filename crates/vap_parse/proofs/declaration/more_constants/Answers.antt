@@ -2,7 +2,7 @@ use Rattle.std.proofs.Common.{◌<◌, length, map, arith, rules}
 use Rattle.std.proofs.lemmas.Grind.{common_steps}
 use Rattle.vap_ast.specs.Tree.{constant_of}
 use Rattle.vap_parse.specs.Input.{where_kind, line_of, no_limit, as_many}
-use Rattle.vap_parse.specs.Reading.{next_constant}
+use Rattle.vap_parse.specs.Descent.{next_constant}
 use Rattle.vap_parse.specs.declared.kind.Kind.TheVariants as k
 use Rattle.vap_parse.proofs.TextLaws.{constant_law}
 use Rattle.vap_parse.proofs.Shrinks.{constants_once, token_takes, takes}

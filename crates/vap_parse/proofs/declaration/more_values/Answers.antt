@@ -1,7 +1,7 @@
 use Rattle.std.proofs.Common.{◌<◌, length, arith, rules}
 use Rattle.std.proofs.lemmas.Grind.{common_steps}
 use Rattle.vap_parse.specs.Input.{where_kind, line_of, no_limit, as_many}
-use Rattle.vap_parse.specs.Reading.{next_value}
+use Rattle.vap_parse.specs.Descent.{next_value}
 use Rattle.vap_parse.specs.declared.kind.Kind.TheVariants as k
 use Rattle.vap_parse.proofs.TextLaws.{value_law}
 use Rattle.vap_parse.proofs.Shrinks.{values_once, token_takes, takes}

@@ -1,6 +1,6 @@
 use Rattle.std.proofs.Common.{◌≡◌, length}
 use Rattle.vap_parse.specs.Input.{many}
-use Rattle.vap_parse.specs.Reading.{is, next_value}
+use Rattle.vap_parse.specs.Descent.{is, next_value}
 use Rattle.vap_parse.specs.declared.kind.Kind.TheVariants as k
 use Rattle.vap_parse.proofs.declaration.more_values.Given as goal
 

@@ -3,7 +3,7 @@ use Rattle.std.proofs.lemmas.Grind.{common_steps}
 use Rattle.vap_ast.specs.Tree.{expr_of}
 use Rattle.vap_parse.specs.Input.{kind, called, reading, no_limit, as_many, where_kind, line_of, limit, below}
 use Rattle.vap_parse.specs.Kinds.{same_kind, kind_of, operator_of}
-use Rattle.vap_parse.specs.Reading.{inner, operation, next_argument, disjunction, conjunction, sum, product, named, cell_of, arguments, a_reading}
+use Rattle.vap_parse.specs.Descent.{inner, operation, next_argument, disjunction, conjunction, sum, product, named, cell_of, arguments, a_reading}
 use Rattle.vap_parse.specs.declared.kind.Kind.TheVariants as k
 use Rattle.vap_parse.specs.declared.kind.Rank.TheVariants as rank
 use Rattle.vap_parse.proofs.ExprLaws.{expr_law}

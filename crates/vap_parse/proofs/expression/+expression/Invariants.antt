@@ -1,7 +1,7 @@
 use Rattle.std.proofs.Common.{◌≡◌, ℕ, ◌+◌, ◌*◌, length, map}
 use Rattle.vap_ast.specs.Tree.{expr_of}
 use Rattle.vap_parse.specs.Input.{many}
-use Rattle.vap_parse.specs.Reading.{expr, inner, is, is_operator, operation, chain, some_arguments, next_argument}
+use Rattle.vap_parse.specs.Descent.{expr, inner, is, is_operator, operation, chain, some_arguments, next_argument}
 use Rattle.vap_parse.specs.declared.kind.Kind.TheVariants as k
 use Rattle.vap_parse.specs.declared.kind.Rank.{Rank}
 use Rattle.vap_parse.specs.declared.kind.Rank.TheVariants as rank

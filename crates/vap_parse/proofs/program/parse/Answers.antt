@@ -4,7 +4,7 @@ use Rattle.vap_ast.specs.Syntax.{Program}
 use Rattle.vap_ast.specs.Tree.{program_of}
 use Rattle.vap_parse.specs.declared.kind.Reason.{Reason}
 use Rattle.vap_parse.specs.Input.{Input, input, Outcome, max_operators}
-use Rattle.vap_parse.specs.Reading.{text, whole}
+use Rattle.vap_parse.specs.Descent.{text, whole}
 use Rattle.vap_parse.specs.Grammar.{Refuses}
 use Rattle.vap_parse.proofs.Exact.{Exact, exact, accepted}
 use Rattle.vap_parse.proofs.Keeps.{parsed}

@@ -1,7 +1,7 @@
 use Rattle.std.proofs.Common.{map, arith, rules}
 use Rattle.std.proofs.lemmas.Grind.{common_steps}
 use Rattle.vap_ast.specs.Tree.{routine_of}
-use Rattle.vap_parse.specs.Reading.{next_sub}
+use Rattle.vap_parse.specs.Descent.{next_sub}
 use Rattle.vap_parse.proofs.TextLaws.{sub_law}
 use Rattle.vap_parse.proofs.Shrinks.{subs_once, takes}
 use Rattle.vap_parse.proofs.program.subs.Goals as goal

@@ -1,7 +1,7 @@
 use Rattle.std.proofs.Common.{◌≡◌, ◌∙◌, map, Ok, true, arith, rules, sym}
 use Rattle.std.proofs.lemmas.Grind.{common_steps}
 use Rattle.vap_ast.specs.Tree.{item_of}
-use Rattle.vap_parse.specs.Reading.{one_more, otherwise, other_branch}
+use Rattle.vap_parse.specs.Descent.{one_more, otherwise, other_branch}
 use Rattle.vap_parse.specs.Input.{kind, expect}
 use Rattle.vap_parse.specs.Kinds.{same_kind}
 use Rattle.vap_parse.specs.declared.kind.Kind.TheVariants as k

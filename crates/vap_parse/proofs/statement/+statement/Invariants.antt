@@ -1,7 +1,7 @@
 use Rattle.std.proofs.Common.{◌≡◌, ◌+◌, ◌*◌, length, map}
 use Rattle.vap_ast.specs.Tree.{item_of}
 use Rattle.vap_parse.specs.Input.{many}
-use Rattle.vap_parse.specs.Reading.{begins, items, inside, one_more}
+use Rattle.vap_parse.specs.Descent.{begins, items, inside, one_more}
 use Rattle.vap_parse.proofs.statement.+statement.Given as goal
 
 abbrev pub decreases-otherwise : goal.decreases-otherwise

@@ -1,8 +1,8 @@
 use Rattle.std.proofs.Common.{◌≡◌, Ok, arith, refl, rules}
 use Rattle.std.proofs.lemmas.Grind.{common_steps}
 use Rattle.vap_ast.specs.Tree.{expr_of}
-use Rattle.vap_parse.specs.Input.{input, expect, max_operators}
-use Rattle.vap_parse.specs.Reading.{cell_assigned, index, inner, expr, max_levels}
+use Rattle.vap_parse.specs.Input.{input, expect, max_operators, max_levels}
+use Rattle.vap_parse.specs.Descent.{cell_assigned, index, inner, expr}
 use Rattle.vap_parse.specs.declared.kind.Kind.TheVariants as k
 use Rattle.vap_parse.specs.declared.kind.Rank.TheVariants as rank
 use Rattle.vap_parse.proofs.statement.cell_assigned.Goals as goal

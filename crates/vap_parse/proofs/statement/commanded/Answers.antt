@@ -1,7 +1,7 @@
 use Rattle.std.proofs.Common.{◌≡◌, Ok, arith, rules}
 use Rattle.std.proofs.lemmas.Grind.{common_steps}
 use Rattle.vap_parse.specs.Input.{command, input, max_operators}
-use Rattle.vap_parse.specs.Reading.{commanded}
+use Rattle.vap_parse.specs.Descent.{commanded}
 use Rattle.vap_parse.proofs.statement.commanded.Goals as goal
 
 pub returns-in_err-args : goal.returns-in_err-args

@@ -1,7 +1,7 @@
 use Rattle.std.proofs.Common.{arith, rules}
 use Rattle.std.proofs.lemmas.Grind.{common_steps}
 use Rattle.vap_parse.specs.Input.{where_kind, line_of, no_limit, as_many}
-use Rattle.vap_parse.specs.Reading.{one_semi}
+use Rattle.vap_parse.specs.Descent.{one_semi}
 use Rattle.vap_parse.specs.declared.kind.Kind.TheVariants as k
 use Rattle.vap_parse.proofs.Shrinks.{semis_once, token_takes}
 use Rattle.vap_parse.proofs.statement.semis.Goals as goal

@@ -1,6 +1,6 @@
 use Rattle.std.proofs.Common.{◌≡◌, length}
 use Rattle.vap_parse.specs.Input.{many}
-use Rattle.vap_parse.specs.Reading.{semis, one_semi, is}
+use Rattle.vap_parse.specs.Descent.{semis, one_semi, is}
 use Rattle.vap_parse.specs.declared.kind.Kind.TheVariants as k
 use Rattle.vap_parse.proofs.statement.semis.Given as goal
 

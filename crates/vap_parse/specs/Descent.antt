@@ -1,4 +1,8 @@
--- The rules of the grammar, read from left to right.
+-- The steps of the code: the rules of the grammar, read from left to right by one token.
+--
+-- Nothing has to be believed of this file. It follows the functions of src/ rule by rule, so that their contracts can
+-- name what they read; what the language is stands in Grammar.antt, and proofs/Exact.antt shows that what is read here
+-- is what the grammar spells. Where a rule has the same name there, it has the same meaning here.
 use Rattle.std.specs.Prelude.{ℕ, zero, suc, Bool, true, false, not, is_some, List, [], ◌∷◌, ◌++◌, ℤ, neg_ℤ, codes}
 use Rattle.sig_types.specs.declared.aspect.ReadingKind.TheVariants.{AnyInterstage}
 use Rattle.vap_lex.specs.declared.token.Token.{Token}
@@ -11,18 +15,13 @@ use Rattle.vap_parse.specs.declared.kind.Kind.TheVariants as k
 use Rattle.vap_parse.specs.declared.kind.Rank.{Rank}
 use Rattle.vap_parse.specs.declared.kind.Rank.TheVariants as rank
 use Rattle.vap_parse.specs.Kinds.{same_kind, operator_of, timer_of}
-use Rattle.vap_parse.specs.Input.{input, Outcome, Parser, kind, ◌>>=◌, ◌>>◌, pure, either, expect, called, number, enter, operator, reading, aspect, command, timer, frequency, anew, max_operators, skipped, ended, many}
+use Rattle.vap_parse.specs.Input.{input, Outcome, Parser, kind, ◌>>=◌, ◌>>◌, pure, either, expect, called, number, enter, operator, reading, aspect, command, timer, frequency, anew, max_operators, max_levels, max_ifs, skipped, ended, many}
 
--- how deep brackets and signs nest, and how deep IF nests
-abbrev pub max_levels : ℕ
-max_levels = 32
-
-abbrev pub max_ifs : ℕ
-max_ifs = 100
-
+-- whether a kind is the wanted one
 abbrev pub is : Kind → Kind → Bool
 is wanted kind = same_kind kind wanted
 
+-- an operator of this rank
 abbrev pub is_operator : Rank → Kind → Bool
 is_operator rank kind = is_some (operator_of rank kind)
 
@@ -30,6 +29,7 @@ is_operator rank kind = is_some (operator_of rank kind)
 abbrev pub is_open : Kind → Bool
 is_open kind = not (same_kind kind k.Close)
 
+-- the word of a timer command
 abbrev pub is_timer : Kind → Bool
 is_timer kind = is_some (timer_of kind)
 
@@ -58,6 +58,7 @@ IsChain rank.Sum rank.Product = Unit {0}
 IsChain rank.Product rank.Sign = Unit {0}
 IsChain _ _ = ⊥
 
+-- what a declaration begins with
 abbrev pub declares : Kind → Bool
 declares k.VapFrequency = true
 declares k.Const = true
