@@ -7,14 +7,14 @@ use Rattle.std.proofs.lemmas.List.{map-append}
 use Rattle.std.proofs.lemmas.List.Folds.{list_any-append}
 use Rattle.std.specs.Str.{bytes_eq}
 use Rattle.vap_ast.specs.Syntax.{Items, Constant, Program}
-use Rattle.vap_check.specs.declared.refusal.Finding.{Finding}
+use Rattle.vap_check.specs.declared.finding.Finding.{Finding}
 use Rattle.vap_check.specs.declared.kinds.First.{First}
 use Rattle.vap_check.specs.declared.kinds.Kind.{Kind}
 use Rattle.vap_check.specs.declared.kinds.Kind.TheVariants as kind
 use Rattle.vap_check.specs.declared.kinds.Known.{Known}
-use Rattle.vap_check.specs.Found.{first_of_all}
+use Rattle.vap_check.specs.FirstFinding.{first_of_all}
 use Rattle.vap_check.specs.Names.{among, with_name, with_names, distinct, kind_of, const_names, array_names, sub_names, timer_names, items_labels, label_names}
-use Rattle.vap_check.specs.Known.{const_keys, with_const, with_consts, line_in, kind_in, taken_in, Knows}
+use Rattle.vap_check.specs.KeptNames.{const_keys, with_const, with_consts, line_in, kind_in, taken_in, Knows}
 use Rattle.vap_check.specs.Findings.{items_findings, body_findings, label_findings, const_line, is_declared, const_findings, array_findings, subs_findings, findings}
 use Rattle.vap_check.proofs.Flat.{findings_on}
 use Rattle.vap_check.proofs.Entries.{some_found}

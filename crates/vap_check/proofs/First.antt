@@ -8,8 +8,8 @@ use Rattle.vap_ast.specs.Syntax.{Program}
 use Rattle.vap_check.specs.declared.refusal.CheckWhy.{CheckWhy}
 use Rattle.vap_check.specs.declared.refusal.CheckWhy.TheVariants.{ConstTwice, NameKind, LabelTwice, NoLabel, SubTwice, NoSub, ArraySize, AssignConst, Arity, Limit, StatementTooLong, ProgramTooLong}
 use Rattle.vap_check.specs.declared.refusal.Which.TheVariants.{Variables, Timers, Arrays, Cells, Subroutines, Labels}
-use Rattle.vap_check.specs.declared.refusal.Finding.{Finding}
-use Rattle.vap_check.specs.Found.{order, is_sooner, first_of_all, IsFirst}
+use Rattle.vap_check.specs.declared.finding.Finding.{Finding}
+use Rattle.vap_check.specs.FirstFinding.{order, is_sooner, first_of_all, IsFirst}
 use Rattle.vap_check.specs.Findings.{findings}
 use Rattle.vap_check.specs.Accepted.{Accepted, Refuses, wrong, many, long}
 

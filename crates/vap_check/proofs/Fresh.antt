@@ -10,13 +10,14 @@ use Rattle.vap_check.specs.declared.refusal.CheckWhy.{CheckWhy}
 use Rattle.vap_check.specs.declared.refusal.CheckWhy.TheVariants.{ConstTwice, NameKind, SubTwice, ArraySize}
 use Rattle.vap_check.specs.declared.refusal.Which.{Which}
 use Rattle.vap_check.specs.declared.refusal.Which.TheVariants.{Variables, Timers, Arrays, Cells, Subroutines, Labels}
-use Rattle.vap_check.specs.declared.refusal.Finding.{Finding}
+use Rattle.vap_check.specs.declared.finding.Finding.{Finding}
 use Rattle.vap_check.specs.declared.kinds.First.{First}
 use Rattle.vap_check.specs.declared.kinds.Kind.{Kind}
+use Rattle.vap_check.specs.declared.kinds.Kind.TheVariants as kind
 use Rattle.vap_check.specs.declared.kinds.Known.{Known}
-use Rattle.vap_check.specs.Found.{when}
-use Rattle.vap_check.specs.Names.{among, with_name, with_names, distinct, kind_of, uses, is_timer, is_variable, variables, timers, array_names, sub_names}
-use Rattle.vap_check.specs.Known.{const_keys, with_const, with_consts, Knows, wanted_of}
+use Rattle.vap_check.specs.FirstFinding.{when}
+use Rattle.vap_check.specs.Names.{among, with_name, with_names, distinct, kind_of, uses, is_kind, variables, timers, array_names, sub_names}
+use Rattle.vap_check.specs.KeptNames.{const_keys, with_const, with_consts, Knows, of_kind}
 use Rattle.vap_check.specs.Findings.{const_findings, array_findings, subs_findings, body_findings, clash_findings, is_odd_size, const_line, is_declared, findings}
 use Rattle.vap_check.specs.Accepted.{passed, cells, labels}
 use Rattle.vap_check.specs.Numbers.{consts_in, consts_of}
@@ -127,11 +128,11 @@ module _ (p : Program) (clean : findings p ≡ []) where
     subs_kept = knows.subs ∙ fresh_subs p.subs (kind_of p) (is_declared p) [] no_sub
 
 module _ (p : Program) (k : Known) (knows : Knows k p) where
-  pub timers_kept : with_names [] (wanted_of k true (uses p)) ≡ timers p
-  timers_kept = ap (λ kind. distinct (filter (λ n. is_timer (kind n)) (uses p))) (kinds_are k p knows)
+  pub timers_kept : with_names [] (of_kind k kind.Timer (uses p)) ≡ timers p
+  timers_kept = ap (λ kind_is. distinct (filter (λ n. is_kind kind.Timer (kind_is n)) (uses p))) (kinds_are k p knows)
 
-  pub variables_kept : with_names [] (wanted_of k false (uses p)) ≡ variables p
-  variables_kept = ap (λ kind. distinct (filter (λ n. is_variable (kind n)) (uses p))) (kinds_are k p knows)
+  pub variables_kept : with_names [] (of_kind k kind.Variable (uses p)) ≡ variables p
+  variables_kept = ap (λ kind_is. distinct (filter (λ n. is_kind kind.Variable (kind_is n)) (uses p))) (kinds_are k p knows)
 
 -- ---- limits
 

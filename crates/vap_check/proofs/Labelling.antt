@@ -1,7 +1,7 @@
 -- Labels one after another.
 use Rattle.std.proofs.Common.{◌≡◌, ℕ, List, [], ◌∷◌, ◌++◌, map, Option, refl, sym, ap, ◌∙◌}
-use Rattle.vap_check.specs.declared.refusal.Finding.{Finding}
-use Rattle.vap_check.specs.Found.{first_of_all, when}
+use Rattle.vap_check.specs.declared.finding.Finding.{Finding}
+use Rattle.vap_check.specs.FirstFinding.{first_of_all, when}
 use Rattle.vap_check.specs.Names.{with_name, with_names, Labelled, among}
 use Rattle.vap_check.specs.Findings.{label_findings}
 use Rattle.vap_check.proofs.Flat.{findings_on}

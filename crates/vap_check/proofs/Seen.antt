@@ -5,11 +5,10 @@ use Rattle.vap_ast.specs.Parsed.{Parsed}
 use Rattle.vap_ast.specs.declared.tree.Program.{Program}
 use Rattle.vap_check.specs.declared.checked.Checked.TheInside.{Inside}
 use Rattle.vap_check.specs.declared.kinds.Names.{Names}
-use Rattle.vap_check.specs.Known.{KnowsAll}
+use Rattle.vap_check.specs.KeptNames.{KnowsAll}
 use Rattle.vap_check.specs.Accepted.{Accepted}
 use Rattle.vap_check.specs.Numbers.{entries, checked_of}
-use Rattle.vap_check.specs.Is.{IsChecked}
-use Rattle.vap_check.specs.Kept.{view_of, Keeps}
+use Rattle.vap_check.specs.Checked.{view_of, Keeps}
 use Rattle.vap_check.proofs.Usability.{usable}
 use Rattle.vap_check.proofs.Sounding.{is_sound, subs_low, main_low}
 use Rattle.vap_check.proofs.Fresh.{consts_kept, arrays_kept, subs_kept}
@@ -37,6 +36,3 @@ seen c h = λ i. record {
   variables = length (h.variables i);
   timers = length (h.timers i);
 }
-
-pub is_checked : (c : Inside) → Keeps c → IsChecked (view_of c)
-is_checked c h = record { value = seen c h; accepted = h.accepted; parsed = h.parsed; usable = h.usable; runs = h.runs }

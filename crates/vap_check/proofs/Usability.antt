@@ -20,8 +20,8 @@ use Rattle.vap_ast.specs.Syntax.{Expr, Exprs, Item, Items, Stmt, Routine, Consta
 use Rattle.vap_check.specs.declared.refusal.CheckWhy.TheVariants.{NameKind, ArraySize, NoSub, Arity, StatementTooLong, SubTwice}
 use Rattle.vap_check.specs.declared.kinds.Kind.{Kind}
 use Rattle.vap_check.specs.declared.kinds.Kind.TheVariants as kind
-use Rattle.vap_check.specs.Found.{when}
-use Rattle.vap_check.specs.Names.{among, with_name, kind_of, uses, expr_uses, exprs_uses, stmt_uses, item_uses, stmt_timers, item_timers, items_timers, items_uses, is_timer, is_variable, variables, timers, array_names, sub_names, const_names, timer_names, items_labels, label_names}
+use Rattle.vap_check.specs.FirstFinding.{when}
+use Rattle.vap_check.specs.Names.{among, with_name, kind_of, uses, expr_uses, exprs_uses, stmt_uses, item_uses, stmt_timers, item_timers, items_timers, items_uses, is_kind, variables, timers, array_names, sub_names, const_names, timer_names, items_labels, label_names}
 use Rattle.vap_check.specs.Findings.{is_misread, is_no_array, is_no_timer, assign_findings, expr_findings, exprs_findings, stmt_findings, item_findings, items_findings, body_findings, label_findings, subs_findings, is_declared, findings, array_findings, clash_findings, is_odd_size, const_line}
 use Rattle.vap_check.specs.Accepted.{passed}
 use Rattle.vap_check.specs.Numbers.{consts_of, names_of}
@@ -138,19 +138,19 @@ module _ (p : Program) where
 
     is_a_timer : among (timer_names p) n ≡ true → Is n kind.Timer
     is_a_timer t used =
-        let f = λ (m : List ℕ). is_timer (kind_of p m) in
-        let yes_it : f n ≡ true = ap is_timer (undeclared ∙ ap (λ b. if b then kind.Timer else kind.Variable) t) in
+        let f = λ (m : List ℕ). is_kind kind.Timer (kind_of p m) in
+        let yes_it : f n ≡ true = ap (is_kind kind.Timer) (undeclared ∙ ap (λ b. if b then kind.Timer else kind.Variable) t) in
         let there : among (timers p) n ≡ true = (λ i. among_distinct (filter f (uses p)) i n) ∙ among_filter f (uses p) n yes_it used in
         let r = found_at (timers p) n there in
         (r.0, r.1, parts n _ _ _ _ _ (const_absent p.consts n c) (ap (option_map Array_is) (absent_at (array_names p) n a)) (ap (option_map Sub_is) (absent_at (sub_names p) n s)) (ap (option_map Timer_is) r.2) refl)
 
     is_a_variable : among (timer_names p) n ≡ false → Is n kind.Variable
     is_a_variable t used =
-        let f = λ (m : List ℕ). is_timer (kind_of p m) in
-        let g = λ (m : List ℕ). is_variable (kind_of p m) in
+        let f = λ (m : List ℕ). is_kind kind.Timer (kind_of p m) in
+        let g = λ (m : List ℕ). is_kind kind.Variable (kind_of p m) in
         let kind_is : kind_of p n ≡ kind.Variable = undeclared ∙ ap (λ b. if b then kind.Timer else kind.Variable) t in
-        let no_timer : among (timers p) n ≡ false = (λ i. among_distinct (filter f (uses p)) i n) ∙ among_no_filter f (uses p) n (ap is_timer kind_is) in
-        let there : among (variables p) n ≡ true = (λ i. among_distinct (filter g (uses p)) i n) ∙ among_filter g (uses p) n (ap is_variable kind_is) used in
+        let no_timer : among (timers p) n ≡ false = (λ i. among_distinct (filter f (uses p)) i n) ∙ among_no_filter f (uses p) n (ap (is_kind kind.Timer) kind_is) in
+        let there : among (variables p) n ≡ true = (λ i. among_distinct (filter g (uses p)) i n) ∙ among_filter g (uses p) n (ap (is_kind kind.Variable) kind_is) used in
         let r = found_at (variables p) n there in
         (r.0, r.1, parts n _ _ _ _ _ (const_absent p.consts n c) (ap (option_map Array_is) (absent_at (array_names p) n a)) (ap (option_map Sub_is) (absent_at (sub_names p) n s)) (ap (option_map Timer_is) (absent_at (timers p) n no_timer)) (ap (option_map Variable_is) r.2))
 

@@ -8,8 +8,7 @@ use Rattle.vap_check.specs.declared.refusal.CheckWhy.{CheckWhy}
 use Rattle.vap_check.specs.declared.refusal.CheckWhy.TheVariants.{Limit, ProgramTooLong}
 use Rattle.vap_check.specs.declared.refusal.Which.{Which}
 use Rattle.vap_check.specs.declared.refusal.Which.TheVariants.{Variables, Timers, Arrays, Cells, Subroutines, Labels}
-use Rattle.vap_check.specs.declared.refusal.Finding.{Finding}
-use Rattle.vap_check.specs.Found.{IsFirst}
+use Rattle.vap_check.specs.FirstFinding.{IsFirst}
 use Rattle.vap_check.specs.Names.{bodies, variables, timers, items_labels}
 use Rattle.vap_check.specs.Findings.{findings}
 
@@ -37,6 +36,7 @@ abbrev pub bodies_size : List Items → ℕ
 bodies_size [] = 0
 bodies_size (body ∷ others) = items_size body + 1 + bodies_size others
 
+-- how many instructions a program takes
 abbrev pub program_size : Program → ℕ
 program_size p = bodies_size (bodies p)
 
@@ -53,11 +53,7 @@ pub data Refuses (p : Program) : ℕ → CheckWhy → Type 0 where
   many : (which : Which) → findings p ≡ [] → passed p ≡ Some which → Refuses p 0 (Limit which)
   long : findings p ≡ [] → passed p ≡ None → 65535 < program_size p → Refuses p 0 ProgramTooLong
 
+-- a refusal is right: it is want of memory, or the first of a program
 abbrev pub IsRefused : Program → CheckRefusal → Type 0
 IsRefused p Memory = Unit {0}
 IsRefused p (At line why) = Refuses p line why
-
--- what a program is refused for, if anything
-abbrev pub RefusalIs : Program → Option Finding → Type 0
-RefusalIs p None = Accepted p
-RefusalIs p (Some f) = Refuses p f.line f.why

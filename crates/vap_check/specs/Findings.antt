@@ -6,10 +6,10 @@ use Rattle.vap_ast.specs.Syntax.{Expr, Exprs, Item, Items, Stmt, Routine, Consta
 use Rattle.vap_ast.specs.Sizes.{own_size}
 use Rattle.vap_ast.specs.Sound.{count_arguments}
 use Rattle.vap_check.specs.declared.refusal.CheckWhy.TheVariants.{ConstTwice, NameKind, LabelTwice, NoLabel, SubTwice, NoSub, ArraySize, AssignConst, Arity, StatementTooLong}
-use Rattle.vap_check.specs.declared.refusal.Finding.{Finding}
+use Rattle.vap_check.specs.declared.finding.Finding.{Finding}
 use Rattle.vap_check.specs.declared.kinds.Kind.{Kind}
 use Rattle.vap_check.specs.declared.kinds.Kind.TheVariants as kind
-use Rattle.vap_check.specs.Found.{when}
+use Rattle.vap_check.specs.FirstFinding.{when}
 use Rattle.vap_check.specs.Names.{among, with_name, Labelled, items_labels, label_names, const_names, array_names, sub_names, kind_of}
 
 -- ---- what a use asks of the kind of a name

@@ -1,12 +1,10 @@
-pub mod Found
+pub mod FirstFinding
 pub mod Names
-pub mod Known
+pub mod KeptNames
 pub mod Findings
-pub mod Scope
 pub mod Accepted
+pub mod Judgement
 pub mod Numbers
-pub mod Kept
-pub mod Judged
 pub mod Usable
-pub mod Is
+pub mod Checked
 pub mod Passes

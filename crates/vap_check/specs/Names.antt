@@ -3,6 +3,8 @@ use Rattle.std.specs.Prelude.{ℕ, Bool, true, false, if◌then◌else◌, List,
 use Rattle.std.specs.List.{list_any}
 use Rattle.std.specs.Str.{bytes_eq}
 use Rattle.vap_ast.specs.Syntax.{Expr, Exprs, Item, Items, Stmt, Program}
+use denote.Enum.Bare.{sameb}
+use Rattle.vap_check.specs.contracts.kinds.Kind.{the_type}
 use Rattle.vap_check.specs.declared.kinds.Kind.{Kind}
 use Rattle.vap_check.specs.declared.kinds.Kind.TheVariants as kind
 
@@ -117,18 +119,23 @@ abbrev mutual
 abbrev pub bodies : Program → List Items
 bodies p = map (λ r. r.body) p.subs ++ p.main.body ∷ []
 
+-- the names of the declared constants, in their order
 abbrev pub const_names : Program → List (List ℕ)
 const_names p = map (λ c. c.name) p.consts
 
+-- the names of the declared arrays, in their order
 abbrev pub array_names : Program → List (List ℕ)
 array_names p = map (λ a. a.name) p.arrays
 
+-- the names of the subroutines, in their order
 abbrev pub sub_names : Program → List (List ℕ)
 sub_names p = map (λ r. r.name) p.subs
 
+-- the names in timer commands
 abbrev pub timer_names : Program → List (List ℕ)
 timer_names p = flat_map items_timers (bodies p)
 
+-- the names that the routines assign, read or command as timers, in the order of the text
 abbrev pub uses : Program → List (List ℕ)
 uses p = flat_map items_uses (bodies p)
 
@@ -148,24 +155,14 @@ kind_of p = kind_among (const_names p) (array_names p) (sub_names p) (timer_name
 
 -- ---- numbers
 
-abbrev pub is_timer : Kind → Bool
-is_timer kind.Timer = true
-is_timer kind.Constant = false
-is_timer kind.Array = false
-is_timer kind.Sub = false
-is_timer kind.Variable = false
-
-abbrev pub is_variable : Kind → Bool
-is_variable kind.Variable = true
-is_variable kind.Constant = false
-is_variable kind.Array = false
-is_variable kind.Sub = false
-is_variable kind.Timer = false
+-- whether a kind is this one
+abbrev pub is_kind : Kind → Kind → Bool
+is_kind = sameb the_type
 
 -- the timers in order of first use
 abbrev pub timers : Program → List (List ℕ)
-timers p = distinct (filter (λ n. is_timer (kind_of p n)) (uses p))
+timers p = distinct (filter (λ n. is_kind kind.Timer (kind_of p n)) (uses p))
 
 -- the variables in order of first use
 abbrev pub variables : Program → List (List ℕ)
-variables p = distinct (filter (λ n. is_variable (kind_of p n)) (uses p))
+variables p = distinct (filter (λ n. is_kind kind.Variable (kind_of p n)) (uses p))

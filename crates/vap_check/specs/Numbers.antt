@@ -39,6 +39,7 @@ pub record Meant : Type 0 where
   pub variables : ℕ
   pub timers : ℕ
 
+-- what a program is seen as once it is checked
 abbrev pub checked_of : Tree → Meant
 checked_of tree =
     let p = program_of tree in

@@ -24,6 +24,7 @@ module _ (names : List Entry) (variables timers arrays : ℕ) where
   IsValue (Some (Sub number)) = ⊥
   IsValue None = ⊥
 
+  -- a variable that is there
   abbrev pub IsVariable : Option Meaning → Type 0
   IsVariable (Some (Variable number)) = number < variables
   IsVariable (Some (Constant value)) = ⊥
@@ -32,6 +33,7 @@ module _ (names : List Entry) (variables timers arrays : ℕ) where
   IsVariable (Some (Sub number)) = ⊥
   IsVariable None = ⊥
 
+  -- a timer that is there
   abbrev pub IsTimer : Option Meaning → Type 0
   IsTimer (Some (Timer number)) = number < timers
   IsTimer (Some (Constant value)) = ⊥
@@ -40,6 +42,7 @@ module _ (names : List Entry) (variables timers arrays : ℕ) where
   IsTimer (Some (Sub number)) = ⊥
   IsTimer None = ⊥
 
+  -- an array that is there
   abbrev pub IsArray : Option Meaning → Type 0
   IsArray (Some (Array number)) = number < arrays
   IsArray (Some (Constant value)) = ⊥
@@ -48,6 +51,7 @@ module _ (names : List Entry) (variables timers arrays : ℕ) where
   IsArray (Some (Sub number)) = ⊥
   IsArray None = ⊥
 
+  -- the names of an expression are those of values and arrays, and its readings have their arguments
   abbrev mutual
     pub UsableExpr : Expr → Type 0
     UsableExpr (Expr.Literal value) = Unit {0}
@@ -63,6 +67,7 @@ module _ (names : List Entry) (variables timers arrays : ℕ) where
 
   -- in a routine that may call so many subroutines: the first ones
   module _ (calls : ℕ) where
+    -- a subroutine that may be called
     abbrev pub IsSub : Option Meaning → Type 0
     IsSub (Some (Sub number)) = number < calls
     IsSub (Some (Constant value)) = ⊥
@@ -71,6 +76,7 @@ module _ (names : List Entry) (variables timers arrays : ℕ) where
     IsSub (Some (Array number)) = ⊥
     IsSub None = ⊥
 
+    -- the names of a statement are what it asks for, its commands have their arguments, and it is not too long
     abbrev mutual
       pub UsableStmt : Stmt → Type 0
       UsableStmt (Stmt.Assign target value) = IsVariable (meaning_in names target) × UsableExpr value

@@ -5,7 +5,7 @@ ghost use Rattle.std.specs.Str.{bytes_eq};
 ghost use Rattle.vap_ast.specs.Names.{meaning_in};
 ghost use Rattle.vap_ast.specs.declared.name.Meaning.TheVariants.{Array, Sub, Timer, Variable};
 ghost use Rattle.vap_check.specs.Numbers.{consts_in, entries};
-ghost use Rattle.vap_check.specs.Is.{IsChecked};
+ghost use Rattle.vap_check.specs.Checked.{IsChecked};
 
 use crate::kinds::{First, Names};
 use indexmap::{IndexMap, IndexSet};
@@ -28,7 +28,7 @@ impl Model for Checked {
 
     ghost coded = { Prim.hlevel (codes, item.the_row.coded) };
 
-    ghost use Rattle.vap_check.specs.Kept.{view_of, Keeps};
+    ghost use Rattle.vap_check.specs.Checked.{view_of, Keeps};
 
     ghost view = { view_of };
 

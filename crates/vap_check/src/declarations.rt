@@ -1,22 +1,23 @@
 // What is wrong with declarations and routines, and the first of all findings of a program.
 ghost use Rattle.std.specs.Prelude.{◌≡◌, [], None, ◌||◌, OnOk, IfOk, map};
 ghost use Rattle.vap_ast.specs.Tree.{body_of, array_of, routine_of, constant_of, program_of};
-ghost use Rattle.vap_check.specs.Found.{first_of_all};
+ghost use Rattle.vap_check.specs.FirstFinding.{first_of_all};
 ghost use Rattle.vap_check.specs.Names.{among, const_names, array_names, with_names};
 ghost use Rattle.vap_check.specs.Findings as wrong;
-ghost use Rattle.vap_check.specs.Known.{Knows, kind_in, line_in, const_keys, taken_in};
+ghost use Rattle.vap_check.specs.KeptNames.{Knows, kind_in, line_in, const_keys, taken_in};
 
 use crate::kinds::{First, Known, has, has_const, note};
-use crate::labels::{declare, items_labels};
-use crate::refusal::{CheckWhy, Finding, found, found_if};
-use crate::uses::{Scope, items};
+use crate::labels::{declare, note_items_labels};
+use crate::finding::{Finding, note_finding, note_finding_if};
+use crate::refusal::CheckWhy;
+use crate::uses::{Scope, judge_items};
 use indexmap::{IndexMap, IndexSet};
 use sig_types::Memory;
 use std::alloc::Global;
 use vap_ast::{ArrayDecl, ConstDecl, Items, Name, Program, Routine};
 
 #[tactic(auto, using(crate::proofs::Flat::findings_on))]
-fn const_findings(
+fn judge_consts(
     alloc: Global,
     decls: &[ConstDecl],
     first: &mut Option<Finding>,
@@ -46,14 +47,15 @@ fn const_line(consts: &IndexMap<Name, First>, name: &Name) -> Option<u32>
 }
 
 // Keeps the first of what was found and the clash of an array with a constant of its name.
-fn clash(consts: &IndexMap<Name, First>, name: &Name, line: u32, first: &mut Option<Finding>)
+fn judge_clash(consts: &IndexMap<Name, First>, name: &Name, line: u32, first: &mut Option<Finding>)
     ensures { first.new ≡ first_of_all first.old (wrong.clash_findings (line_in consts.now.entries name.now) line) }
 {
     if let Some(other) = const_line(consts, name) {
-        found(first, line.max(other), CheckWhy::NameKind);
+        note_finding(first, line.max(other), CheckWhy::NameKind);
     }
 }
 
+// Whether an array has another size than 1 to 1,024, or than the number of its values.
 fn is_odd_size(size: i32, values: &[i32]) -> bool
     ensures { result ≡ wrong.is_odd_size size values.now }
 {
@@ -61,7 +63,7 @@ fn is_odd_size(size: i32, values: &[i32]) -> bool
 }
 
 #[tactic(auto, using(crate::proofs::Flat::findings_on))]
-fn array_findings(
+fn judge_arrays(
     alloc: Global,
     consts: &IndexMap<Name, First>,
     decls: &[ArrayDecl],
@@ -79,8 +81,8 @@ fn array_findings(
             CheckWhy::NameKind,
             first,
         )?;
-        clash(consts, &decl.name, decl.line, first);
-        found_if(
+        judge_clash(consts, &decl.name, decl.line, first);
+        note_finding_if(
             first,
             is_odd_size(decl.size, &decl.values),
             decl.line,
@@ -92,7 +94,7 @@ fn array_findings(
 
 // Keeps the first of what was found and what is wrong with a body in which the subroutines `above` may be called.
 #[tactic(auto, using(crate::proofs::Flat::findings_on))]
-fn body_findings(
+fn judge_body(
     alloc: Global,
     known: &Known,
     above: &IndexSet<Name>,
@@ -102,13 +104,13 @@ fn body_findings(
     ensures { OnOk result (first.new ≡ first_of_all first.old (wrong.body_findings (kind_in known.now) above.now.keys (body_of body.now))) }
 {
     let mut labels = IndexSet::new(alloc);
-    items_labels(alloc, &body.0, &mut labels, first)?;
+    note_items_labels(alloc, &body.0, &mut labels, first)?;
     let scope = Scope {
         known,
         above,
         labels: &labels,
     };
-    items(&scope, &body.0, first);
+    judge_items(&scope, &body.0, first);
     Ok(())
 }
 
@@ -119,9 +121,10 @@ fn is_taken(known: &Known, name: &Name) -> bool
     has_const(&known.consts, name) || has(&known.arrays, name)
 }
 
-// The same for subroutines, whose names are put among those above as they come.
+// Keeps the first of what was found and what is wrong with subroutines, whose names are put among those above as they
+// come.
 #[tactic(auto, using(crate::proofs::Flat::findings_on))]
-fn subs_findings(
+fn judge_subs(
     alloc: Global,
     known: &Known,
     above: &mut IndexSet<Name>,
@@ -132,14 +135,14 @@ fn subs_findings(
     ensures found { OnOk result (first.new ≡ first_of_all first.old (wrong.subs_findings (kind_in known.now) (taken_in known.now) above.old.keys (map routine_of subs.now))) }
 {
     for sub in subs {
-        found_if(first, has(above, &sub.name), sub.line, CheckWhy::SubTwice);
-        found_if(
+        note_finding_if(first, has(above, &sub.name), sub.line, CheckWhy::SubTwice);
+        note_finding_if(
             first,
             is_taken(known, &sub.name),
             sub.line,
             CheckWhy::NameKind,
         );
-        body_findings(alloc, known, above, &sub.body, first)?;
+        judge_body(alloc, known, above, &sub.body, first)?;
         note(alloc, above, &sub.name)?;
     }
     Ok(())
@@ -156,10 +159,10 @@ pub fn first_finding(
     ensures { IfOk result (λ f. f ≡ first_of_all None (wrong.findings (program_of program.now))) }
 {
     let mut first = None;
-    const_findings(alloc, &program.consts, &mut first)?;
-    array_findings(alloc, &known.consts, &program.arrays, &mut first)?;
+    judge_consts(alloc, &program.consts, &mut first)?;
+    judge_arrays(alloc, &known.consts, &program.arrays, &mut first)?;
     let mut above = IndexSet::new(alloc);
-    subs_findings(alloc, known, &mut above, &program.subs, &mut first)?;
-    body_findings(alloc, known, &above, &program.main.body, &mut first)?;
+    judge_subs(alloc, known, &mut above, &program.subs, &mut first)?;
+    judge_body(alloc, known, &above, &program.main.body, &mut first)?;
     Ok(first)
 }

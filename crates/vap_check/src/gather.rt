@@ -3,9 +3,9 @@ ghost use Rattle.std.specs.Prelude.{◌≡◌, [], ◌∷◌, ◌++◌, false, O
 ghost use Rattle.vap_ast.specs.Tree.{expr_of, exprs_of, stmt_of, item_of, items_of, array_of, routine_of, constant_of, program_of};
 ghost use Rattle.vap_check.specs.Names as names_of;
 ghost use Rattle.vap_check.specs.Names.{with_names, among};
-ghost use Rattle.vap_check.specs.Known.{Knows, wanted_of, is_wanted, with_const, with_consts, const_keys};
+ghost use Rattle.vap_check.specs.KeptNames.{Knows, of_kind, with_const, with_consts, const_keys};
 
-use crate::kinds::{First, Kind, Known, has_const, note};
+use crate::kinds::{First, Kind, Known, has_const, is_kind, note};
 use indexmap::{IndexMap, IndexSet};
 use sig_types::Memory;
 use std::alloc::Global;
@@ -14,24 +14,24 @@ use vap_ast::{ArrayDecl, ConstDecl, Expr, Item, Name, Program, Routine, Stmt};
 // Notes the names in the timer commands of an item.
 #[cycle(timers)]
 #[tactic(auto, using(crate::proofs::Folds::names_on))]
-fn item_timers(alloc: Global, item: &Item, names: &mut IndexSet<Name>) -> Result<(), Memory>
+fn note_item_timers(alloc: Global, item: &Item, names: &mut IndexSet<Name>) -> Result<(), Memory>
     ensures { OnOk result (names.new.keys ≡ with_names names.old.keys (names_of.item_timers (item_of item.now))) }
 {
     match item {
         Item::Label { .. } => Ok(()),
-        Item::Step { what, .. } => stmt_timers(alloc, what, names),
+        Item::Step { what, .. } => note_stmt_timers(alloc, what, names),
     }
 }
 
 #[cycle(timers)]
 #[tactic(auto, using(crate::proofs::Folds::names_on))]
-fn stmt_timers(alloc: Global, what: &Stmt, names: &mut IndexSet<Name>) -> Result<(), Memory>
+fn note_stmt_timers(alloc: Global, what: &Stmt, names: &mut IndexSet<Name>) -> Result<(), Memory>
     ensures { OnOk result (names.new.keys ≡ with_names names.old.keys (names_of.stmt_timers (stmt_of what.now))) }
 {
     match what {
         Stmt::If { yes, no, .. } => {
-            items_timers(alloc, &yes.0, names)?;
-            items_timers(alloc, &no.0, names)
+            note_items_timers(alloc, &yes.0, names)?;
+            note_items_timers(alloc, &no.0, names)
         }
         Stmt::Timer { timer, .. } => note(alloc, names, timer),
         _ => Ok(()),
@@ -40,146 +40,136 @@ fn stmt_timers(alloc: Global, what: &Stmt, names: &mut IndexSet<Name>) -> Result
 
 #[cycle(timers)]
 #[tactic(auto, using(crate::proofs::Folds::names_on))]
-fn items_timers(alloc: Global, items: &[Item], names: &mut IndexSet<Name>) -> Result<(), Memory>
+fn note_items_timers(alloc: Global, items: &[Item], names: &mut IndexSet<Name>) -> Result<(), Memory>
     ensures { OnOk result (names.new.keys ≡ with_names names.old.keys (names_of.items_timers (items_of items.now))) }
 {
     for item in items {
-        item_timers(alloc, item, names)?;
+        note_item_timers(alloc, item, names)?;
     }
     Ok(())
 }
 
-// Notes a name that is used, where it is a timer, or else a variable.
+// Notes a name that is used, where it is of this kind.
 fn note_use(
     alloc: Global,
     known: &Known,
-    timers: bool,
+    wanted: Kind,
     name: &Name,
     names: &mut IndexSet<Name>,
 ) -> Result<(), Memory>
-    ensures { OnOk result (names.new.keys ≡ with_names names.old.keys (wanted_of known.now timers (name.now ∷ []))) }
+    ensures { OnOk result (names.new.keys ≡ with_names names.old.keys (of_kind known.now wanted (name.now ∷ []))) }
 {
-    if is_wanted(timers, known.kind(name)) {
+    if is_kind(wanted, known.kind(name)) {
         note(alloc, names, name)
     } else {
         Ok(())
     }
 }
 
-fn is_wanted(timers: bool, kind: Kind) -> bool
-    ensures { result ≡ is_wanted timers kind }
-{
-    match kind {
-        Kind::Timer => timers,
-        Kind::Variable => !timers,
-        Kind::Constant | Kind::Array | Kind::Sub => false,
-    }
-}
-
-// Notes the timers that an expression uses, or else the variables.
-#[cycle(expr_uses)]
+// Notes the names of this kind that an expression uses.
+#[cycle(expression_uses)]
 #[tactic(auto, using(crate::proofs::Folds::wanted_on))]
-fn expr_uses(
+fn note_expr_uses(
     alloc: Global,
     known: &Known,
-    timers: bool,
+    wanted: Kind,
     e: &Expr,
     names: &mut IndexSet<Name>,
 ) -> Result<(), Memory>
-    ensures { OnOk result (names.new.keys ≡ with_names names.old.keys (wanted_of known.now timers (names_of.expr_uses (expr_of e.now)))) }
+    ensures { OnOk result (names.new.keys ≡ with_names names.old.keys (of_kind known.now wanted (names_of.expr_uses (expr_of e.now)))) }
 {
     match e {
         Expr::Literal(_) => Ok(()),
-        Expr::Name(name) => note_use(alloc, known, timers, name, names),
-        Expr::Cell { index, .. } => expr_uses(alloc, known, timers, index, names),
-        Expr::Unary { arg, .. } => expr_uses(alloc, known, timers, arg, names),
+        Expr::Name(name) => note_use(alloc, known, wanted, name, names),
+        Expr::Cell { index, .. } => note_expr_uses(alloc, known, wanted, index, names),
+        Expr::Unary { arg, .. } => note_expr_uses(alloc, known, wanted, arg, names),
         Expr::Binary { left, right, .. } => {
-            expr_uses(alloc, known, timers, left, names)?;
-            expr_uses(alloc, known, timers, right, names)
+            note_expr_uses(alloc, known, wanted, left, names)?;
+            note_expr_uses(alloc, known, wanted, right, names)
         }
-        Expr::Read { args, .. } => exprs_uses(alloc, known, timers, args, names),
+        Expr::Read { args, .. } => note_exprs_uses(alloc, known, wanted, args, names),
     }
 }
 
-#[cycle(expr_uses)]
+#[cycle(expression_uses)]
 #[tactic(auto, using(crate::proofs::Folds::wanted_on))]
-fn exprs_uses(
+fn note_exprs_uses(
     alloc: Global,
     known: &Known,
-    timers: bool,
+    wanted: Kind,
     args: &[Expr],
     names: &mut IndexSet<Name>,
 ) -> Result<(), Memory>
-    ensures { OnOk result (names.new.keys ≡ with_names names.old.keys (wanted_of known.now timers (names_of.exprs_uses (exprs_of args.now)))) }
+    ensures { OnOk result (names.new.keys ≡ with_names names.old.keys (of_kind known.now wanted (names_of.exprs_uses (exprs_of args.now)))) }
 {
     for arg in args {
-        expr_uses(alloc, known, timers, arg, names)?;
+        note_expr_uses(alloc, known, wanted, arg, names)?;
     }
     Ok(())
 }
 
-// Notes the timers that an item uses, or else the variables.
-#[cycle(stmt_uses)]
+// Notes the names of this kind that an item uses.
+#[cycle(statement_uses)]
 #[tactic(auto, using(crate::proofs::Folds::wanted_on))]
-fn item_uses(
+fn note_item_uses(
     alloc: Global,
     known: &Known,
-    timers: bool,
+    wanted: Kind,
     item: &Item,
     names: &mut IndexSet<Name>,
 ) -> Result<(), Memory>
-    ensures { OnOk result (names.new.keys ≡ with_names names.old.keys (wanted_of known.now timers (names_of.item_uses (item_of item.now)))) }
+    ensures { OnOk result (names.new.keys ≡ with_names names.old.keys (of_kind known.now wanted (names_of.item_uses (item_of item.now)))) }
 {
     match item {
         Item::Label { .. } => Ok(()),
-        Item::Step { what, .. } => stmt_uses(alloc, known, timers, what, names),
+        Item::Step { what, .. } => note_stmt_uses(alloc, known, wanted, what, names),
     }
 }
 
-#[cycle(stmt_uses)]
+#[cycle(statement_uses)]
 #[tactic(auto, using(crate::proofs::Folds::wanted_on))]
-fn stmt_uses(
+fn note_stmt_uses(
     alloc: Global,
     known: &Known,
-    timers: bool,
+    wanted: Kind,
     what: &Stmt,
     names: &mut IndexSet<Name>,
 ) -> Result<(), Memory>
-    ensures { OnOk result (names.new.keys ≡ with_names names.old.keys (wanted_of known.now timers (names_of.stmt_uses (stmt_of what.now)))) }
+    ensures { OnOk result (names.new.keys ≡ with_names names.old.keys (of_kind known.now wanted (names_of.stmt_uses (stmt_of what.now)))) }
 {
     match what {
         Stmt::Assign { target, value } => {
-            note_use(alloc, known, timers, target, names)?;
-            expr_uses(alloc, known, timers, value, names)
+            note_use(alloc, known, wanted, target, names)?;
+            note_expr_uses(alloc, known, wanted, value, names)
         }
         Stmt::Cell { index, value, .. } => {
-            expr_uses(alloc, known, timers, index, names)?;
-            expr_uses(alloc, known, timers, value, names)
+            note_expr_uses(alloc, known, wanted, index, names)?;
+            note_expr_uses(alloc, known, wanted, value, names)
         }
         Stmt::If { test, yes, no } => {
-            expr_uses(alloc, known, timers, test, names)?;
-            items_uses(alloc, known, timers, &yes.0, names)?;
-            items_uses(alloc, known, timers, &no.0, names)
+            note_expr_uses(alloc, known, wanted, test, names)?;
+            note_items_uses(alloc, known, wanted, &yes.0, names)?;
+            note_items_uses(alloc, known, wanted, &no.0, names)
         }
-        Stmt::Do { args, .. } => exprs_uses(alloc, known, timers, args, names),
-        Stmt::Timer { timer, .. } => note_use(alloc, known, timers, timer, names),
+        Stmt::Do { args, .. } => note_exprs_uses(alloc, known, wanted, args, names),
+        Stmt::Timer { timer, .. } => note_use(alloc, known, wanted, timer, names),
         Stmt::Goto { .. } | Stmt::Gosub { .. } | Stmt::Trace => Ok(()),
     }
 }
 
-#[cycle(stmt_uses)]
+#[cycle(statement_uses)]
 #[tactic(auto, using(crate::proofs::Folds::wanted_on))]
-fn items_uses(
+fn note_items_uses(
     alloc: Global,
     known: &Known,
-    timers: bool,
+    wanted: Kind,
     items: &[Item],
     names: &mut IndexSet<Name>,
 ) -> Result<(), Memory>
-    ensures { OnOk result (names.new.keys ≡ with_names names.old.keys (wanted_of known.now timers (names_of.items_uses (items_of items.now)))) }
+    ensures { OnOk result (names.new.keys ≡ with_names names.old.keys (of_kind known.now wanted (names_of.items_uses (items_of items.now)))) }
 {
     for item in items {
-        item_uses(alloc, known, timers, item, names)?;
+        note_item_uses(alloc, known, wanted, item, names)?;
     }
     Ok(())
 }
@@ -215,7 +205,7 @@ fn note_const(
     put_const(consts, name, first)
 }
 
-fn const_names(alloc: Global, decls: &[ConstDecl]) -> Result<IndexMap<Name, First>, Memory>
+fn gather_consts(alloc: Global, decls: &[ConstDecl]) -> Result<IndexMap<Name, First>, Memory>
     ensures { IfOk result (λ m. m.entries ≡ with_consts [] (map constant_of decls.now)) }
 {
     let mut consts = IndexMap::new(alloc);
@@ -225,7 +215,7 @@ fn const_names(alloc: Global, decls: &[ConstDecl]) -> Result<IndexMap<Name, Firs
     Ok(consts)
 }
 
-fn array_names(alloc: Global, decls: &[ArrayDecl]) -> Result<IndexSet<Name>, Memory>
+fn gather_arrays(alloc: Global, decls: &[ArrayDecl]) -> Result<IndexSet<Name>, Memory>
     ensures { IfOk result (λ s. s.keys ≡ with_names [] (map (λ a. a.name) (map array_of decls.now))) }
 {
     let mut names = IndexSet::new(alloc);
@@ -235,7 +225,7 @@ fn array_names(alloc: Global, decls: &[ArrayDecl]) -> Result<IndexSet<Name>, Mem
     Ok(names)
 }
 
-fn sub_names(alloc: Global, subs: &[Routine]) -> Result<IndexSet<Name>, Memory>
+fn gather_subs(alloc: Global, subs: &[Routine]) -> Result<IndexSet<Name>, Memory>
     ensures { IfOk result (λ s. s.keys ≡ with_names [] (map (λ r. r.name) (map routine_of subs.now))) }
 {
     let mut names = IndexSet::new(alloc);
@@ -247,42 +237,42 @@ fn sub_names(alloc: Global, subs: &[Routine]) -> Result<IndexSet<Name>, Memory>
 
 // Notes the names in the timer commands of subroutines.
 #[tactic(auto, using(crate::proofs::Folds::names_on))]
-fn subs_timers(alloc: Global, subs: &[Routine], names: &mut IndexSet<Name>) -> Result<(), Memory>
+fn note_subs_timers(alloc: Global, subs: &[Routine], names: &mut IndexSet<Name>) -> Result<(), Memory>
     ensures { OnOk result (names.new.keys ≡ with_names names.old.keys (flat_map names_of.items_timers (map (λ r. r.body) (map routine_of subs.now)))) }
 {
     for sub in subs {
-        items_timers(alloc, &sub.body.0, names)?;
+        note_items_timers(alloc, &sub.body.0, names)?;
     }
     Ok(())
 }
 
-// Notes the timers that subroutines use, or else the variables.
+// Notes the names of this kind that subroutines use.
 #[tactic(auto, using(crate::proofs::Folds::wanted_on))]
-fn subs_uses(
+fn note_subs_uses(
     alloc: Global,
     known: &Known,
-    timers: bool,
+    wanted: Kind,
     subs: &[Routine],
     names: &mut IndexSet<Name>,
 ) -> Result<(), Memory>
-    ensures { OnOk result (names.new.keys ≡ with_names names.old.keys (wanted_of known.now timers (flat_map names_of.items_uses (map (λ r. r.body) (map routine_of subs.now))))) }
+    ensures { OnOk result (names.new.keys ≡ with_names names.old.keys (of_kind known.now wanted (flat_map names_of.items_uses (map (λ r. r.body) (map routine_of subs.now))))) }
 {
     for sub in subs {
-        items_uses(alloc, known, timers, &sub.body.0, names)?;
+        note_items_uses(alloc, known, wanted, &sub.body.0, names)?;
     }
     Ok(())
 }
 
 /// The names that a program declares, and those in its timer commands.
-pub fn known(alloc: Global, program: &Program) -> Result<Known, Memory>
+pub fn declared_names(alloc: Global, program: &Program) -> Result<Known, Memory>
     ensures { IfOk result (λ k. Knows k (program_of program.now)) }
 {
-    let consts = const_names(alloc, &program.consts)?;
-    let arrays = array_names(alloc, &program.arrays)?;
-    let subs = sub_names(alloc, &program.subs)?;
+    let consts = gather_consts(alloc, &program.consts)?;
+    let arrays = gather_arrays(alloc, &program.arrays)?;
+    let subs = gather_subs(alloc, &program.subs)?;
     let mut timers = IndexSet::new(alloc);
-    subs_timers(alloc, &program.subs, &mut timers)?;
-    items_timers(alloc, &program.main.body.0, &mut timers)?;
+    note_subs_timers(alloc, &program.subs, &mut timers)?;
+    note_items_timers(alloc, &program.main.body.0, &mut timers)?;
     Ok(Known {
         consts,
         arrays,
@@ -291,17 +281,17 @@ pub fn known(alloc: Global, program: &Program) -> Result<Known, Memory>
     })
 }
 
-/// The timers that a program uses, or else the variables, in the order of first use.
-pub fn used(
+/// The names of this kind that a program uses, in the order of first use.
+pub fn used_names(
     alloc: Global,
     known: &Known,
-    timers: bool,
+    wanted: Kind,
     program: &Program,
 ) -> Result<IndexSet<Name>, Memory>
-    ensures { IfOk result (λ s. s.keys ≡ with_names [] (wanted_of known.now timers (names_of.uses (program_of program.now)))) }
+    ensures { IfOk result (λ s. s.keys ≡ with_names [] (of_kind known.now wanted (names_of.uses (program_of program.now)))) }
 {
     let mut names = IndexSet::new(alloc);
-    subs_uses(alloc, known, timers, &program.subs, &mut names)?;
-    items_uses(alloc, known, timers, &program.main.body.0, &mut names)?;
+    note_subs_uses(alloc, known, wanted, &program.subs, &mut names)?;
+    note_items_uses(alloc, known, wanted, &program.main.body.0, &mut names)?;
     Ok(names)
 }

@@ -1,18 +1,18 @@
 // The first refusal of a program, and all of its names.
 ghost use Rattle.std.specs.Prelude.{◌≡◌, None, IfOk, length};
 ghost use Rattle.vap_ast.specs.Tree.{program_of};
-ghost use Rattle.vap_check.specs.Found.{first_of_all};
+ghost use Rattle.vap_check.specs.FirstFinding.{first_of_all};
 ghost use Rattle.vap_check.specs.Findings.{findings};
 ghost use Rattle.vap_check.specs.Names as names_of;
-ghost use Rattle.vap_check.specs.Known.{KnowsAll};
-ghost use Rattle.vap_check.specs.Accepted.{RefusalIs};
-ghost use Rattle.vap_check.specs.Judged.{IsJudged};
+ghost use Rattle.vap_check.specs.KeptNames.{KnowsAll};
+ghost use Rattle.vap_check.specs.Judgement.{IsJudged, RefusalIs};
 
 use crate::declarations::first_finding;
-use crate::gather::{known, used};
-use crate::kinds::Names;
-use crate::limits::{passed, program_size};
-use crate::refusal::{CheckWhy, Finding};
+use crate::gather::{declared_names, used_names};
+use crate::kinds::{Kind, Names};
+use crate::limits::{first_passed_limit, program_size};
+use crate::finding::Finding;
+use crate::refusal::CheckWhy;
 use sig_types::Memory;
 use std::alloc::Global;
 use vap_ast::Program;
@@ -25,12 +25,12 @@ pub struct Judged {
 }
 
 // All names of a program.
-fn names(alloc: Global, program: &Program) -> Result<Names, Memory>
+fn gather_names(alloc: Global, program: &Program) -> Result<Names, Memory>
     ensures { IfOk result (λ n. KnowsAll n (program_of program.now)) }
 {
-    let known = known(alloc, program)?;
-    let timers = used(alloc, &known, true, program)?;
-    let variables = used(alloc, &known, false, program)?;
+    let known = declared_names(alloc, program)?;
+    let timers = used_names(alloc, &known, Kind::Timer, program)?;
+    let variables = used_names(alloc, &known, Kind::Variable, program)?;
     Ok(Names {
         known,
         timers,
@@ -39,7 +39,7 @@ fn names(alloc: Global, program: &Program) -> Result<Names, Memory>
 }
 
 // What a program is refused for, where this is the first of its findings, and it has so many variables and timers.
-fn refusal(
+fn refusal_of(
     program: &Program,
     first: Option<Finding>,
     variables: usize,
@@ -53,7 +53,7 @@ fn refusal(
     if let Some(finding) = first {
         return Some(finding);
     }
-    if let Some(which) = passed(program, variables, timers) {
+    if let Some(which) = first_passed_limit(program, variables, timers) {
         return Some(Finding {
             line: 0,
             why: CheckWhy::Limit(which),
@@ -68,12 +68,12 @@ fn refusal(
     None
 }
 
-/// Judges a program.
+/// Gathers the names of a program, and what it is refused for.
 pub fn judge(alloc: Global, program: &Program) -> Result<Judged, Memory>
     ensures { IfOk result (λ j. IsJudged (program_of program.now) j) }
 {
-    let names = names(alloc, program)?;
+    let names = gather_names(alloc, program)?;
     let first = first_finding(alloc, &names.known, program)?;
-    let refusal = refusal(program, first, names.variables.len(), names.timers.len());
+    let refusal = refusal_of(program, first, names.variables.len(), names.timers.len());
     Ok(Judged { names, refusal })
 }

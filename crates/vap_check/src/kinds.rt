@@ -1,7 +1,7 @@
 // What the names of a program are.
 ghost use Rattle.std.specs.Prelude.{◌≡◌, OnOk, IfOk, map};
-ghost use Rattle.vap_check.specs.Known.{kind_in, const_keys};
-ghost use Rattle.vap_check.specs.Names.{among, with_name};
+ghost use Rattle.vap_check.specs.KeptNames.{kind_in, const_keys};
+ghost use Rattle.vap_check.specs.Names.{among, is_kind, with_name};
 
 use indexmap::{IndexMap, IndexSet};
 use sig_types::Memory;
@@ -16,6 +16,13 @@ pub enum Kind {
     Sub,
     Timer,
     Variable,
+}
+
+/// Whether a kind is this one.
+pub fn is_kind(wanted: Kind, kind: Kind) -> bool
+    ensures { result ≡ is_kind wanted kind }
+{
+    wanted == kind
 }
 
 /// The first declaration of a constant.

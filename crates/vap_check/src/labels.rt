@@ -1,12 +1,13 @@
 // The labels of a routine, of which each stands once.
 ghost use Rattle.std.specs.Prelude.{◌≡◌, OnOk, map};
 ghost use Rattle.vap_ast.specs.Tree.{stmt_of, item_of, items_of};
-ghost use Rattle.vap_check.specs.Found.{first_of_all, when};
+ghost use Rattle.vap_check.specs.FirstFinding.{first_of_all, when};
 ghost use Rattle.vap_check.specs.Names.{among, with_name, with_names, stmt_labels as labels_of_stmt, item_labels as labels_of_item, items_labels as labels_of_items};
 ghost use Rattle.vap_check.specs.Findings.{label_findings};
 
 use crate::kinds::{has, note};
-use crate::refusal::{CheckWhy, Finding, found_if};
+use crate::finding::{Finding, note_finding_if};
+use crate::refusal::CheckWhy;
 use indexmap::IndexSet;
 use sig_types::Memory;
 use std::alloc::Global;
@@ -24,14 +25,14 @@ pub fn declare(
     ensures names { OnOk result (before.new.keys ≡ with_name before.old.keys name.now) }
     ensures found { OnOk result (first.new ≡ first_of_all first.old (when (among before.old.keys name.now) line why)) }
 {
-    found_if(first, has(before, name), line, why);
+    note_finding_if(first, has(before, name), line, why);
     note(alloc, before, name)
 }
 
 // Notes the labels of an item, and keeps the first of what was found and the labels that stand again.
 #[cycle(labels)]
 #[tactic(auto, using(crate::proofs::Labelling::labels_on, crate::proofs::Labelling::names_of_both))]
-fn item_labels(
+fn note_item_labels(
     alloc: Global,
     item: &Item,
     names: &mut IndexSet<Name>,
@@ -49,13 +50,13 @@ fn item_labels(
             CheckWhy::LabelTwice,
             first,
         ),
-        Item::Step { what, .. } => stmt_labels(alloc, what, names, first),
+        Item::Step { what, .. } => note_stmt_labels(alloc, what, names, first),
     }
 }
 
 #[cycle(labels)]
 #[tactic(auto, using(crate::proofs::Labelling::labels_on, crate::proofs::Labelling::names_of_both))]
-fn stmt_labels(
+fn note_stmt_labels(
     alloc: Global,
     what: &Stmt,
     names: &mut IndexSet<Name>,
@@ -66,8 +67,8 @@ fn stmt_labels(
 {
     match what {
         Stmt::If { yes, no, .. } => {
-            items_labels(alloc, &yes.0, names, first)?;
-            items_labels(alloc, &no.0, names, first)
+            note_items_labels(alloc, &yes.0, names, first)?;
+            note_items_labels(alloc, &no.0, names, first)
         }
         _ => Ok(()),
     }
@@ -76,7 +77,7 @@ fn stmt_labels(
 /// Notes the labels of items, and keeps the first of what was found and the labels that stand again.
 #[cycle(labels)]
 #[tactic(auto, using(crate::proofs::Labelling::labels_on, crate::proofs::Labelling::names_of_both))]
-pub fn items_labels(
+pub fn note_items_labels(
     alloc: Global,
     items: &[Item],
     names: &mut IndexSet<Name>,
@@ -86,7 +87,7 @@ pub fn items_labels(
     ensures found { OnOk result (first.new ≡ first_of_all first.old (label_findings names.old.keys (labels_of_items (items_of items.now)))) }
 {
     for item in items {
-        item_labels(alloc, item, names, first)?;
+        note_item_labels(alloc, item, names, first)?;
     }
     Ok(())
 }

@@ -3,6 +3,7 @@
 
 mod checked;
 mod declarations;
+mod finding;
 mod gather;
 mod judge;
 mod kinds;
@@ -15,6 +16,7 @@ ghost use Rattle.std.specs.Prelude.{◌≡◌, ℕ, IfOk, IfErr};
 ghost use Rattle.vap_ast.specs.Syntax as plain;
 ghost use Rattle.vap_ast.specs.Tree.{program_of};
 ghost use Rattle.vap_ast.specs.Parsed.{Parsed};
+ghost use Rattle.vap_check.specs.declared.refusal.CheckRefusal.TheVariants.{Memory};
 ghost use Rattle.vap_check.specs.declared.refusal.CheckWhy.{CheckWhy as Why};
 ghost use Rattle.vap_check.specs.Accepted.{Accepted, Refuses, IsRefused};
 ghost use Rattle.vap_check.specs.Numbers.{checked_of};
@@ -32,17 +34,16 @@ pub fn one_answer()
     ensures apart { (p : plain.Program) (l : ℕ) (v : Why) → Accepted p → Refuses p l v → ⊥ }
 {}
 
-/// Checks a program: the checked program with the numbers of its names, or its first refusal. What is wrong in the least
-/// line comes first, and in one line the least reason; then the limits, and then the size. A refused program is dropped.
+/// Checks a program: the checked program with the numbers of its names, or its first refusal. What is wrong in the lowest
+/// line comes first, and in one line the reason with the lowest number; then the limits, and then the size. A refused
+/// program is dropped.
 pub fn check(alloc: Global, program: Program) -> Result<Checked, CheckRefusal>
     requires { Parsed 1048577 (program_of program) }
     ensures accepted { IfOk result (λ c. Accepted (program_of program) × (c ≡ checked_of program)) }
+    ensures only { Accepted (program_of program) → IfErr result (λ e. e ≡ Memory) }
     ensures refused { IfErr result (λ e. IsRefused (program_of program) e) }
 {
-    let judged = match judge(alloc, &program) {
-        Ok(judged) => judged,
-        Err(_) => return Err(CheckRefusal::Memory),
-    };
+    let judged = judge(alloc, &program)?;
     match judged.refusal {
         Some(finding) => Err(CheckRefusal::At {
             line: finding.line,

@@ -9,7 +9,7 @@ use vap_ast::{ArrayDecl, Item, Program, Routine, Stmt, add_capped, items_size};
 
 // The cells of arrays, counted up to 65,536.
 #[tactic(auto, using(crate::proofs::Sums::length_on))]
-fn cells(arrays: &[ArrayDecl]) -> usize
+fn count_cells(arrays: &[ArrayDecl]) -> usize
     ensures { result ≡ min (length (flat_map (λ a. a.values) (map array_of arrays.now))) 65536 }
 {
     let mut total = 0;
@@ -20,59 +20,60 @@ fn cells(arrays: &[ArrayDecl]) -> usize
 }
 
 // The labels of an item, counted up to 65,536.
-#[cycle(count)]
+#[cycle(labels)]
 #[tactic(auto, using(crate::proofs::Sums::length_on))]
-fn item_labels(item: &Item) -> usize
+fn count_item_labels(item: &Item) -> usize
     ensures { result ≡ min (length (names.item_labels (item_of item.now))) 65536 }
 {
     match item {
         Item::Label { .. } => 1,
-        Item::Step { what, .. } => stmt_labels(what),
+        Item::Step { what, .. } => count_stmt_labels(what),
     }
 }
 
-#[cycle(count)]
+#[cycle(labels)]
 #[tactic(auto, using(crate::proofs::Sums::length_on))]
-fn stmt_labels(what: &Stmt) -> usize
+fn count_stmt_labels(what: &Stmt) -> usize
     ensures { result ≡ min (length (names.stmt_labels (stmt_of what.now))) 65536 }
 {
     match what {
-        Stmt::If { yes, no, .. } => add_capped(items_labels(&yes.0), items_labels(&no.0)),
+        Stmt::If { yes, no, .. } => add_capped(count_items_labels(&yes.0), count_items_labels(&no.0)),
         _ => 0,
     }
 }
 
-#[cycle(count)]
+#[cycle(labels)]
 #[tactic(auto, using(crate::proofs::Sums::length_on))]
-fn items_labels(items: &[Item]) -> usize
+fn count_items_labels(items: &[Item]) -> usize
     ensures { result ≡ min (length (names.items_labels (items_of items.now))) 65536 }
 {
     let mut total = 0;
     for item in items {
-        total = add_capped(total, item_labels(item));
+        total = add_capped(total, count_item_labels(item));
     }
     total
 }
 
 #[tactic(auto, using(crate::proofs::Sums::length_on))]
-fn subs_labels(subs: &[Routine]) -> usize
+// The labels of subroutines, counted up to 65,536.
+fn count_subs_labels(subs: &[Routine]) -> usize
     ensures { result ≡ min (length (flat_map names.items_labels (map (λ r. r.body) (map routine_of subs.now)))) 65536 }
 {
     let mut total = 0;
     for sub in subs {
-        total = add_capped(total, items_labels(&sub.body.0));
+        total = add_capped(total, count_items_labels(&sub.body.0));
     }
     total
 }
 
 // The labels of a program, counted up to 65,536.
 #[tactic(auto, using(crate::proofs::Sums::labels_on))]
-fn labels(program: &Program) -> usize
+fn count_labels(program: &Program) -> usize
     ensures { result ≡ min (whole.labels (program_of program.now)) 65536 }
 {
     add_capped(
-        subs_labels(&program.subs),
-        items_labels(&program.main.body.0),
+        count_subs_labels(&program.subs),
+        count_items_labels(&program.main.body.0),
     )
 }
 
@@ -98,7 +99,7 @@ pub fn program_size(program: &Program) -> usize
 }
 
 /// What a program has too many of, where it has so many variables and timers.
-pub fn passed(program: &Program, variables: usize, timers: usize) -> Option<Which>
+pub fn first_passed_limit(program: &Program, variables: usize, timers: usize) -> Option<Which>
     requires variables { variables ≡ length (names.variables (program_of program.now)) }
     requires timers { timers ≡ length (names.timers (program_of program.now)) }
     ensures { result ≡ whole.passed (program_of program.now) }
@@ -109,11 +110,11 @@ pub fn passed(program: &Program, variables: usize, timers: usize) -> Option<Whic
         Some(Which::Timers)
     } else if program.arrays.len() > 32 {
         Some(Which::Arrays)
-    } else if cells(&program.arrays) > 4096 {
+    } else if count_cells(&program.arrays) > 4096 {
         Some(Which::Cells)
     } else if program.subs.len() > 64 {
         Some(Which::Subroutines)
-    } else if labels(program) > 4096 {
+    } else if count_labels(program) > 4096 {
         Some(Which::Labels)
     } else {
         None

@@ -4,9 +4,9 @@ use Rattle.vap_check.proofs.declarations.first_finding.Goals as goal
 
 pub returns : goal.returns
 returns c =
-    let consts = rw c.deref.ensures.value at c.in_ok-const_findings.ensures in
-    let arrays = rw c.deref-2.ensures.value at c.in_ok-array_findings.ensures in
-    let above = rw c.deref-3.ensures.value at c.in_ok-subs_findings.ensures.above in
-    let subs = rw c.deref-3.ensures.value at c.in_ok-subs_findings.ensures.found in
-    all_on c.args.known.now (program_of c.args.program.now) c.requires c.new-above.result.keys c.subs_findings.new.above.keys c.const_findings.new.first c.array_findings.new.first c.subs_findings.new.first c.body_findings.new.first c.new-above.ensures.empty
-    consts arrays above subs c.in_ok-body_findings.ensures
+    let consts = rw c.deref.ensures.value at c.in_ok-judge_consts.ensures in
+    let arrays = rw c.deref-2.ensures.value at c.in_ok-judge_arrays.ensures in
+    let above = rw c.deref-3.ensures.value at c.in_ok-judge_subs.ensures.above in
+    let subs = rw c.deref-3.ensures.value at c.in_ok-judge_subs.ensures.found in
+    all_on c.args.known.now (program_of c.args.program.now) c.requires c.new-above.result.keys c.judge_subs.new.above.keys c.judge_consts.new.first c.judge_arrays.new.first c.judge_subs.new.first c.judge_body.new.first c.new-above.ensures.empty
+    consts arrays above subs c.in_ok-judge_body.ensures

@@ -1,8 +1,0 @@
-use Rattle.std.proofs.Common.{◌≡◌, drop}
-use Rattle.vap_ast.specs.Tree.{items_of}
-use Rattle.vap_check.specs.Found.{first_of_all}
-use Rattle.vap_check.specs.Scope.{items_findings}
-use Rattle.vap_check.proofs.uses.+stmt.Given as goal
-
-abbrev pub invariant-items-loop-each : goal.invariant-items-loop-each
-invariant-items-loop-each l = first_of_all l.first (items_findings l.scope (items_of (drop l.each-index l.items))) ≡ first_of_all l.fn.first (items_findings l.scope (items_of l.items))
