@@ -1,9 +1,9 @@
 -- At most one check is broken first.
-use Rattle.std.proofs.Common.{◌≡◌, ℕ, ◌<◌, refl, sym, arith, subst, ⊎_elim}
+use Rattle.std.proofs.Common.{◌≡◌, ℕ, ◌<◌, sym, arith, subst, ⊎_elim}
 use Rattle.std.proofs.lemmas.Bool.{cases_lt}
 use Rattle.vap_code.specs.Codes.{CodeOf}
 use Rattle.vap_code.specs.declared.VerifyWhy.{VerifyWhy}
-use Rattle.vap_code.specs.Valid.{FirstBroken, FitsCheck, check_rank}
+use Rattle.vap_code.specs.Valid.{FirstBroken, check_rank}
 use Rattle.code_verify.specs.First.{OneIsFirst, ValidBreaksNone}
 use Rattle.code_verify.proofs.Checked.{same_rank}
 
@@ -17,10 +17,10 @@ module _ (code : CodeOf) where
       ⊎_elim
       (λ less. absurd (not_later a b p q x y less))
       (λ more.
-          ⊎_elim
-          (λ less. absurd (not_later b a q p y x less))
-          (λ more'. same_rank a b (omega arith))
-          (cases_lt (check_rank b) (check_rank a)))
+      ⊎_elim
+      (λ less. absurd (not_later b a q p y x less))
+      (λ more'. same_rank a b (omega arith))
+      (cases_lt (check_rank b) (check_rank a)))
       (cases_lt (check_rank a) (check_rank b))
 
   -- no lesser place breaks the check
@@ -32,10 +32,10 @@ module _ (code : CodeOf) where
       ⊎_elim
       (λ less. absurd (not_lower a p q x y less))
       (λ more.
-          ⊎_elim
-          (λ less. absurd (not_lower a q p y x less))
-          (λ more'. omega arith)
-          (cases_lt q p))
+      ⊎_elim
+      (λ less. absurd (not_lower a q p y x less))
+      (λ more'. omega arith)
+      (cases_lt q p))
       (cases_lt p q)
 
 pub one_is_first : OneIsFirst

@@ -5,7 +5,7 @@ use Rattle.std.specs.List.{All}
 use Rattle.std.proofs.lemmas.List.Elements.{All-nil, All-cons, All-head, All-tail}
 use Rattle.std.proofs.lemmas.List.Sums.{sum-map, sum_by_more_le}
 use Rattle.std.proofs.Math.ListN.{length-map}
-use Rattle.std.specs.Prelude.{ℤ, IsTrue, ◌↔◌}
+use Rattle.std.specs.Prelude.{ℤ}
 use Rattle.vap_code.specs.Valid.{rise, begins}
 use Rattle.code_verify.specs.Shape.{ArraysFit}
 

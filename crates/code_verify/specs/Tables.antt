@@ -8,6 +8,7 @@ use Rattle.code_verify.specs.declared.tables.Number.{Number}
 use Rattle.code_verify.specs.declared.tables.Number.TheVariants.{Stretch, Commands}
 use Rattle.code_verify.specs.declared.tables.Tables.{Tables}
 
+-- the first of two that is there
 abbrev pub first_some : Option ℕ → Option ℕ → Option ℕ
 first_some None other = other
 first_some (Some h) other = Some h
@@ -27,11 +28,13 @@ abbrev pub number_of : Number → Instr → ℕ → ℕ
 number_of Stretch i later = stretch_of i later
 number_of Commands i later = commands_of i later
 
+-- the number of the n-th place from the end, from those after it
 abbrev pub number_before : Number → List Instr → List ℕ → ℕ → List ℕ → ℕ
 number_before number instrs starts n later =
     let p = length instrs - n in
     number_of number (instr_at instrs p) (greatest instrs starts p (later_at instrs p later))
 
+-- the numbers of all places
 abbrev pub numbers : Number → List Instr → List ℕ → List ℕ
 numbers number instrs starts = from_last (number_before number instrs starts) (length instrs)
 
@@ -39,6 +42,7 @@ numbers number instrs starts = from_last (number_before number instrs starts) (l
 abbrev pub JumpsAhead : List Instr → Type 0
 JumpsAhead instrs = (p : ℕ) → p < length instrs → IfSome (target (instr_at instrs p)) (λ t. (t < length instrs) × (t ≤ p → IsTrue (is_tick (instr_at instrs t))))
 
+-- the tables have the heights, stretches and command counts of the code
 pub record IsTables (code : CodeOf) (t : Tables) : Type 0 where
   pub heights : t.heights.items ≡ heights code
   pub all_heights : length t.heights.items ≡ length code.instrs

@@ -25,13 +25,17 @@ pub struct Machine {
     pub commands: Given,
 }
 
-/// What an instruction comes to; `Nowhere` where it is stuck.
+/// What an instruction comes to.
 #[derive(Clone, Copy, PartialEq, Eq, Debug)]
 pub enum Next {
+    /// The next instruction follows.
     On,
+    /// The pass came to its end.
     End,
+    /// A fault ends the pass.
     Fault(FaultKind),
-    Nowhere,
+    /// No rule fits: an operand, a place or a slot is missing. Valid code never comes to this.
+    Stuck,
 }
 
 impl Machine {
@@ -44,7 +48,7 @@ impl Machine {
             place: 0,
             line: 0,
             units: 0,
-            operands: Operands::with_room(alloc)?,
+            operands: Operands::empty(),
             noted: Noted::with_room(alloc)?,
             slots,
             commands: Given::with_room(alloc)?,

@@ -104,7 +104,7 @@ impl Vm {
                     line: self.machine.line,
                 })
             }
-            Next::On | Next::Nowhere => unreachable!(),
+            Next::On | Next::Stuck => unreachable!(),
         }
     }
 

@@ -1,5 +1,5 @@
 use Rattle.std.proofs.Common.{sym, ◌∙◌, arith}
-use Rattle.vap_vm.proofs.PassFacts.{last_start_at, no_start}
+use Rattle.code_verify.proofs.LastStart.{last_start_at, no_start}
 use Rattle.vap_vm.proofs.passes.last_start.Goals as goal
 
 pub returns-then-is_empty : goal.returns-then-is_empty
