@@ -16,7 +16,7 @@ use Rattle.sig_types.specs.Counts.{Counts}
 use Rattle.sig_types.specs.FirstRefused.{refused_to, first_refused}
 use Rattle.sig_types.specs.Text.{cut_at, number_of, within}
 use Rattle.det_stream.specs.declared.refusal.StreamWhy.TheVariants as why
-use Rattle.det_stream.specs.Totals.{HasAtMost}
+use Rattle.det_stream.specs.Totals.{HasAtMost, RearsWithinFronts}
 use Rattle.det_stream.specs.Entries.{Numbers, judge_entry, numbers_why, numbers_of, last_detector, numbers_in, all_three, field_number, AreNumbers, entries_of, frame_of, with_entry}
 
 abbrev at_colon : ℕ → Bool
@@ -204,6 +204,9 @@ nothing = (0, 0)
 
 pub zero_counts : (most : ℕ) → HasAtMost most (replicate 64 (0, 0))
 zero_counts most p lt = rw (get_or-replicate 64 p nothing nothing lt) (omega arith, omega arith)
+
+pub zeros_within : RearsWithinFronts (replicate 64 (0, 0))
+zeros_within p lt = rw (get_or-replicate 64 p nothing nothing lt) (omega arith)
 
 pub small_put : (counts : Counts) (d f r : ℕ) → HasAtMost 99 counts → length counts ≡ 64 → 1 ≤ d → d ≤ 64 → f ≤ 99 → r ≤ 99 → HasAtMost 99 (slice_set counts (d - 1) (f, r))
 small_put counts d f r small size least most few more p lt = elim (cases_eq p (d - 1)) [

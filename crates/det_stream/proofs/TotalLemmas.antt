@@ -4,14 +4,50 @@ use Rattle.std.proofs.lemmas.Bool.{le-ltb, lt-ltb, cases_lt}
 use Rattle.std.proofs.lemmas.List.{take_all, take-append-le, get_or_append_left}
 use Rattle.std.proofs.lemmas.List.Sums.{sum_by_push}
 use Rattle.std.proofs.Math.Seq.{get_or-append_seam}
-use Rattle.sig_types.specs.Counts.{Counts, Kind, fronts, rears, count_in, count_to, AreFrames, Takes}
+use Rattle.sig_types.specs.Counts.{Counts, Kind, fronts, rears, count_in, count_to, AreFrames, IsZeroOutside, Takes}
 use Rattle.sig_types.specs.Words.{least_below}
 use Rattle.det_stream.specs.Stream.{least_ahead}
-use Rattle.det_stream.specs.Totals.{counts_at, HasAtMost, RearsWithinFronts, IsSum, AreTotals, least_ahead_in}
+use Rattle.det_stream.specs.Totals.{counts_at, HasAtMost, RearsWithinFronts, SilentWithinFronts, IsSum, AreTotals, least_ahead_in}
 use Rattle.sig_types.proofs.LastBelow.{least_below-never, least_below-at}
 
 pub none_ahead : (totals : Counts) → RearsWithinFronts totals → least_ahead_in totals ≡ None
 none_ahead totals behind = least_below-never (λ p. nat_lt (counts_at totals p).0 (counts_at totals p).1) 64 (λ j lt. le-ltb (counts_at totals j).0 (counts_at totals j).1 (behind j lt))
+
+-- a detector without counts in the frame has those that it had
+pub silent_sum : (totals frame : Counts) (k : ℕ) → counts_at frame k ≡ (0, 0) →
+    ((counts_at totals k).0 ≡ (counts_at totals k).0 + (counts_at frame k).0) × ((counts_at totals k).1 ≡ (counts_at totals k).1 + (counts_at frame k).1)
+silent_sum totals frame k none = rw none (omega arith, omega arith)
+
+-- the sum, where the detectors of a span were added and no other has counts in the frame
+pub sum_in_span : (old frame new : Counts) (low high place : ℕ) → IsZeroOutside low high frame → high ≤ place →
+    ((k : ℕ) → k < place → (counts_at new k).0 ≡ (counts_at old k).0 + (counts_at frame k).0) →
+    ((k : ℕ) → k < place → (counts_at new k).1 ≡ (counts_at old k).1 + (counts_at frame k).1) →
+    ((k : ℕ) → place ≤ k → counts_at new k ≡ counts_at old k) → IsSum old frame new
+sum_in_span old frame new low high place outside end fronts_done rears_done left = record {
+  fronts_are = λ p lt. elim (cases_lt p place) [
+    | inl inside ↦ fronts_done p inside
+    | inr after ↦ rw (left p (omega arith)) (silent_sum old frame p (outside.after p (omega arith))).0
+  ];
+  rears_are = λ p lt. elim (cases_lt p place) [
+    | inl inside ↦ rears_done p inside
+    | inr after ↦ rw (left p (omega arith)) (silent_sum old frame p (outside.after p (omega arith))).1
+  ];
+}
+
+-- the counts so far, where no detector of a span has more rears than fronts
+pub within_span : (totals frame : Counts) (low high place : ℕ) → IsZeroOutside low high frame → high ≤ place → SilentWithinFronts frame totals →
+    ((k : ℕ) → k < place → (counts_at totals k).1 ≤ (counts_at totals k).0) → RearsWithinFronts totals
+within_span totals frame low high place outside end silent inside p lt = elim (cases_lt p place) [
+  | inl before ↦ inside p before
+  | inr after ↦ silent p lt (outside.after p (omega arith))
+]
+
+-- the other detectors have what they had
+pub silent_within : (old frame new : Counts) → RearsWithinFronts old → IsSum old frame new → SilentWithinFronts frame new
+silent_within old frame new within sum p lt none =
+    let f : (counts_at frame p).0 ≡ 0 = ap (λ (x : ℕ × ℕ). x.0) none in
+    let r : (counts_at frame p).1 ≡ 0 = ap (λ (x : ℕ × ℕ). x.1) none in
+    omega (arith, sum.fronts_are p lt, sum.rears_are p lt, within p lt, f, r)
 
 pub one_ahead : (totals : Counts) (n : ℕ) → (counts_at totals n).0 < (counts_at totals n).1 → n < 64 → ((j : ℕ) → j < n → (counts_at totals j).1 ≤ (counts_at totals j).0) → least_ahead_in totals ≡ Some n
 one_ahead totals n here lt before = least_below-at (λ p. nat_lt (counts_at totals p).0 (counts_at totals p).1) 64 n (lt-ltb (counts_at totals n).0 (counts_at totals n).1 here) lt

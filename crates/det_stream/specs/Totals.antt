@@ -15,6 +15,10 @@ HasAtMost most counts = (p : ℕ) → p < 64 → ((counts_at counts p).0 ≤ mos
 abbrev pub RearsWithinFronts : Counts → Type 0
 RearsWithinFronts counts = (p : ℕ) → p < 64 → (counts_at counts p).1 ≤ (counts_at counts p).0
 
+-- no detector without counts in this frame has more rears than fronts
+abbrev pub SilentWithinFronts : Counts → Counts → Type 0
+SilentWithinFronts frame totals = (p : ℕ) → p < 64 → counts_at frame p ≡ (0, 0) → (counts_at totals p).1 ≤ (counts_at totals p).0
+
 -- these counts and those of a frame, added for each detector
 pub record IsSum (old frame new : Counts) : Type 0 where
   pub fronts_are : (p : ℕ) → p < 64 → (counts_at new p).0 ≡ (counts_at old p).0 + (counts_at frame p).0

@@ -94,7 +94,7 @@ pub fn read_entries(line: &[u8], frame: &mut Frame) -> Result<(), StreamWhy>
     ensures counts { OnOk result (HasAtMost 99 frame.new) }
     ensures size { OnOk result (length frame.new ≡ 64) }
 {
-    *frame = Frame::empty();
+    frame.clear();
     if line.is_empty() {
         return Ok(());
     }

@@ -33,6 +33,7 @@ pub fn read_line(
 ) -> Result<(), StreamWhy>
     requires at_most { second ≤ 604800 }
     requires totals { HasAtMost (99 * second) totals.old }
+    requires within_fronts { RearsWithinFronts totals.old }
     ensures judged { LineIsJudged second totals.old line.now result }
     ensures below { OnOk result (second < 604800) }
     ensures frame { OnOk result (frame.new ≡ frame_of line.now) }
@@ -50,5 +51,5 @@ pub fn read_line(
         Err(why) => return Err(why),
     }
     add(totals, frame);
-    judge_totals(totals)
+    judge_totals(totals, frame)
 }

@@ -2,7 +2,7 @@
 ghost use Rattle.std.specs.Prelude.{◌≡◌, ◌≤◌, ◌*◌, ◌+◌, ℕ, List, [], true, Ok, Err, IfOk, is_ok};
 ghost use Rattle.std.specs.Option.{ForSome};
 ghost use Rattle.sig_io.specs.Outside.{Rose};
-ghost use Rattle.det_stream.specs.Totals.{HasAtMost};
+ghost use Rattle.det_stream.specs.Totals.{HasAtMost, RearsWithinFronts};
 ghost use Rattle.det_stream.specs.Unread.{bytes_given};
 
 use crate::line::{read_line, too_long};
@@ -24,6 +24,7 @@ pub struct Lines {
     ghost at_most: { second ≤ 604800 },
     ghost read_at_most: { live ≡ true → bytes_given reader ≤ 1026 * second },
     ghost totals_at_most: { live ≡ true → HasAtMost (99 * second) totals },
+    ghost within_fronts: { live ≡ true → RearsWithinFronts totals },
 }
 
 impl Lines {

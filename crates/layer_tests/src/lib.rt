@@ -18,6 +18,8 @@ mod plans;
 #[cfg(test)]
 mod seconds;
 #[cfg(test)]
+mod streams;
+#[cfg(test)]
 mod tables;
 pub mod texts;
 #[cfg(test)]

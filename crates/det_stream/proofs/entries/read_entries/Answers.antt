@@ -13,14 +13,14 @@ pub returns-then-is_empty-clause-judged : goal.returns-then-is_empty-clause-judg
 returns-then-is_empty-clause-judged c = empty_judged c.args.line.now (sym c.is_empty.ensures ∙ c.if-is_empty.true)
 
 pub returns-then-is_empty-clause-frame : goal.returns-then-is_empty-clause-frame
-returns-then-is_empty-clause-frame c = c.empty.ensures ∙ empty_frame c.args.line.now (sym c.is_empty.ensures ∙ c.if-is_empty.true)
+returns-then-is_empty-clause-frame c = c.clear.ensures ∙ empty_frame c.args.line.now (sym c.is_empty.ensures ∙ c.if-is_empty.true)
 
 pub returns-then-is_empty-clause-counts : goal.returns-then-is_empty-clause-counts
-returns-then-is_empty-clause-counts c = rw c.empty.ensures (zero_counts 99)
+returns-then-is_empty-clause-counts c = rw c.clear.ensures (zero_counts 99)
 
 pub loop-piece-init : goal.loop-piece-init
 unfolding refused_to numbers_of
-loop-piece-init c = record { last = refl; accepted = refl; frame = c.empty.ensures; small = rw c.empty.ensures (zero_counts 99); size = rw c.empty.ensures refl }
+loop-piece-init c = record { last = refl; accepted = refl; frame = c.clear.ensures; small = rw c.clear.ensures (zero_counts 99); size = rw c.clear.ensures refl }
 
 pub returns-in_err-entry-clause-judged : goal.returns-in_err-entry-clause-judged
 returns-in_err-entry-clause-judged c =

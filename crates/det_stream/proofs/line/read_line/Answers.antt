@@ -1,4 +1,5 @@
 use Rattle.std.proofs.Common.{arith}
+use Rattle.det_stream.proofs.TotalLemmas.{silent_within}
 use Rattle.det_stream.proofs.StreamLemmas.{judge_many, judge_wrong, judge_right}
 use Rattle.det_stream.proofs.line.read_line.Goals as goal
 
@@ -13,3 +14,6 @@ pub returns-clause-judged : goal.returns-clause-judged
 returns-clause-judged c before size short are =
     rw (judge_right before c.args.line.now c.args.totals.now c.add.new.totals (omega (arith, size, c.requires.at_most, c.if-second-eq-MOST_LINES.false)) short c.in-Ok.ensures.judged are (rw c.in-Ok.ensures.frame at c.add.ensures))
     c.judge_totals.ensures.judged
+
+pub judge_totals-requires : goal.judge_totals-requires
+judge_totals-requires c = silent_within c.args.totals.now _ c.add.new.totals c.requires.within_fronts c.add.ensures
