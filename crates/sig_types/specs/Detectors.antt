@@ -22,15 +22,18 @@ abbrev pub has_front : List Counts → ℕ → ℕ → Bool
 has_front frames d zero = false
 has_front frames d (suc j) = nat_lt 0 (count_in fronts d (slice_index_or frames j []))
 
+-- the detector is occupied at the end of second j or has a front in it
 unfoldable pub is_detected : List Counts → ℕ → ℕ → Bool
 is_detected frames d j = is_occupied frames d j || has_front frames d j
 
+-- the same of the two counts
 abbrev pub same_kind : Kind → Kind → Bool
 same_kind fronts fronts = true
 same_kind fronts rears = false
 same_kind rears fronts = false
 same_kind rears rears = true
 
+-- this kind of count of the detector was cleared in second c
 abbrev pub clears_at : List Clear → Kind → ℕ → ℕ → Bool
 clears_at [] kind d c = false
 clears_at (x ∷ xs) kind d c = ((x.second == c) && (same_kind x.kind kind) && (x.detector == d)) || clears_at xs kind d c
@@ -40,13 +43,16 @@ abbrev pub since_clear : Kind → List Counts → List Clear → ℕ → ℕ →
 since_clear kind frames clears d k =
     count_to kind frames d k - count_to kind frames d (unwrap_or (last_below (clears_at clears kind d) k) 0)
 
+-- the seconds from the last one with a detection to second k, at most 10,000; 10,000 where there is none
 abbrev pub headway_of : ℕ → Option ℕ → ℕ
 headway_of k None = 10000
 headway_of k (Some j) = min 10000 (k - j)
 
+-- the seconds since the last one with a detection
 unfoldable pub headway : List Counts → ℕ → ℕ → ℕ
 headway frames d k = headway_of k (last_below (is_detected frames d) (k + 1))
 
+-- the unbroken occupied seconds up to k
 unfoldable pub occupancy : List Counts → ℕ → ℕ → ℕ
 occupancy frames d k = run_to (is_occupied frames d) k
 
@@ -55,10 +61,12 @@ abbrev pub detector_of : ℤ → Option ℕ
 detector_of (pos n) = if nat_le 1 n && nat_le n 64 then Some n else None
 detector_of (negsuc n) = None
 
+-- the number of a detector
 abbrev pub detector_number : Option DetNo → Option ℕ
 detector_number None = None
 detector_number (Some d) = Some d.0
 
+-- a value of the detector, where a number names one
 abbrev pub of_detector : Option ℕ → (ℕ → ℤ) → Option ℤ
 of_detector None f = None
 of_detector (Some d) f = Some (f d)

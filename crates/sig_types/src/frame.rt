@@ -4,9 +4,9 @@ ghost use Rattle.sig_types.specs.Counts.{IsZeroOutside};
 
 use std::marker::Model;
 
+// Most seconds have counts of few detectors, so the places of the first and the last of them are kept beside the counts.
 /// The fronts and rears of detectors 1 to 64 in one second; place p is detector p + 1. Contracts see it as the list of
 /// these 64 pairs.
-// Most seconds have counts of few detectors, so the places of the first and the last of them are kept beside the counts.
 #[derive(Drop)]
 pub struct Frame {
     counts: [(u32, u32); 64],

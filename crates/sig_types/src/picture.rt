@@ -1,5 +1,5 @@
 // The picture of a second.
-ghost use Rattle.std.specs.Prelude.{◌≡◌, ℕ, ◌<◌, ◌≤◌, List, length, take, replicate, slice_index_or, slice_set};
+ghost use Rattle.std.specs.Prelude.{◌≡◌, ◌<◌, ◌≤◌, List, length, take, replicate, slice_index_or, slice_set};
 
 use crate::Aspect;
 use std::marker::Model;

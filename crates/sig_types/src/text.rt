@@ -1,5 +1,5 @@
 // Numbers and names in a text: what the readers of all formats share.
-ghost use Rattle.std.specs.Prelude.{◌≡◌, ◌≤◌, ◌<◌, ◌^◌, ℕ, None, Some, MatchOption, IfSome, IsTrue, is_some, length, if◌then◌else◌};
+ghost use Rattle.std.specs.Prelude.{◌≡◌, ◌≤◌, ◌<◌, ◌^◌, None, Some, MatchOption, IfSome, IsTrue, is_some, length, if◌then◌else◌};
 ghost use Rattle.sig_types.specs.Text.{all_digits, cut_at, strip, number_of, value_from, within, is_digit, is_letter, is_name, is_word, lower, same_name};
 
 /// What stands before the first `stop`, and what stands after it; None where no `stop` stands.

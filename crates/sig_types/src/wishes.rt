@@ -1,5 +1,5 @@
 // The wishes of a second.
-ghost use Rattle.std.specs.Prelude.{◌≡◌, ℕ, ◌<◌, ◌≤◌, List, length, take, replicate, slice_index_or, slice_set, false};
+ghost use Rattle.std.specs.Prelude.{◌≡◌, ◌<◌, ◌≤◌, List, length, take, replicate, slice_index_or, slice_set, false};
 
 use std::marker::Model;
 
