@@ -1,5 +1,6 @@
 // The files, the standard output and the standard error of the system.
-ghost use Rattle.std.specs.Prelude.{◌≡◌, ◌≤◌, None, IfOk, length};
+ghost use Rattle.std.specs.Prelude.{◌≡◌, ◌<◌, ◌≤◌, None, IfOk, OnOk, length};
+ghost use Rattle.sig_io.specs.Outside.{HasCause};
 
 use crate::{Failed, Files, Sink};
 use std::io::{ErrorKind, Read, Seek, SeekFrom, Write};
@@ -19,6 +20,7 @@ struct OpenFile<F> {
 }
 
 impl<F: Read + Seek> OpenFile<F> {
+    // Whether the file was opened by this name.
     fn is(&self, name: &str) -> bool {
         &self.name[..self.len] == name.as_bytes()
     }
@@ -109,7 +111,12 @@ impl<R: rt::Files> Files for DiskFiles<'_, R> {
 
     ghost faults = { λ d. d.faults };
 
-    fn read_at(&mut self, name: &str, place: u64, buf: &mut [u8]) -> Result<usize, Failed> {
+    fn read_at(&mut self, name: &str, place: u64, buf: &mut [u8]) -> Result<usize, Failed>
+        requires { 0 < length buf.old }
+        ensures count { IfOk result (λ n. n ≤ length buf.new) }
+        ensures cause { HasCause self.old.faults self.new.faults result }
+        ensures faults { OnOk result (self.new.faults ≡ self.old.faults) }
+    {
         match read_file(self.runtime, self.last.take(), name, place, buf) {
             Ok((file, n)) => {
                 self.last = Some(file);
@@ -125,7 +132,7 @@ impl<R: rt::Files> Files for DiskFiles<'_, R> {
 
 // Gives the system a piece. A write that takes nothing has failed.
 fn write_piece<R: Print>(to: &R, piece: &[u8]) -> Result<usize, Failed>
-    ensures some { IfOk result (λ n. 1 ≤ n) }
+    ensures at_least { IfOk result (λ n. 1 ≤ n) }
     ensures count { IfOk result (λ n. n ≤ length piece.now) }
 {
     match to.write_some(piece) {
@@ -155,7 +162,13 @@ impl<R: Print> Sink for OutSink<'_, R> {
 
     ghost faults = { λ s. s.faults };
 
-    fn write_some(&mut self, piece: &[u8]) -> Result<usize, Failed> {
+    fn write_some(&mut self, piece: &[u8]) -> Result<usize, Failed>
+        requires { 0 < length piece.now }
+        ensures at_least { IfOk result (λ n. 1 ≤ n) }
+        ensures count { IfOk result (λ n. n ≤ length piece.now) }
+        ensures cause { HasCause self.old.faults self.new.faults result }
+        ensures faults { OnOk result (self.new.faults ≡ self.old.faults) }
+    {
         match write_piece(self.output, piece) {
             Ok(n) => Ok(n),
             Err(failed) => {
@@ -187,7 +200,13 @@ impl<R: Print> Sink for ErrSink<'_, R> {
 
     ghost faults = { λ s. s.faults };
 
-    fn write_some(&mut self, piece: &[u8]) -> Result<usize, Failed> {
+    fn write_some(&mut self, piece: &[u8]) -> Result<usize, Failed>
+        requires { 0 < length piece.now }
+        ensures at_least { IfOk result (λ n. 1 ≤ n) }
+        ensures count { IfOk result (λ n. n ≤ length piece.now) }
+        ensures cause { HasCause self.old.faults self.new.faults result }
+        ensures faults { OnOk result (self.new.faults ≡ self.old.faults) }
+    {
         match write_piece(self.errors, piece) {
             Ok(n) => Ok(n),
             Err(failed) => {

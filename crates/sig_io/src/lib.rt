@@ -3,12 +3,16 @@
 
 mod adapters;
 mod draft;
+mod gate;
 mod memory;
 mod outside;
+mod sure;
 mod whole;
 
 pub use adapters::{DiskFiles, ErrSink, OutSink};
 pub use draft::Draft;
+pub use gate::{FreeGate, Gate};
 pub use memory::{MemFiles, MemSink};
 pub use outside::{Failed, Files, Sink};
+pub use sure::{SureFiles, SureSink};
 pub use whole::{PutFault, ReadRefusal, put_all, read_whole};

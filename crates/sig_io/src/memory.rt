@@ -1,14 +1,14 @@
 // Files and sinks in memory, whose calls fail where they are told to.
 ghost use Rattle.sig_io.specs.Outside.{HasCause, IsRead};
 ghost use Rattle.sig_io.specs.Memory.{Fails, contents_of, file_of};
-ghost use Rattle.std.specs.Prelude.{◌≡◌, ◌⊎◌, ◌++◌, ℕ, ◌+◌, ◌-◌, ◌^◌, ◌<◌, ◌≤◌, min, List, [], length, take, Some, None, Contains, IfOk, OnOk, OnErr, MatchOption, vec_len, vec_capacity};
+ghost use Rattle.std.specs.Prelude.{◌≡◌, ◌⊎◌, ◌++◌, ◌+◌, ◌-◌, ◌^◌, ◌<◌, ◌≤◌, min, [], length, take, Some, None, Contains, IfOk, OnOk, OnErr, MatchOption, vec_len, vec_capacity};
 
 use crate::{Failed, Files, Sink};
 use sig_types::Memory;
 use std::alloc::Global;
 
-// The bytes of the first file of that name.
-fn find<'a>(files: &'a [(String, Vec<u8>)], name: &str) -> Option<&'a [u8]>
+/// The bytes of the first file of that name.
+pub fn find<'a>(files: &'a [(String, Vec<u8>)], name: &str) -> Option<&'a [u8]>
     ensures { MatchOption result (file_of files.now name.now ≡ None) (λ bytes. file_of files.now name.now ≡ Some bytes.now) }
 {
     for (own, bytes) in files {
@@ -19,8 +19,8 @@ fn find<'a>(files: &'a [(String, Vec<u8>)], name: &str) -> Option<&'a [u8]>
     None
 }
 
-// Copies from that place on at most `most` bytes, and as many as fit.
-fn copy_from(bytes: &[u8], place: u64, most: usize, buf: &mut [u8]) -> usize
+/// Copies from that place on at most `most` bytes, and as many as fit.
+pub fn copy_from(bytes: &[u8], place: u64, most: usize, buf: &mut [u8]) -> usize
     requires most { 1 ≤ most }
     requires room { 0 < length buf.old }
     ensures count { result ≤ length buf.new }
@@ -45,20 +45,21 @@ pub struct MemFiles {
     most: usize,
     calls: u64,
     faults: u64,
-    ghost some: { 1 ≤ most },
+    ghost at_least: { 1 ≤ most },
 }
 
 impl MemFiles {
     ghost use Rattle.sig_io.specs.Memory.{contents_of};
+    ghost use Rattle.sig_io.specs.InMemory.{failing_reads, files_in, most_given, reads_called};
 
     /// Files of these names and bytes; no call has been made.
     pub fn new(files: Vec<(String, Vec<u8>)>, failing: Vec<u64>, most: usize) -> MemFiles
         requires { 1 ≤ most }
         ensures told { ⟦<MemFiles as Files>⟧.told result ≡ Some (contents_of files.items) }
         ensures faults { ⟦<MemFiles as Files>⟧.faults result ≡ 0 }
-        ensures files { result.files ≡ files }
-        ensures first { result.calls ≡ 0 }
-        ensures kept { (result.failing ≡ failing) × (result.most ≡ most) }
+        ensures files { files_in result ≡ files.items }
+        ensures first { reads_called result ≡ 0 }
+        ensures kept { (failing_reads result ≡ failing.items) × (most_given result ≡ most) }
     {
         MemFiles {
             files,
@@ -72,6 +73,7 @@ impl MemFiles {
 
 impl Files for MemFiles {
     ghost use Rattle.sig_io.specs.Memory.{contents_of};
+    ghost use Rattle.sig_io.specs.InMemory.{failed_reads, failing_reads, files_in, most_given, reads_called};
 
     ghost told = { λ m. Some (contents_of m.files.items) };
 
@@ -80,15 +82,15 @@ impl Files for MemFiles {
     fn read_at(&mut self, name: &str, place: u64, buf: &mut [u8]) -> Result<usize, Failed>
         requires { 0 < length buf.old }
         ensures count { IfOk result (λ n. n ≤ length buf.new) }
-        ensures bytes { IfOk result (λ n. IsRead (contents_of self.old.files.items name.now) place n buf.new) }
-        ensures same { self.new.files ≡ self.old.files }
-        ensures cause { HasCause self.old.faults self.new.faults result }
-        ensures fails { OnErr result (Fails self.old.failing.items self.old.calls (file_of self.old.files.items name.now)) }
-        ensures serves { OnOk result (Fails self.old.failing.items self.old.calls (file_of self.old.files.items name.now) → ⊥) }
-        ensures most { IfOk result (λ n. n ≤ self.old.most) }
-        ensures next { self.new.calls ≡ min (self.old.calls + 1) (2 ^ 64 - 1) }
-        ensures kept { (self.new.failing ≡ self.old.failing) × (self.new.most ≡ self.old.most) }
-        ensures faults { OnOk result (self.new.faults ≡ self.old.faults) }
+        ensures bytes { IfOk result (λ n. IsRead (contents_of (files_in self.old) name.now) place n buf.new) }
+        ensures contents_stay { files_in self.new ≡ files_in self.old }
+        ensures cause { HasCause (failed_reads self.old) (failed_reads self.new) result }
+        ensures fails { OnErr result (Fails (failing_reads self.old) (reads_called self.old) (file_of (files_in self.old) name.now)) }
+        ensures serves { OnOk result (Fails (failing_reads self.old) (reads_called self.old) (file_of (files_in self.old) name.now) → ⊥) }
+        ensures most { IfOk result (λ n. n ≤ most_given self.old) }
+        ensures next { reads_called self.new ≡ min (reads_called self.old + 1) (2 ^ 64 - 1) }
+        ensures kept { (failing_reads self.new ≡ failing_reads self.old) × (most_given self.new ≡ most_given self.old) }
+        ensures faults { OnOk result (failed_reads self.new ≡ failed_reads self.old) }
     {
         let call = self.calls;
         self.calls = self.calls.saturating_add(1);
@@ -116,12 +118,14 @@ pub struct MemSink {
 }
 
 impl MemSink {
+    ghost use Rattle.sig_io.specs.InMemory.{failing_writes, room_of, writes_called};
+
     /// An empty sink; the memory for all its bytes is taken here.
     pub fn new(alloc: Global, room: usize, failing: Vec<u64>) -> Result<MemSink, Memory>
         ensures empty { IfOk result (λ s. ⟦<MemSink as Sink>⟧.taken s ≡ Some []) }
         ensures faults { IfOk result (λ s. ⟦<MemSink as Sink>⟧.faults s ≡ 0) }
-        ensures first { IfOk result (λ s. s.calls ≡ 0) }
-        ensures kept { IfOk result (λ s. (s.failing ≡ failing) × (s.room ≡ room)) }
+        ensures first { IfOk result (λ s. writes_called s ≡ 0) }
+        ensures kept { IfOk result (λ s. (failing_writes s ≡ failing.items) × (room_of s ≡ room)) }
     {
         match Vec::with_capacity(alloc, room) {
             Ok(bytes) => Ok(MemSink {
@@ -144,22 +148,24 @@ impl MemSink {
 }
 
 impl Sink for MemSink {
+    ghost use Rattle.sig_io.specs.InMemory.{bytes_in, failed_writes, failing_writes, room_of, writes_called};
+
     ghost taken = { λ s. Some s.bytes.items };
 
     ghost faults = { λ s. s.faults };
 
     fn write_some(&mut self, piece: &[u8]) -> Result<usize, Failed>
         requires { 0 < length piece.now }
-        ensures count { IfOk result (λ n. n ≡ min (length piece.now) (self.old.room - vec_len self.old.bytes)) }
-        ensures some { IfOk result (λ n. 1 ≤ n) }
-        ensures bytes { IfOk result (λ n. self.new.bytes.items ≡ self.old.bytes.items ++ take n piece.now) }
-        ensures none { OnErr result (self.new.bytes.items ≡ self.old.bytes.items) }
-        ensures cause { HasCause self.old.faults self.new.faults result }
-        ensures fails { OnErr result (Contains self.old.failing.items self.old.calls ⊎ vec_len self.old.bytes ≡ self.old.room) }
-        ensures takes { OnOk result (Contains self.old.failing.items self.old.calls → ⊥) }
-        ensures next { self.new.calls ≡ min (self.old.calls + 1) (2 ^ 64 - 1) }
-        ensures kept { (self.new.failing ≡ self.old.failing) × (self.new.room ≡ self.old.room) }
-        ensures faults { OnOk result (self.new.faults ≡ self.old.faults) }
+        ensures count { IfOk result (λ n. n ≡ min (length piece.now) (room_of self.old - length (bytes_in self.old))) }
+        ensures at_least { IfOk result (λ n. 1 ≤ n) }
+        ensures bytes { IfOk result (λ n. bytes_in self.new ≡ bytes_in self.old ++ take n piece.now) }
+        ensures none { OnErr result (bytes_in self.new ≡ bytes_in self.old) }
+        ensures cause { HasCause (failed_writes self.old) (failed_writes self.new) result }
+        ensures fails { OnErr result (Contains (failing_writes self.old) (writes_called self.old) ⊎ length (bytes_in self.old) ≡ room_of self.old) }
+        ensures takes { OnOk result (Contains (failing_writes self.old) (writes_called self.old) → ⊥) }
+        ensures next { writes_called self.new ≡ min (writes_called self.old + 1) (2 ^ 64 - 1) }
+        ensures kept { (failing_writes self.new ≡ failing_writes self.old) × (room_of self.new ≡ room_of self.old) }
+        ensures faults { OnOk result (failed_writes self.new ≡ failed_writes self.old) }
     {
         let call = self.calls;
         self.calls = self.calls.saturating_add(1);

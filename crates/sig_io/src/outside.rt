@@ -24,7 +24,7 @@ pub trait Files {
         requires { 0 < length buf.old }
         ensures count { IfOk result (λ n. n ≤ length buf.new) }
         ensures bytes { ForSome (told self.old) (λ file. IfOk result (λ n. IsRead (file name.now) place n buf.new)) }
-        ensures same { told self.new ≡ told self.old }
+        ensures contents_stay { told self.new ≡ told self.old }
         ensures cause { HasCause (faults self.old) (faults self.new) result };
 }
 
@@ -41,7 +41,7 @@ pub trait Sink {
     /// `Failed` takes none, and comes only where the count of faults rose, or stands at its last value.
     fn write_some(&mut self, piece: &[u8]) -> Result<usize, Failed>
         requires { 0 < length piece.now }
-        ensures some { IfOk result (λ n. 1 ≤ n) }
+        ensures at_least { IfOk result (λ n. 1 ≤ n) }
         ensures count { IfOk result (λ n. n ≤ length piece.now) }
         ensures bytes { IfOk result (λ n. taken self.new ≡ append_known (taken self.old) (take n piece.now)) }
         ensures none { OnErr result (taken self.new ≡ taken self.old) }

@@ -1,5 +1,5 @@
 // Whole files and whole texts.
-ghost use Rattle.std.specs.Prelude.{◌≡◌, ℕ, ◌+◌, ◌<◌, ◌≤◌, List, length, take, Option, IfOk, OnOk, IfErr, vec_len, Err};
+ghost use Rattle.std.specs.Prelude.{◌≡◌, ℕ, ◌+◌, ◌<◌, ◌≤◌, length, take, Option, IfOk, OnOk, IfErr, vec_len, Err};
 ghost use Rattle.std.specs.Option.{ForSome};
 ghost use Rattle.std.specs.Io.KnownBytes.{append_known};
 ghost use Rattle.sig_io.specs.Outside.{HasCause, ReadsOn, Rose};
@@ -70,7 +70,7 @@ fn read_more<F: Files>(
     ensures count { IfOk result (λ n. n ≤ room) }
     ensures len { IfOk result (λ n. vec_len bytes.new ≡ vec_len bytes.old + n) }
     ensures bytes { ForSome (F.told files.old) (λ file. IfOk result (λ n. ReadsOn (file name.now) bytes.old.items n bytes.new.items)) }
-    ensures same { F.told files.new ≡ F.told files.old }
+    ensures contents_stay { F.told files.new ≡ F.told files.old }
     ensures later { F.faults files.old ≤ F.faults files.new }
     ensures cause { result ≡ Err ReadRefusal.Fault → Rose (F.faults files.old) (F.faults files.new) }
     ensures fits { (n : ℕ) → result ≡ Err (ReadRefusal.TooLong n) → ⊥ }
@@ -101,7 +101,7 @@ pub fn read_whole<F: Files>(
     ensures within { IfOk result (λ v. vec_len v ≤ limit) }
     ensures too_long { ForSome (F.told files.old) (λ file. (n : ℕ) → result ≡ Err (ReadRefusal.TooLong n) → limit < length (file name.now)) }
     ensures seen { (n : ℕ) → result ≡ Err (ReadRefusal.TooLong n) → n ≡ limit + 1 }
-    ensures same { F.told files.new ≡ F.told files.old }
+    ensures contents_stay { F.told files.new ≡ F.told files.old }
     ensures later { F.faults files.old ≤ F.faults files.new }
     ensures cause { result ≡ Err ReadRefusal.Fault → Rose (F.faults files.old) (F.faults files.new) }
 {

@@ -11,7 +11,7 @@ returns-then-n-eq0-clause-bytes g c = λ file e.
 pub loop-bytes-preserved : goal.loop-bytes-preserved
 loop-bytes-preserved g c = (
   omega (arith, c.in_ok-n.ensures.len, c.in_ok-n.ensures.count),
-  c.in_ok-n.ensures.same ∙ c.loop-bytes.invariant.1,
+  c.in_ok-n.ensures.contents_stay ∙ c.loop-bytes.invariant.1,
   omega (arith, c.in_ok-n.ensures.later),
   λ file e.
       let len : length c.read_more.new.bytes.items ≡ length c.loop-bytes.bytes.items + c.in_ok-n.n = grind (arith, common_steps) in
