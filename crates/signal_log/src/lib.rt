@@ -1,12 +1,13 @@
 //! The text of a log: a header that names the signal groups, and a line for each second.
 //!
-//! A line is `SECOND|STAGE|ASPECTS|COUNTS|REFUSED|FAULT`, ended by LF. `specs/Log` has its fields one by one. Both
-//! calls write through a buffer of fixed size, and take no memory.
+//! A line is `SECOND|STAGE|ASPECTS|COUNTS|REFUSED|FAULT`, ended by LF. `specs/Log` has its fields one by one. The calls
+//! write through a buffer of fixed size, their own or the caller's, and take no memory.
 #![tactic(auto)]
 
 mod fields;
+pub mod laws;
 mod log;
 mod refused;
 mod words;
 
-pub use log::{write_header, write_second};
+pub use log::{put_header, put_second, write_header, write_second};

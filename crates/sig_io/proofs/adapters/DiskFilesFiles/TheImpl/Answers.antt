@@ -1,4 +1,4 @@
-use Rattle.std.proofs.Common.{refl, rules}
+use Rattle.std.proofs.Common.{rules}
 use Rattle.sig_io.proofs.adapters.DiskFilesFiles.TheImpl.Goals as goal
 
 pub read_at-tells : goal.read_at-tells
