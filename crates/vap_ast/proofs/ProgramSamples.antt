@@ -9,7 +9,6 @@ use Rattle.vap_ast.specs.declared.name.Entry.{Entry}
 use Rattle.vap_ast.specs.declared.name.Meaning.TheVariants.{Variable, Sub as SubOf}
 use Rattle.vap_ast.specs.declared.tree.BinaryOp.TheVariants.{Add, Lt, Mul}
 use Rattle.vap_ast.specs.Syntax.{Expr, Exprs, Item, Items, Stmt}
-use Rattle.vap_ast.specs.Names.{Source}
 use Rattle.vap_ast.specs.Rest.{rest_from}
 use Rattle.vap_ast.specs.Mean.{Outcome, Done, Faulted, mean}
 use Rattle.vap_ast.proofs.ValueSamples.{x, names, n, start, nowhere, zero_div, over}
@@ -84,8 +83,8 @@ abbrev nested : Items
 nested =
     Items.next (Item.Step 1 (Stmt.Goto l))
     (Items.next (Item.Step 2 (Stmt.If (n 0) Items.none
-      (Items.next (Item.Step 3 (Stmt.If (n 1) (Items.next (Item.Label l 4) (one_step 4 (Stmt.Assign x (n 5)))) Items.none))
-      (one_step 5 (Stmt.Assign x (Expr.Binary Add (Expr.Name x) (n 1)))))))
+    (Items.next (Item.Step 3 (Stmt.If (n 1) (Items.next (Item.Label l 4) (one_step 4 (Stmt.Assign x (n 5)))) Items.none))
+    (one_step 5 (Stmt.Assign x (Expr.Binary Add (Expr.Name x) (n 1)))))))
     (one_step 6 (Stmt.Assign x (Expr.Binary Mul (Expr.Name x) (n 2)))))
 
 from_nested : alone nested 9 ≡ Done record { variables = pos 12 ∷ []; arrays = (pos 1 ∷ pos 2 ∷ []) ∷ []; timers = record { count = 7; runs = true } ∷ []; commands = [] } 5

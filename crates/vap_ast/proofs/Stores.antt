@@ -1,6 +1,6 @@
 -- The first store of a program fits it.
 use Rattle.std.proofs.Common.{◌≡◌, ℕ, List, [], ◌∷◌, length, map, refl, ap}
-use Rattle.std.specs.Prelude.{replicate, pos, false}
+use Rattle.std.specs.Prelude.{pos, false}
 use Rattle.std.proofs.lemmas.List.{length-replicate}
 use Rattle.vap_ast.specs.Syntax.{Array}
 use Rattle.vap_ast.specs.Passes.{FitsProgram, first_store}

@@ -12,8 +12,6 @@ pub fn one_meaning()
 
 /// The first store of a program fits it.
 pub fn first_store_fits()
-    ensures fits {
-        (variable_count timer_count : ℕ) (declared : List Array) →
-        FitsProgram variable_count timer_count declared (first_store variable_count timer_count declared)
-    }
+    ensures fits { (variable_count timer_count : ℕ) (declared : List Array) →
+        FitsProgram variable_count timer_count declared (first_store variable_count timer_count declared) }
 {}

@@ -6,9 +6,9 @@ ghost use Rattle.vap_check.specs.Names.{among, const_names, array_names, with_na
 ghost use Rattle.vap_check.specs.Findings as wrong;
 ghost use Rattle.vap_check.specs.KeptNames.{Knows, kind_in, line_in, const_keys, taken_in};
 
+use crate::finding::{Finding, note_finding, note_finding_if};
 use crate::kinds::{First, Known, has, has_const, note};
 use crate::labels::{declare, note_items_labels};
-use crate::finding::{Finding, note_finding, note_finding_if};
 use crate::refusal::CheckWhy;
 use crate::uses::{Scope, judge_items};
 use indexmap::{IndexMap, IndexSet};

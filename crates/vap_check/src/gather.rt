@@ -40,7 +40,11 @@ fn note_stmt_timers(alloc: Global, what: &Stmt, names: &mut IndexSet<Name>) -> R
 
 #[cycle(timers)]
 #[tactic(auto, using(crate::proofs::Folds::names_on))]
-fn note_items_timers(alloc: Global, items: &[Item], names: &mut IndexSet<Name>) -> Result<(), Memory>
+fn note_items_timers(
+    alloc: Global,
+    items: &[Item],
+    names: &mut IndexSet<Name>,
+) -> Result<(), Memory>
     ensures { OnOk result (names.new.keys ≡ with_names names.old.keys (names_of.items_timers (items_of items.now))) }
 {
     for item in items {
@@ -237,7 +241,11 @@ fn gather_subs(alloc: Global, subs: &[Routine]) -> Result<IndexSet<Name>, Memory
 
 // Notes the names in the timer commands of subroutines.
 #[tactic(auto, using(crate::proofs::Folds::names_on))]
-fn note_subs_timers(alloc: Global, subs: &[Routine], names: &mut IndexSet<Name>) -> Result<(), Memory>
+fn note_subs_timers(
+    alloc: Global,
+    subs: &[Routine],
+    names: &mut IndexSet<Name>,
+) -> Result<(), Memory>
     ensures { OnOk result (names.new.keys ≡ with_names names.old.keys (flat_map names_of.items_timers (map (λ r. r.body) (map routine_of subs.now)))) }
 {
     for sub in subs {

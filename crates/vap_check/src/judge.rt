@@ -8,10 +8,10 @@ ghost use Rattle.vap_check.specs.KeptNames.{KnowsAll};
 ghost use Rattle.vap_check.specs.Judgement.{IsJudged, RefusalIs};
 
 use crate::declarations::first_finding;
+use crate::finding::Finding;
 use crate::gather::{declared_names, used_names};
 use crate::kinds::{Kind, Names};
 use crate::limits::{first_passed_limit, program_size};
-use crate::finding::Finding;
 use crate::refusal::CheckWhy;
 use sig_types::Memory;
 use std::alloc::Global;

@@ -5,8 +5,8 @@ ghost use Rattle.vap_check.specs.FirstFinding.{first_of_all, when};
 ghost use Rattle.vap_check.specs.Names.{among, with_name, with_names, stmt_labels as labels_of_stmt, item_labels as labels_of_item, items_labels as labels_of_items};
 ghost use Rattle.vap_check.specs.Findings.{label_findings};
 
-use crate::kinds::{has, note};
 use crate::finding::{Finding, note_finding_if};
+use crate::kinds::{has, note};
 use crate::refusal::CheckWhy;
 use indexmap::IndexSet;
 use sig_types::Memory;

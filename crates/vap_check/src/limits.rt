@@ -37,7 +37,10 @@ fn count_stmt_labels(what: &Stmt) -> usize
     ensures { result ≡ min (length (names.stmt_labels (stmt_of what.now))) 65536 }
 {
     match what {
-        Stmt::If { yes, no, .. } => add_capped(count_items_labels(&yes.0), count_items_labels(&no.0)),
+        Stmt::If { yes, no, .. } => add_capped(
+            count_items_labels(&yes.0),
+            count_items_labels(&no.0),
+        ),
         _ => 0,
     }
 }

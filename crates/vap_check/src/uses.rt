@@ -7,8 +7,8 @@ ghost use Rattle.vap_check.specs.Findings as wrong;
 ghost use Rattle.vap_check.specs.KeptNames.{kind_in};
 ghost use Rattle.vap_check.specs.KeptNames as scoped;
 
-use crate::kinds::{Kind, Known, has};
 use crate::finding::{Finding, note_finding, note_finding_if};
+use crate::kinds::{Kind, Known, has};
 use crate::refusal::CheckWhy;
 use indexmap::IndexSet;
 use vap_ast::{Expr, Item, Name, Stmt, own_size};
@@ -176,7 +176,12 @@ pub fn judge_stmt(scope: &Scope<'_>, line: u32, what: &Stmt, first: &mut Option<
             let is_there = label.bytes() == b"prog_ende".as_slice() || has(scope.labels, label);
             note_finding_if(first, !is_there, line, CheckWhy::NoLabel);
         }
-        Stmt::Gosub { sub } => note_finding_if(first, !has(scope.above, sub), line, CheckWhy::NoSub),
+        Stmt::Gosub { sub } => note_finding_if(
+            first,
+            !has(scope.above, sub),
+            line,
+            CheckWhy::NoSub,
+        ),
         Stmt::Do { kind, args } => {
             note_finding_if(
                 first,
