@@ -28,47 +28,65 @@ pub struct Second(pub u32);
 /// A fault of a pass, with the line of its statement in the program.
 #[derive(Clone, Copy, Debug, PartialEq, Eq)]
 pub struct Fault {
+    /// What ended the pass.
     pub kind: FaultKind,
+    /// The line, from 1.
     pub line: u32,
 }
 
 /// A refused stage command `Interstage(from, to)`.
 #[derive(Clone, Copy, Debug, PartialEq, Eq)]
 pub struct StageRefusal {
+    /// The stage that the command names first.
     pub from: StageNo,
+    /// The stage that it asks for.
     pub to: StageNo,
+    /// The rule that it broke: `Running`, `WrongStage` or `NoInterstage`.
     pub rule: Rule,
 }
 
-/// A refused turn, with the other group that stood in its way.
+/// A refused turn: an end or a start of a group that was wished and not obeyed.
 #[derive(Clone, Copy, Debug, PartialEq, Eq)]
 pub struct TurnRefusal {
+    /// The group whose turn was refused.
     pub group: GroupNo,
+    /// The first rule that the turn would have broken: `Sequence`, `MinGreen`, `Conflict` or `Intergreen`.
     pub rule: Rule,
+    /// For `Conflict` and `Intergreen` the lowest group that stood in the way.
     pub other: Option<GroupNo>,
 }
 
 /// A command of a pass that names what is there.
 #[derive(Clone, Copy, Debug, PartialEq, Eq)]
 pub enum Command {
+    /// Begin the interstage from the first stage to the second.
     Interstage(StageNo, StageNo),
+    /// Wish green for the group.
     SgGreen(GroupNo),
+    /// Wish red for the group.
     SgRed(GroupNo),
+    /// Count the detector's fronts anew.
     ClearFronts(DetNo),
+    /// Count the detector's rears anew.
     ClearRears(DetNo),
 }
 
-/// A timer: its count in seconds, and whether it runs.
+/// A timer of a program.
 #[derive(Clone, Copy, Debug, PartialEq, Eq)]
 pub struct Clock {
+    /// The count in seconds.
     pub count: u32,
+    /// Whether each second adds 1.
     pub runs: bool,
 }
 
-/// The active stage, or the interstage that runs and its second t, from 0; `NoPlan` where a run has no stages.
+/// Where a run stands among the stages of its plan.
 #[derive(Clone, Copy, Debug, PartialEq, Eq)]
 pub enum StagePlace {
+    /// The run has no stages.
     NoPlan,
+    /// This stage is active, and no interstage runs.
     Stage(StageNo),
+    /// The interstage between these stages runs, in its second t, from 0.
     Inter { from: StageNo, to: StageNo, t: u8 },
 }
