@@ -13,7 +13,7 @@ mod words;
 mod writing;
 
 pub use laws::code_laws;
-pub use ranges::code_ranges;
+pub use ranges::code_has_text;
 pub use reading::read_code;
 pub use refusal::{CodeRefusal, CodeWhy};
 pub use writing::write_code;

@@ -1,16 +1,28 @@
 // The numbers of a code in memory are those of their types.
-ghost use Rattle.std.specs.Prelude.{◌≡◌, ◌<◌, ℕ, length, get_or, map, pos, true};
+ghost use Rattle.std.specs.Prelude.{◌≡◌, ◌<◌, ◌≤◌, ℕ, Ok, length, get_or, map, pos, true};
 ghost use Rattle.std.specs.List.{All, list_all};
 ghost use Rattle.sig_types.specs.Number.{fits};
 ghost use Rattle.vap_code.specs.Codes.{code_in};
 ghost use Rattle.vap_code.specs.Valid.{instr_at};
+ghost use Rattle.code_file.specs.Text.{HasText, code_text};
+ghost use Rattle.code_file.specs.Reading.{code_of};
 ghost use Rattle.code_file.specs.Shape.{IsTyped, HasRanges};
 
+use code_verify::Verified;
 use vap_code::{Code, Instr};
 
-/// The numbers of a code in memory are those of their types: with Shape this is what a text needs. A call changes
-/// nothing; its contract is that fact, which no contract sees in a list of instructions otherwise.
-pub fn code_ranges(code: &Code)
+/// A verified code has a text, which is read again as this code and is within the limit of a code file. A call
+/// changes nothing; its contract is that fact, which rests on the ranges of the numbers in memory.
+pub fn code_has_text(code: &Verified)
+    ensures text { HasText code.now }
+    ensures read { code_of (code_text code.now) ≡ Ok code.now }
+    ensures short { length (code_text code.now) ≤ 2097152 }
+{
+    code_ranges(code.code());
+}
+
+// The numbers of a code in memory are those of their types.
+fn code_ranges(code: &Code)
     ensures { HasRanges (code_in code.now) }
 {
     instr_ranges(&code.instrs);

@@ -68,12 +68,13 @@ pub fn jumps_back_to_tick(code: &Code, p: usize) -> bool
 // Whether the operands that stand at a place are enough, and those that it leaves stand where it leads.
 fn height_fits(code: &Code, heights: &[usize], p: usize) -> bool
     requires p { p < length code.now.instrs.items }
-    requires few { length code.now.instrs.items ≤ 65535 }
+    requires at_most { length code.now.instrs.items ≤ 65535 }
     requires table { heights.now ≡ heights_of (code_in code.now) }
     requires low { (k : ℕ) → k < length heights.now → slice_index heights.now k ≤ k }
     requires whole { length heights.now ≡ length code.now.instrs.items }
     requires inside { FitsCheck (code_in code.now) JumpOut p }
-    requires starts { (k : ℕ) → k < length code.now.starts.items → slice_index code.now.starts.items k < length code.now.instrs.items }
+    requires starts { (k : ℕ) → k < length code.now.starts.items →
+        slice_index code.now.starts.items k < length code.now.instrs.items }
     ensures { IsTrue result ↔ HeightFits (code_in code.now) p }
 {
     let instr = code.instrs[p];
@@ -124,7 +125,8 @@ fn call_fits(starts: &[u16], p: usize, instr: Instr) -> bool
 // Whether a tick stands after a call, and where a routine begins that isn't empty.
 fn edge_fits(code: &Code, p: usize) -> bool
     requires p { p < length code.now.instrs.items }
-    requires starts { (k : ℕ) → k < length code.now.starts.items → slice_index code.now.starts.items k < length code.now.instrs.items }
+    requires starts { (k : ℕ) → k < length code.now.starts.items →
+        slice_index code.now.starts.items k < length code.now.instrs.items }
     ensures { IsTrue result ↔ EdgeFits (code_in code.now) p }
 {
     let instr = code.instrs[p];

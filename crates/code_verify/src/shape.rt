@@ -87,7 +87,8 @@ fn lie_inside(starts: &[u16], all: usize) -> bool
 }
 
 fn lines_fit(instrs: &[Instr]) -> bool
-    ensures { IsTrue result ↔ ((p : ℕ) → p < length instrs.now → IsTrue (line_fits_of (instr_at instrs.now p))) }
+    ensures { IsTrue result ↔
+        ((p : ℕ) → p < length instrs.now → IsTrue (line_fits_of (instr_at instrs.now p))) }
 {
     for p in 0..instrs.len() {
         if !line_fits(instrs[p]) {

@@ -21,6 +21,7 @@ pub struct Tables {
 }
 
 impl Tables {
+    /// The tables of a code that has Shape and whose jumps lead ahead or to a tick.
     pub fn of(alloc: Global, code: &Code) -> Result<Tables, AllocError>
         requires shape { HasShape (code_in code.now) }
         requires passed { Passed 3 (code_in code.now) }
@@ -36,9 +37,10 @@ impl Tables {
 
 // The height of each place.
 fn heights(alloc: Global, instrs: &[Instr], starts: &[u16]) -> Result<Vec<usize>, AllocError>
-    requires few { length instrs.now ≤ 65535 }
+    requires at_most { length instrs.now ≤ 65535 }
     requires first { begins_at starts.now 0 ≡ true }
-    ensures table { IfOk result (λ v. v.items ≡ from_first (height_after_of instrs.now starts.now) (length instrs.now)) }
+    ensures table { IfOk result
+        (λ v. v.items ≡ from_first (height_after_of instrs.now starts.now) (length instrs.now)) }
     ensures long { IfOk result (λ v. length v.items ≡ length instrs.now) }
     ensures low { IfOk result (λ v. (k : ℕ) → k < length v.items → slice_index v.items k ≤ k) }
 {
@@ -73,7 +75,7 @@ fn height_after(
     brought: Option<usize>,
 ) -> usize
     requires inside { length heights.now < length instrs.now }
-    requires few { length instrs.now ≤ 65535 }
+    requires at_most { length instrs.now ≤ 65535 }
     requires first { begins_at starts.now 0 ≡ true }
     requires low { (k : ℕ) → k < length heights.now → slice_index heights.now k ≤ k }
     requires brought { brought ≡ first_jump instrs.now heights.now (length heights.now) }
@@ -96,7 +98,9 @@ fn height_after(
 fn keep_jump(brought: &mut Vec<Option<usize>>, instr: Instr, height: usize)
     requires { height ≤ 65535 }
     ensures long { length brought.new.items ≡ length brought.old.items }
-    ensures kept { (t : ℕ) → t < length brought.old.items → slice_index_or brought.new.items t None ≡ first_some (slice_index_or brought.old.items t None) (brings instr height t) }
+    ensures kept { (t : ℕ) → t < length brought.old.items →
+        slice_index_or brought.new.items t None ≡
+            first_some (slice_index_or brought.old.items t None) (brings instr height t) }
 {
     if let Some(t) = target(instr) {
         if t < brought.len() && brought[t].is_none() {
@@ -119,8 +123,9 @@ fn numbers(
     starts: &[u16],
     number: Number,
 ) -> Result<Vec<usize>, AllocError>
-    requires few { length instrs.now ≤ 65535 }
-    requires starts { (k : ℕ) → k < length starts.now → slice_index starts.now k < length instrs.now }
+    requires at_most { length instrs.now ≤ 65535 }
+    requires starts { (k : ℕ) → k < length starts.now →
+        slice_index starts.now k < length instrs.now }
     requires ahead { JumpsAhead instrs.now }
     ensures table { IfOk result (λ v. v.items ≡ numbers_of number instrs.now starts.now) }
     ensures long { IfOk result (λ v. length v.items ≡ length instrs.now) }
@@ -155,10 +160,12 @@ fn with_instr(number: Number, instr: Instr, later: usize) -> usize
 fn greatest(instrs: &[Instr], starts: &[u16], table: &[usize], p: usize) -> usize
     requires p { p < length instrs.now }
     requires long { length table.now ≡ length instrs.now }
-    requires few { length instrs.now ≤ 65535 }
-    requires starts { (k : ℕ) → k < length starts.now → slice_index starts.now k < length instrs.now }
+    requires at_most { length instrs.now ≤ 65535 }
+    requires starts { (k : ℕ) → k < length starts.now →
+        slice_index starts.now k < length instrs.now }
     requires ahead { JumpsAhead instrs.now }
-    ensures same { result ≡ greatest_of instrs.now starts.now p (later_at instrs.now p (drop (p + 1) table.now)) }
+    ensures same { result ≡
+        greatest_of instrs.now starts.now p (later_at instrs.now p (drop (p + 1) table.now)) }
     ensures low { (most : ℕ) → ((k : ℕ) → slice_index_or table.now k 0 ≤ most) → result ≤ most }
 {
     let instr = instrs[p];
@@ -178,7 +185,8 @@ fn greatest(instrs: &[Instr], starts: &[u16], table: &[usize], p: usize) -> usiz
 fn number_at(instrs: &[Instr], table: &[usize], q: usize) -> usize
     requires q { q < length instrs.now }
     requires long { length table.now ≡ length instrs.now }
-    ensures { result ≡ (if is_tick_of (instr_at instrs.now q) then 0 else slice_index_or table.now q 0) }
+    ensures { result ≡
+        (if is_tick_of (instr_at instrs.now q) then 0 else slice_index_or table.now q 0) }
 {
     if is_tick(instrs[q]) { 0 } else { table[q] }
 }

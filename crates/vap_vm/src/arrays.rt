@@ -51,7 +51,8 @@ impl Arrays {
     /// The cell of an array at a place from 1.
     pub fn read(&self, a: usize, i: i32) -> Result<i32, FaultKind>
         requires { a < length self.now }
-        ensures { result ≡ cell_at (slice_index_or self.now a []) (cell_place i (length (slice_index_or self.now a []))) }
+        ensures { result ≡ cell_at (slice_index_or self.now a [])
+            (cell_place i (length (slice_index_or self.now a []))) }
     {
         read_cell(&self.rows[a], i)
     }

@@ -47,7 +47,9 @@ impl Model for Vm {
 
     ghost view = { λ vm. record { code = vm.code; store = store_of vm.machine; seconds = vm.seconds } };
 
-    ghost invariant = { λ vm. Ready (record { code = vm.code; store = store_of vm.machine; seconds = vm.seconds }) × SameSizes vm.before vm.machine.slots };
+    ghost invariant = { λ vm.
+        Ready (record { code = vm.code; store = store_of vm.machine; seconds = vm.seconds })
+        × SameSizes vm.before vm.machine.slots };
 }
 
 impl Vm {
@@ -68,7 +70,8 @@ impl Vm {
     /// A second begins: each running timer adds 1. At most 604,801 seconds begin.
     pub fn begin_second(&mut self)
         requires { self.old.seconds < 604801 }
-        ensures store { self.new.store ≡ record self.old.store { timers = map counted self.old.store.timers } }
+        ensures store { self.new.store ≡
+            record self.old.store { timers = map counted self.old.store.timers } }
         ensures code { self.new.code ≡ self.old.code }
         ensures seconds { self.new.seconds ≡ self.old.seconds + 1 }
         ensures ready { Ready self.new }
@@ -81,8 +84,12 @@ impl Vm {
     /// fault they are as at the call, and no command is listed. Each instruction counts one step.
     pub fn pass<W: World, L: Ledger>(&mut self, world: &W, steps: &mut Steps<L>) -> PassEnd
         requires { (w : WorldOf) × W.means world.now w }
-        ensures pass { (w : WorldOf) → W.means world.now w → PassIs (without_commands self.old.store) (machine_of self.old.code w (without_commands self.old.store)) result self.new.store }
-        ensures counted { (w : WorldOf) → W.means world.now w → steps.new ≡ steps.old + machine_steps self.old.code w (without_commands self.old.store) }
+        ensures pass { (w : WorldOf) → W.means world.now w →
+            PassIs (without_commands self.old.store)
+                (machine_of self.old.code w (without_commands self.old.store))
+                result self.new.store }
+        ensures counted { (w : WorldOf) → W.means world.now w → steps.new ≡
+            steps.old + machine_steps self.old.code w (without_commands self.old.store) }
         ensures bounded { steps.new ≤ steps.old + 10241024 }
         ensures given { All (W.allows world.now) self.new.store.commands }
         ensures few { length self.new.store.commands ≤ 10000 }

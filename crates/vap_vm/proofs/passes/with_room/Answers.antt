@@ -1,4 +1,4 @@
-use Rattle.std.proofs.Common.{◌≤◌, length, map, replicate, refl, sym, ap, ◌∙◌, subst}
+use Rattle.std.proofs.Common.{length, map, replicate, refl, sym, ap, ◌∙◌, subst}
 use Rattle.std.specs.Prelude.{pos}
 use Rattle.vap_code.specs.Valid.{Valid}
 use Rattle.vap_vm.specs.View.{store_of, stopped}
