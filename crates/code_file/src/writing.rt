@@ -10,7 +10,6 @@ ghost use Rattle.code_file.specs.Text.{line, instr_text, instr_line, start_line,
 ghost use Rattle.vap_code.specs.Valid.{HasShape};
 
 use code_verify::Verified;
-use itoa::Buffer;
 use sig_io::{Draft, PutFault, Sink};
 use sig_types::{CommandKind, ReadingKind};
 use vap_code::{Code, Instr};
@@ -61,9 +60,8 @@ fn put_numbered<O: Sink>(draft: &mut Draft, sink: &mut O, word: &[u8], n: u32)
     ensures gone { draft.new.gone ≤ draft.old.gone + 8192 }
     ensures cause { FailsOnly (O.faults sink.old) (O.faults sink.new) draft.old.failed draft.new.failed }
 {
-    let mut digits = Buffer::new();
     draft.put(sink, word);
-    draft.put(sink, digits.format(n).as_bytes());
+    draft.put_number(sink, n);
 }
 
 // Puts a word and a signed number.
@@ -76,9 +74,8 @@ fn put_signed<O: Sink>(draft: &mut Draft, sink: &mut O, word: &[u8], v: i32)
     ensures gone { draft.new.gone ≤ draft.old.gone + 8192 }
     ensures cause { FailsOnly (O.faults sink.old) (O.faults sink.new) draft.old.failed draft.new.failed }
 {
-    let mut digits = Buffer::new();
     draft.put(sink, word);
-    draft.put(sink, digits.format(v).as_bytes());
+    draft.put_signed(sink, v);
 }
 
 // Puts two words.
