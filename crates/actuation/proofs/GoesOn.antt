@@ -99,9 +99,9 @@ pub sized_next : (k : ℕ) (x : Detector) (c : ℕ × ℕ) → IsSized k x → x
 sized_next k x c is within at_most = elim (cases_Bool (c.0 == 0 && c.1 == 0)) [
   | inl e ↦ rw e (record { within = is.within; at_most = is.at_most; since = omega (arith, is.since); begun = is.begun })
   | inr e ↦ rw e (record {
-      within = within;
-      at_most = at_most;
-      since = since_next (is_on x) x.since k is.since;
-      begun = λ on. begun_next (is_on x) x.since k is.begun;
-    })
+    within = within;
+    at_most = at_most;
+    since = since_next (is_on x) x.since k is.since;
+    begun = λ on. begun_next (is_on x) x.since k is.begun;
+  })
 ]

@@ -134,7 +134,16 @@ pub fn read(detector: &Detector, kind: ReadingKind, second: u32) -> i32
             signed(detector.fronts.saturating_sub(detector.fronts_cleared))
         }
         ReadingKind::RearEnds => signed(detector.rears.saturating_sub(detector.rears_cleared)),
-        _ => 0,
+        ReadingKind::IsRed
+        | ReadingKind::IsRedAmber
+        | ReadingKind::IsGreen
+        | ReadingKind::IsAmber
+        | ReadingKind::TGreen
+        | ReadingKind::TRed
+        | ReadingKind::StageActive
+        | ReadingKind::StageDuration
+        | ReadingKind::InterstageActive
+        | ReadingKind::AnyInterstage => 0,
     }
 }
 

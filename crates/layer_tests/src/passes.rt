@@ -39,7 +39,7 @@ impl World for Table {
 }
 
 // The code, where it is valid: one routine, one variable, one timer and the array 10, 20.
-fn verified(alloc: Global, instrs: &[Instr]) -> Result<Option<Verified>, AllocError> {
+pub fn verified(alloc: Global, instrs: &[Instr]) -> Result<Option<Verified>, AllocError> {
     let array = vec![in alloc; 10, 20]?;
     let code = Code {
         instrs: instrs.to_vec(alloc)?,

@@ -2,21 +2,26 @@
 ghost use Rattle.controller.specs.Controls.{StandsFor};
 ghost use Rattle.controller.specs.Past.{Past};
 
+use crate::passes::verified;
 use crate::texts::{INTERGREENS, TIMES, TWO_STAGES};
 use controller::Controller;
 use pua_reader::read_plan;
 use sig_tables::{read_intergreens, read_times};
 use sig_types::Aspect::{Green, Red, RedAmber};
 use sig_types::StagePlace::{Inter, Stage as In};
-use sig_types::{Aspect, Command, Frame, Record, Rule, StageNo, StagePlace};
+use sig_types::{Aspect, CommandKind, Frame, ReadingKind, Record, Rule, StageNo, StagePlace};
 use std::test::Fail;
+use vap_code::Instr;
+use vap_code::Instr::{Do, Push, Read, Ret, Store, Tick};
 
-// What a second tells: its place, what K1 and K2 show, and the rule by which a stage command was refused.
+// What a second tells: its place, what K1 and K2 show, the rule by which a stage command was refused, and the line of a
+// fault.
 #[derive(Clone, Copy)]
 struct Row {
     place: StagePlace,
     shown: (Aspect, Aspect),
     refused: Option<Rule>,
+    fault: Option<u32>,
 }
 
 fn told(place: StagePlace, shown: (Aspect, Aspect), refused: Option<Rule>) -> Row {
@@ -24,6 +29,7 @@ fn told(place: StagePlace, shown: (Aspect, Aspect), refused: Option<Rule>) -> Ro
         place,
         shown,
         refused,
+        fault: None,
     }
 }
 
@@ -42,6 +48,9 @@ fn tells(rec: &Record, row: Row) -> bool {
     if rec.picture.get(0) != row.shown.0 || rec.picture.get(1) != row.shown.1 {
         return false;
     }
+    if rec.fault.map(|fault| fault.line) != row.fault {
+        return false;
+    }
     match row.refused {
         None => rec.stages.len() == 0,
         Some(rule) => rec.stages.len() == 1 && rec.stages.get(0).rule == rule,
@@ -49,26 +58,26 @@ fn tells(rec: &Record, row: Row) -> bool {
 }
 
 // The number of seconds that the controller makes as the rows say.
-fn seconds_as(controller: &mut Controller, rows: &[Row]) -> Result<usize, Fail>
+fn seconds_as(controller: &mut Controller, rows: &[Row]) -> usize
     requires { (past : Past) × StandsFor controller.old past }
 {
     let mut seconds = 0usize;
     let frame = Frame::empty();
     for row in rows {
         if !controller.takes(&frame) {
-            return Ok(seconds);
+            return seconds;
         }
         controller.second(&frame);
         if !tells(controller.last(), *row) {
-            return Ok(seconds);
+            return seconds;
         }
         seconds += 1;
     }
-    Ok(seconds)
+    seconds
 }
 
 #[test]
-fn seconds_of_listed_commands(rt: HostRuntime) -> Result<(), Fail> {
+fn seconds_of_codes(rt: HostRuntime) -> Result<(), Fail> {
     let both_red = (Red, Red);
     let still = [
         told(In(StageNo(1)), both_red, None),
@@ -85,18 +94,37 @@ fn seconds_of_listed_commands(rt: HostRuntime) -> Result<(), Fail> {
         told(inter(5), (Red, Green), Some(Rule::Running)),
         told(In(StageNo(2)), (Red, Green), Some(Rule::WrongStage)),
     ];
-    for (goes, rows) in [(false, &still[..]), (true, &going[..])] {
+    let faulted = Row {
+        fault: Some(2),
+        ..still[0]
+    };
+    let nothing = [Tick(1), Ret];
+    let interstage = [Tick(1), Push(1), Push(2), Do(CommandKind::Interstage), Ret];
+    // The interstage is commanded, and then a group is asked for that there isn't.
+    let fault = [
+        Tick(1),
+        Push(1),
+        Push(2),
+        Do(CommandKind::Interstage),
+        Tick(2),
+        Push(9),
+        Read(ReadingKind::IsGreen),
+        Store(0),
+        Ret,
+    ];
+    for (instrs, rows) in [
+        (&nothing as &[Instr], &still[..]),
+        (&interstage, &going[..]),
+        (&fault, &[faulted, faulted][..]),
+    ] {
         let plan = read_plan(rt.alloc(), TWO_STAGES)?;
         let times = read_times(rt.alloc(), TIMES, &plan)?;
         let intergreens = read_intergreens(rt.alloc(), INTERGREENS, &plan)?;
-        let mut commands = Vec::new(rt.alloc());
-        if let (Some(from), Some(to)) = (plan.find_stage(1), plan.find_stage(2)) {
-            if goes {
-                commands.push(Command::Interstage(from, to))?;
-            }
-        }
-        let mut controller = Controller::make(rt.alloc(), plan, times, intergreens, commands)?;
-        assert_eq!(rt; seconds_as(&mut controller, rows)?, rows.len());
+        let Some(code) = verified(rt.alloc(), instrs)? else {
+            return Err(Fail::new("refused"));
+        };
+        let mut controller = Controller::make(rt.alloc(), plan, times, intergreens, code)?;
+        assert_eq!(rt; seconds_as(&mut controller, rows), rows.len());
     }
     Ok(())
 }

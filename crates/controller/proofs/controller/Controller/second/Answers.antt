@@ -1,72 +1,127 @@
-use Rattle.std.proofs.Common.{◌≡◌, ◌∙◌, ◌+◌, [], ◌∷◌, ◌++◌, length, None, sym, ap, subst, length-append}
-use Rattle.sig_types.specs.Pass.{Store, begun, store_after}
-use Rattle.sig_guard.specs.Stands.{StandsFor as GuardStands, rules}
-use Rattle.sig_guard.specs.Step.{guard_picture, guard_refused}
+use Rattle.std.proofs.Common.{◌≡◌, ◌∙◌, ℕ, ◌+◌, ◌-◌, List, [], ◌∷◌, ◌++◌, length, sym, ap, subst, arith, length-append, slice_index_or, refl, ◌≤◌}
+use Rattle.sig_types.specs.Turns.{History}
+use Rattle.sig_types.specs.Pass.{End, Store, begun, commands_after, without_commands}
+use Rattle.controller.specs.Controls.{StandsFor, site_of, logic_of, last_record}
+use Rattle.sig_types.specs.Detectors.{ClearsUntil}
+use Rattle.controller.specs.Past.{Site, Past, next}
 use Rattle.stage_machine.specs.Orders.{place_at}
 use Rattle.stage_machine.specs.Stands.{StandsFor as StagesStand}
-use Rattle.controller.specs.Controls.{StandsFor, site_of, logic_of, last_record}
-use Rattle.controller.specs.Past.{next}
-use Rattle.controller.specs.Second.{record_after, past_after, orders_after, clears_after, refusals_of, wishes_of, listed}
+use Rattle.actuation.specs.Stands.{StandsFor as ActuationStands}
+use Rattle.sig_guard.specs.Stands.{StandsFor as GuardStands, rules}
+use Rattle.sig_guard.specs.Step.{guard_picture, guard_refused}
+use Rattle.controller.specs.Standing.{Standing}
 use Rattle.controller.specs.World.{world_in}
-use Rattle.controller.proofs.Commands.{clears_nothing}
+use Rattle.vap_code.specs.Machine.{machine}
+use Rattle.controller.specs.Second.{record_after, past_after, orders_after, clears_after, refusals_of, wishes_of, wishes_in}
+use Rattle.actuation.proofs.Sums.{clears_of}
 use Rattle.controller.proofs.Pictures.{last-append, guard_is_safe}
+use Rattle.controller.proofs.Seconds.{Passed, passed_in}
 use Rattle.controller.proofs.controller.Controller.second.Goals as goal
 
 pub returns-clause-record : goal.returns-clause-record
 unfolding StandsFor record_after last_record site_of logic_of
 returns-clause-record c = λ past s.
     let me = c.args.self.now in
-    let cs = me.commands.items in
-    let stages : StagesStand c.step.new.self me.plan past.orders (next past) =
-    subst (λ k. StagesStand c.step.new.self me.plan past.orders k) (sym s.seconds) (c.step.ensures past.orders (length past.frames) s.stages) in
+    let frame = c.args.frame.now in
+    let frames = past.frames ++ frame ∷ [] in
+    let stages : StagesStand c.step.new.self me.plan past.orders (length past.frames + 1) = c.step.ensures past.orders (length past.frames) s.stages in
+    let stages_k : StagesStand c.step.new.self me.plan past.orders (next past) = subst (λ k. StagesStand c.step.new.self me.plan past.orders k) (sym s.seconds) stages in
+    let standing : Standing me.plan me.guard c.step.new.self c.take.new.self past frames = record {
+      guard_stands = s.guard;
+      stages_stand = stages_k;
+      actuation_stands = c.take.ensures past.frames past.clears s.readings;
+      seconds = length-append past.frames (frame ∷ []) ∙ sym s.seconds;
+      some = omega (arith, s.seconds);
+      until = subst (λ n. ClearsUntil past.clears n) (let n : length past.frames ≡ length frames - 1 = omega (arith, length-append past.frames (frame ∷ [])) in n) (clears_of me.actuation past.frames past.clears s.readings);
+    } in
     let second : me.last.second.0 + 1 ≡ next past = ap (λ n. n + 1) s.numbered ∙ sym s.seconds in
-    let after : StagesStand c.obey.new.stages me.plan (orders_after me.plan (next past) past.orders cs) (next past) =
-    subst (λ l. StagesStand c.obey.new.stages me.plan (orders_after me.plan (next past) past.orders l) (next past)) c.deref.ensures.value (c.obey.ensures.stages past.orders (next past) stages) in
-    let wishes : c.gather.new.wishes ≡ wishes_of me.plan (place_at me.plan (orders_after me.plan (next past) past.orders cs) (next past)) cs =
-    c.gather.ensures.wishes _ (next past) after ∙ ap (λ l. wishes_of me.plan (place_at me.plan (orders_after me.plan (next past) past.orders cs) (next past)) l) c.deref-2.ensures.value in
+    let p = passed_in (world_in me.plan past frames) me.vm c.begin_second.new.self c.decide-end.new.vm c.decide-end.result past.store c.begin_second.ensures.store c.begin_second.ensures.code s.store (c.decide-end.ensures.pass past frames standing second) in
+    let commands = c.commands-commands.ensures.same ∙ p.commands_are in
+    let after = c.obey.ensures.stages past.orders (next past) stages_k in
+    let wishes : c.gather.new.wishes ≡ wishes_in (site_of me) past (machine me.vm.code (world_in me.plan past frames) (begun past.store))
+    = c.gather.ensures.wishes _ (next past) after ∙ ap (λ cs. wishes_of me.plan (place_at me.plan (orders_after me.plan (next past) past.orders cs) (next past)) cs) commands in
     let guard = c.step-2.ensures.history past.history s.guard in
-    let place = c.place-self.ensures me.plan _ (next past) after in
+    let place = c.place-self.ensures me.plan _ (next past) after ∙ ap (λ cs. place_at me.plan (orders_after me.plan (next past) past.orders cs) (next past)) commands in
     let picture = c.copy-self.ensures ∙ c.picture.ensures.history _ guard ∙ last-append past.history _ [] ∙ ap (λ ws. guard_picture (rules me.guard) past.history ws) wishes in
-    let refused = c.obey.ensures.refused past.orders (next past) stages ∙ ap (λ l. refusals_of me.plan (next past) past.orders l) c.deref.ensures.value in
+    let refused = c.obey.ensures.refused past.orders (next past) stages_k ∙ ap (λ cs. refusals_of me.plan (next past) past.orders cs) commands in
     let turns = c.step-2.ensures.refused past.history s.guard ∙ ap (λ ws. guard_refused (rules me.guard) past.history ws) wishes in
+    let fault = c.fault_of-self.ensures ∙ p.fault_is in
     λ i. record {
       second = record { 0 = second i };
       place = place i;
       picture = picture i;
-      frame = c.copy-self-2.ensures.counts i;
+      frame = c.copy_from.ensures.counts i;
       stages = refused i;
       turns = turns i;
-      fault = None;
+      fault = fault i;
     }
 
 pub returns-clause-stands : goal.returns-clause-stands
 unfolding StandsFor past_after site_of logic_of
 returns-clause-stands c = λ past s.
     let me = c.args.self.now in
-    let cs = me.commands.items in
     let frame = c.args.frame.now in
-    let stages : StagesStand c.step.new.self me.plan past.orders (next past) =
-    subst (λ k. StagesStand c.step.new.self me.plan past.orders k) (sym s.seconds) (c.step.ensures past.orders (length past.frames) s.stages) in
+    let frames = past.frames ++ frame ∷ [] in
+    let stages : StagesStand c.step.new.self me.plan past.orders (length past.frames + 1) = c.step.ensures past.orders (length past.frames) s.stages in
+    let stages_k : StagesStand c.step.new.self me.plan past.orders (next past) = subst (λ k. StagesStand c.step.new.self me.plan past.orders k) (sym s.seconds) stages in
+    let standing : Standing me.plan me.guard c.step.new.self c.take.new.self past frames = record {
+      guard_stands = s.guard;
+      stages_stand = stages_k;
+      actuation_stands = c.take.ensures past.frames past.clears s.readings;
+      seconds = length-append past.frames (frame ∷ []) ∙ sym s.seconds;
+      some = omega (arith, s.seconds);
+      until = subst (λ n. ClearsUntil past.clears n) (let n : length past.frames ≡ length frames - 1 = omega (arith, length-append past.frames (frame ∷ [])) in n) (clears_of me.actuation past.frames past.clears s.readings);
+    } in
     let second : me.last.second.0 + 1 ≡ next past = ap (λ n. n + 1) s.numbered ∙ sym s.seconds in
-    let after : StagesStand c.obey.new.stages me.plan (orders_after me.plan (next past) past.orders cs) (next past) =
-    subst (λ l. StagesStand c.obey.new.stages me.plan (orders_after me.plan (next past) past.orders l) (next past)) c.deref.ensures.value (c.obey.ensures.stages past.orders (next past) stages) in
-    let wishes : c.gather.new.wishes ≡ wishes_of me.plan (place_at me.plan (orders_after me.plan (next past) past.orders cs) (next past)) cs =
-    c.gather.ensures.wishes _ (next past) after ∙ ap (λ l. wishes_of me.plan (place_at me.plan (orders_after me.plan (next past) past.orders cs) (next past)) l) c.deref-2.ensures.value in
-    let guard = subst (λ ws. GuardStands c.step-2.new.self (past.history ++ guard_picture (rules me.guard) past.history ws ∷ [])) wishes (c.step-2.ensures.history past.history s.guard) in
-    let len : length (past.frames ++ frame ∷ []) ≡ length past.frames + 1 = length-append past.frames (frame ∷ []) in
-    let world = world_in me.plan past (past.frames ++ frame ∷ []) in
+    let p = passed_in (world_in me.plan past frames) me.vm c.begin_second.new.self c.decide-end.new.vm c.decide-end.result past.store c.begin_second.ensures.store c.begin_second.ensures.code s.store (c.decide-end.ensures.pass past frames standing second) in
+    let commands = c.commands-commands.ensures.same ∙ p.commands_are in
+    let after = c.obey.ensures.stages past.orders (next past) stages_k in
+    let wishes : c.gather.new.wishes ≡ wishes_in (site_of me) past (machine me.vm.code (world_in me.plan past frames) (begun past.store))
+    = c.gather.ensures.wishes _ (next past) after ∙ ap (λ cs. wishes_of me.plan (place_at me.plan (orders_after me.plan (next past) past.orders cs) (next past)) cs) commands in
+    let guard = c.step-2.ensures.history past.history s.guard in
+    let e = machine me.vm.code (world_in me.plan past frames) (begun past.store) in
+    let len : length frames ≡ next past = standing.seconds in
+    let acts = c.obey.ensures.clears frames past.clears standing.actuation_stands in
+    let clears : clears_after (length frames) past.clears c.commands-commands.result.now ≡ clears_after (next past) past.clears (commands_after e)
+    = λ i. clears_after (len i) past.clears (commands i) in
+    let readings = subst (λ cs. ActuationStands c.obey.new.actuation frames cs) clears acts in
+    let orders : orders_after me.plan (next past) past.orders c.commands-commands.result.now ≡ orders_after me.plan (next past) past.orders (commands_after e)
+    = ap (λ cs. orders_after me.plan (next past) past.orders cs) commands in
+    let long : length frames ≡ length past.frames + 1 = length-append past.frames (frame ∷ []) in
+    let stood = subst (λ ws. GuardStands c.step-2.new.self (past.history ++ guard_picture (rules me.guard) past.history ws ∷ [])) wishes guard in
     record {
       groups = ap (λ r. r.count) c.step-2.ensures.rules ∙ s.groups;
       wished = c.gather.ensures.groups;
-      few = s.few;
-      commands = s.commands;
-      guard = guard;
-      safe = guard_is_safe c.step-2.new.self _ guard;
-      made = c.step-2.ensures.seconds ∙ ap (λ n. n + 1) s.made ∙ sym len;
-      stages = subst (λ k. StagesStand c.obey.new.stages me.plan (orders_after me.plan (next past) past.orders cs) k) (s.seconds ∙ sym len) after;
-      counts = c.take.ensures past.frames s.counts;
-      clears = ap (λ l. clears_after (next past) l cs) s.clears ∙ clears_nothing me.plan (next past) cs s.commands;
-      store = ap (λ (st : Store). store_after (begun st) (listed cs world (begun st))) s.store;
-      seconds = length-append past.history _ ∙ ap (λ n. n + 1) s.seconds ∙ ap (λ n. n + 1) (sym len);
-      numbered = second ∙ s.seconds ∙ sym len;
+      guard = stood;
+      safe = guard_is_safe c.step-2.new.self _ stood;
+      made = c.step-2.ensures.seconds ∙ ap (λ n. n + 1) s.made ∙ sym long;
+      stages = subst (λ k. StagesStand c.obey.new.stages me.plan (orders_after me.plan (next past) past.orders (commands_after e)) k) (sym len)
+          (subst (λ os. StagesStand c.obey.new.stages me.plan os (next past)) orders after);
+      readings = readings;
+      store = p.store_is;
+      began = c.decide-end.ensures.seconds ∙ c.begin_second.ensures.seconds ∙ ap (λ n. n + 1) s.began ∙ sym long;
+      seconds = length-append past.history _ ∙ ap (λ n. n + 1) (sym len);
+      numbered = second ∙ sym len;
     }
+
+pub decide-end-requires-clause-stands : goal.decide-end-requires-clause-stands
+unfolding StandsFor
+decide-end-requires-clause-stands c =
+    let past = c.requires.0 in
+    let s = c.requires.1 in
+    let me = c.args.self.now in
+    let frame = c.args.frame.now in
+    let frames = past.frames ++ frame ∷ [] in
+    let stages : StagesStand c.step.new.self me.plan past.orders (length past.frames + 1) = c.step.ensures past.orders (length past.frames) s.stages in (
+      past,
+      frames,
+      record {
+        guard_stands = s.guard;
+        stages_stand = subst (λ k. StagesStand c.step.new.self me.plan past.orders k) (sym s.seconds) stages;
+        actuation_stands = c.take.ensures past.frames past.clears s.readings;
+        seconds = length-append past.frames (frame ∷ []) ∙ sym s.seconds;
+        some = omega (arith, s.seconds);
+        until = subst (λ n. ClearsUntil past.clears n) (let n : length past.frames ≡ length frames - 1 = omega (arith, length-append past.frames (frame ∷ [])) in n) (clears_of me.actuation past.frames past.clears s.readings);
+      },
+      ap (λ n. n + 1) s.numbered ∙ sym s.seconds,
+    )
