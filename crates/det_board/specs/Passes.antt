@@ -1,0 +1,111 @@
+-- What a clause sees of the board and of its passes.
+use Rattle.std.specs.Prelude.{◌≡◌, ℕ, ◌+◌, ◌*◌, ◌<◌, ◌≤◌, List, [], ◌∷◌, ◌++◌, length, Some, None, slice_get, slice_index_or, replicate}
+use Rattle.atomic_table.specs.Table.{Me}
+use Rattle.atomic_table.specs.Seated.{TableId}
+use Rattle.sig_types.specs.Counts.{Counts}
+use Rattle.det_board.specs.declared.view.View.{View}
+use Rattle.det_board.specs.declared.view.View.TheVariants.{Tick, Feeder}
+use Rattle.det_board.specs.Rule.{most_fronts, last_read, loads_after, fronts_word, rears_word, loads_of, owned_of, dealt_of, owned_by, IsTick}
+
+-- which table it is, and how many detectors it has
+pub record Boarded : Type 0 where
+  pub table : TableId
+  pub detectors : ℕ
+
+-- a feeder's pass: of which table, the place of its detector, and its own counts
+pub record Feeding : Type 0 where
+  pub table : TableId
+  pub place : ℕ
+  pub fronts : ℕ
+  pub rears : ℕ
+
+-- the tick's pass: of which table, and the values that it loaded of each word
+pub record Ticking : Type 0 where
+  pub table : TableId
+  pub loads : List (List ℕ)
+
+-- the values that were loaded of a detector's fronts, and of its rears
+abbrev pub fronts_loads : Ticking → ℕ → List ℕ
+fronts_loads t d = slice_index_or t.loads (fronts_word d) []
+
+abbrev pub rears_loads : Ticking → ℕ → List ℕ
+rears_loads t d = slice_index_or t.loads (rears_word d) []
+
+-- the fronts, and the rears, that were read last
+abbrev pub fronts_read : Ticking → ℕ → ℕ
+fronts_read t d = last_read t.loads (fronts_word d)
+
+abbrev pub rears_read : Ticking → ℕ → ℕ
+rears_read t d = last_read t.loads (rears_word d)
+
+-- the seat is a feeder's, with these counts
+pub record IsFeeding (id : TableId) (me : Me (Unit {0}) View) (place fronts rears : ℕ) : Type 0 where
+  pub view : me ≡ (Feeder place fronts rears, [])
+  pub ordered : rears ≤ fronts
+  pub bounded : fronts ≤ most_fronts
+  pub in_range : place < 64
+  pub on_board : 2 * place + 1 < id.words
+
+-- the seat is the tick's, and the last values read stand in `read`
+pub record IsTicking (id : TableId) (me : Me (Unit {0}) View) (totals : Counts) : Type 0 where
+  pub view : me ≡ (Tick (dealt_of me.0) (loads_of me.0) (owned_of me.0), [])
+  pub load_count : length (loads_of me.0) ≡ id.words
+  pub owned_count : 2 * length (owned_of me.0) ≡ id.words
+  pub size : length totals ≡ 64
+  pub read : (d : ℕ) → d < 64 → slice_index_or totals d (0, 0) ≡ (last_read (loads_of me.0) (fronts_word d), last_read (loads_of me.0) (rears_word d))
+  pub ordered : (d : ℕ) → d < 64 → (last_read (loads_of me.0) (rears_word d) ≤ last_read (loads_of me.0) (fronts_word d)) × (last_read (loads_of me.0) (fronts_word d) ≤ most_fronts)
+
+-- one value more of each word of the detector at place d: first of its rears, then of its fronts; g is what they gained
+pub record ReadsOne (d : ℕ) (old new : Ticking) (g : ℕ × ℕ) : Type 0 where
+  pub table : new.table ≡ old.table
+  pub loads : new.loads ≡ loads_after (loads_after old.loads (rears_word d) (g.1 + rears_read old d)) (fronts_word d) (g.0 + fronts_read old d)
+  pub inside : 2 * d + 1 < length old.loads
+  pub ordered : g.1 + rears_read old d ≤ g.0 + fronts_read old d
+  pub bounded : g.0 + fronts_read old d ≤ most_fronts
+
+-- the tick's pass after a take by a board of `detectors` detectors: one value more of each word, and the frame is what they gained
+pub record Takes (detectors : ℕ) (old new : Ticking) (frame : Counts) : Type 0 where
+  pub table : new.table ≡ old.table
+  pub fronts : (d : ℕ) → d < detectors → fronts_loads new d ≡ fronts_loads old d ++ fronts_read new d ∷ []
+  pub rears : (d : ℕ) → d < detectors → rears_loads new d ≡ rears_loads old d ++ rears_read new d ∷ []
+  pub size : length frame ≡ 64
+  pub gains : (d : ℕ) → d < detectors → ((slice_index_or frame d (0, 0)).0 + fronts_read old d ≡ fronts_read new d) × ((slice_index_or frame d (0, 0)).1 + rears_read old d ≡ rears_read new d)
+  pub absent : (d : ℕ) → detectors ≤ d → slice_index_or frame d (0, 0) ≡ (0, 0)
+  pub ordered : (d : ℕ) → d < detectors → (rears_read new d ≤ fronts_read new d) × (fronts_read new d ≤ most_fronts)
+
+-- the passes of a board as it is made, in the order of the detectors
+pub record IsOpening (detectors : ℕ) (board : Boarded) (feeders : List Feeding) (tick : Ticking) : Type 0 where
+  pub detectors_are : board.detectors ≡ detectors
+  pub count : length feeders ≡ detectors
+  pub each : (k : ℕ) → k < detectors → slice_get feeders k ≡ Some (record { table = board.table; place = k; fronts = 0; rears = 0 })
+  pub of_tick : tick.table ≡ board.table
+  pub unread : (w : ℕ) → slice_index_or tick.loads w [] ≡ []
+
+-- all passes of this board, in order
+pub record AreAll (board : Boarded) (feeders : List Feeding) (tick : Ticking) : Type 0 where
+  pub count : length feeders ≡ board.detectors
+  pub each : (k : ℕ) (p : Feeding) → slice_get feeders k ≡ Some p → (p.table ≡ board.table) × (p.place ≡ k)
+  pub of_tick : tick.table ≡ board.table
+
+-- the frame that is left: with what was read it makes each feeder's own counts
+pub record Closes (board : Boarded) (feeders : List Feeding) (tick : Ticking) (frame : Counts) : Type 0 where
+  pub size : length frame ≡ 64
+  pub rest : (d : ℕ) (p : Feeding) → slice_get feeders d ≡ Some p → ((slice_index_or frame d (0, 0)).0 + fronts_read tick d ≡ p.fronts) × ((slice_index_or frame d (0, 0)).1 + rears_read tick d ≡ p.rears)
+  pub absent : (d : ℕ) → board.detectors ≤ d → slice_index_or frame d (0, 0) ≡ (0, 0)
+  pub ordered : (d : ℕ) (p : Feeding) → slice_get feeders d ≡ Some p → (p.rears ≤ p.fronts) × (p.fronts ≤ most_fronts)
+
+-- the tick's seat while detectors are dealt: the first n are, the others are its own with no count
+pub record Undealt (n detectors : ℕ) (me : Me (Unit {0}) View) : Type 0 where
+  pub view : me ≡ (Tick n (replicate (2 * detectors) []) (owned_of me.0), [])
+  pub owned_count : length (owned_of me.0) ≡ detectors
+  pub rest : (d : ℕ) → n ≤ d → d < detectors → slice_index_or (owned_of me.0) d None ≡ Some (0, 0)
+
+-- the tick's seat while passes are given back: those from place n on own what their feeders counted
+pub record GivenBack (n detectors : ℕ) (feeders : List Feeding) (loads : List (List ℕ)) (me : Me (Unit {0}) View) : Type 0 where
+  pub view : me ≡ (Tick (dealt_of me.0) loads (owned_of me.0), [])
+  pub owned_count : length (owned_of me.0) ≡ detectors
+  pub back : (k : ℕ) (p : Feeding) → n ≤ k → slice_get feeders k ≡ Some p → slice_index_or (owned_of me.0) k None ≡ Some (p.fronts, p.rears)
+
+-- what the tick has read of the detectors that it owns is at most their counts
+abbrev pub WithinCounts : ℕ → View → Type 0
+WithinCounts detectors v = IsTick v → (d f r : ℕ) → d < detectors → owned_by v d ≡ Some (f, r) → (last_read (loads_of v) (fronts_word d) ≤ f) × (last_read (loads_of v) (rears_word d) ≤ r) × (r ≤ f) × (f ≤ most_fronts)
