@@ -122,6 +122,15 @@ fn a_pass_ends_as_its_code_says(rt: HostRuntime) -> Result<(), Fail> {
         Store(0),
         Ret,
     ];
+    // The world knows the number 1, and not 2, as the first of two arguments.
+    let both_read = [
+        Tick(6),
+        Push(1),
+        Push(2),
+        Read(ReadingKind::InterstageActive),
+        Store(0),
+        Ret,
+    ];
     for (instrs, want) in [
         (&[Tick(1), Jump(0)] as &[Instr], fault(FaultKind::Budget, 1)),
         (&rounded, PassEnd::Done),
@@ -165,10 +174,46 @@ fn a_pass_ends_as_its_code_says(rt: HostRuntime) -> Result<(), Fail> {
             &[Tick(5), Push(2), Do(CommandKind::SgGreen), Ret],
             fault(FaultKind::Number, 5),
         ),
+        (&both_read, PassEnd::Done),
+        (
+            &[
+                Tick(6),
+                Push(2),
+                Push(1),
+                Read(ReadingKind::InterstageActive),
+                Store(0),
+                Ret,
+            ],
+            fault(FaultKind::Number, 6),
+        ),
+        (
+            &[
+                Tick(6),
+                Push(2),
+                Push(1),
+                Do(CommandKind::Interstage),
+                Ret,
+            ],
+            fault(FaultKind::Number, 6),
+        ),
     ] {
         let end = first_pass::<Brand>(rt.alloc(), instrs, Blank::new(1))?;
         assert_eq!(rt; end, Some((want, 0)));
     }
+    Ok(())
+}
+
+#[test]
+fn the_argument_that_was_pushed_first_comes_first(rt: HostRuntime) -> Result<(), Fail> {
+    let both = [
+        Tick(1),
+        Push(1),
+        Push(2),
+        Do(CommandKind::Interstage),
+        Ret,
+    ];
+    let end = first_pass::<Brand>(rt.alloc(), &both, Blank::new(1))?;
+    assert_eq!(rt; end, Some((PassEnd::Done, 1)));
     Ok(())
 }
 
