@@ -8,6 +8,8 @@ mod boards;
 #[cfg(test)]
 mod checks;
 #[cfg(test)]
+mod code_files;
+#[cfg(test)]
 mod codes;
 #[cfg(test)]
 mod guard;
