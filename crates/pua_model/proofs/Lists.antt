@@ -1,19 +1,21 @@
 -- What a plan's lists say of its parts.
-use Rattle.std.proofs.Common.{◌≡◌, ℕ, zero, suc, ◌<◌, ◌≤◌, ◌==◌, Bool, true, not, ◌&&◌, ◌||◌, List, [], ◌∷◌, length, get_or, Option, Some, None, refl, sym, ap, ◌∙◌, arith, map, nat_le, ℤ, pos, negsuc, inl, inr}
-use Rattle.std.specs.Prelude.{◌≤ℤ◌, ◌<ℤ◌, unsigned_abs}
+use Rattle.std.proofs.Common.{◌≡◌, ℕ, zero, suc, ◌<◌, ◌≤◌, ◌+◌, ◌==◌, Bool, true, false, ◌⊎◌, not, set, ◌&&◌, ◌||◌, List, [], ◌∷◌, length, get_or, Option, Some, None, refl, sym, ap, ◌∙◌, arith, map, nat_le, nat_lt, ℤ, pos, negsuc, inl, inr}
+use Rattle.std.specs.Prelude.{◌≤ℤ◌, ◌<ℤ◌, unsigned_abs, IfSome}
+use Rattle.std.proofs.lemmas.List.Quantifiers.{position-Some}
+use Rattle.sig_types.specs.declared.numbers.GroupNo.{GroupNo}
 use Rattle.std.specs.List.{position, prefix_len}
 use Rattle.std.specs.Str.{IsUtf8}
 use Rattle.std.proofs.lemmas.Str.{IsUtf8-from_ascii}
 use Rattle.std.proofs.lemmas.Str.Ascii.{IsAscii-nil, IsAscii-cons}
 use Rattle.std.specs.Str.{IsAscii}
-use Rattle.std.proofs.lemmas.Bool.{and_parts, le-leb, cases_Bool}
+use Rattle.std.proofs.lemmas.Bool.{and_parts, le-leb, leb-true, le-ltb, ne_eqb, eqb-true, eqb-false, ltb-true, ltb-false, cases_Bool}
 use Rattle.std.proofs.lemmas.Bool.Decides.{nat_tests}
 use Rattle.std.proofs.lemmas.Int.{ints}
 use Rattle.pua_model.specs.declared.parts.Group.{Group}
 use Rattle.pua_model.specs.declared.parts.Stage.{Stage}
-use Rattle.std.proofs.lemmas.List.{length-map, get_or-map}
+use Rattle.std.proofs.lemmas.List.{length-map, get_or-map, length-set, get_or-set_same, get_or-set_other}
 use Rattle.sig_types.specs.Text.{is_name, is_word, is_letter, is_digit, same_name}
-use Rattle.pua_model.specs.Plan.{PlanOf, are_names, group_of, group_named, stage_of}
+use Rattle.pua_model.specs.Plan.{PlanOf, InterstageOf, no_interstage, are_names, is_above, group_of, group_named, group_number, stage_of}
 use Rattle.std.proofs.lemmas.Grind.{common_steps}
 
 prefix_len-map : {X Y : Type 0} (f : X → Y) (p : Y → Bool) (xs : List X) → prefix_len p (map f xs) ≡ prefix_len (λ x. p (f x)) xs
@@ -86,3 +88,51 @@ greens_at stages i s lt is = get_or-map (λ s. s.greens) stages i s [] lt ∙ ap
 
 pub name_in_plan : (groups : List Group) (i : ℕ) (g : Group) → i < length groups → g ≡ get_or groups i g → get_or (map (λ g. g.name) groups) i [] ≡ g.name
 name_in_plan groups i g lt is = get_or-map (λ g. g.name) groups i g [] lt ∙ ap (λ g. g.name) (sym is)
+
+-- no group has a number past 255
+none_equal : (least n : ℕ) (ns : List ℕ) → is_above least ns ≡ true → 255 < n → prefix_len (λ k. not (k == n)) ns ≡ length ns
+none_equal least n [] h big = refl
+none_equal least n (k ∷ ks) h big =
+    let both = and_parts (nat_lt least k && nat_le k 255) (is_above k ks) h in
+    let most : k ≤ 255 = leb-true k 255 (and_parts (nat_lt least k) (nat_le k 255) both.0).1 in
+    let other : (k == n) ≡ false = ne_eqb k n (λ same. absurd (omega (arith, same, most, big))) in
+    rw (other, none_equal k n ks both.1 big) (omega arith)
+
+pub group_of_great : (p : PlanOf) (z : ℤ) → is_above 0 p.numbers ≡ true → pos 255 <ℤ z → group_of p z ≡ None
+unfolding group_of
+group_of_great p (pos n) rising h = let big : 255 < n = omega (arith, ints, h) in rw (none_equal 0 n p.numbers rising big, le-ltb (length p.numbers) (length p.numbers) (omega arith)) refl
+group_of_great p (negsuc n) rising h = absurd (omega (arith, ints, h))
+
+-- what the table of places has for a number is a place among the groups
+pub place_below : (o : Option GroupNo) (groups : List Group) (n count : ℕ) → group_number o ≡ position (λ g. g.number == n) groups → length groups ≡ count → IfSome o (λ g. g.0 < count)
+place_below None groups n count is size = tt
+place_below (Some g) groups n count is size =
+    let inside = position-Some (λ (h : Group). h.number == n) groups g.0 (record { name = []; number = 0 }) (sym is) in omega (arith, inside.0, size)
+
+pub interstage_is : (l : List InterstageOf) (i : ℕ) (w : InterstageOf) → i < length l → w ≡ get_or l i w → get_or l i no_interstage ≡ w
+interstage_is [] i w lt is = absurd (omega arith)
+interstage_is (x ∷ xs) zero w lt is = sym is
+interstage_is (x ∷ xs) (suc i) w lt is = interstage_is xs i w (omega arith) is
+
+less_than : (g k : ℕ) → g < k + 1 → (g ≡ k → ⊥) → g < k
+less_than g k below ne = elim (cases_Bool (nat_lt g k)) [ inl less ↦ ltb-true g k less | inr past ↦ let past : k ≤ g = ltb-false g k past in absurd (ne (omega (arith, past, below))) ]
+
+-- the items below k are as they are wished, and the others as they were before
+abbrev pub Wished : List Bool → (ℕ → Bool) → (ℕ → Bool) → ℕ → ℕ → Type 0
+Wished out wished before n k =
+    (length out ≡ n)
+    × ((g : ℕ) → g < k → get_or out g false ≡ wished g)
+    × ((g : ℕ) → k ≤ g → g < n → get_or out g false ≡ before g)
+
+pub wished_more : (out : List Bool) (wished before : ℕ → Bool) (n k : ℕ) (b : Bool) → Wished out wished before n k → k < n → b ≡ wished k → Wished (set out k b) wished before n (k + 1)
+wished_more out wished before n k b h lt here =
+    (length-set out k b ∙ h.0, λ g below. one g below (cases_Bool (g == k)), λ g from lt2. get_or-set_other out k g b false (λ e. absurd (omega (arith, e, from))) ∙ h.2 g (omega (arith, from)) lt2)
+  where
+    one : (g : ℕ) → g < k + 1 → ((g == k) ≡ true) ⊎ ((g == k) ≡ false) → get_or (set out k b) g false ≡ wished g
+    one g below (inl same) =
+        let e : g ≡ k = eqb-true g k same in
+        rw e (get_or-set_same out k b false (omega (arith, lt, h.0)) ∙ here)
+    one g below (inr other) =
+        let ne : g ≡ k → ⊥ = eqb-false g k other in
+        let less : g < k = less_than g k below ne in
+        get_or-set_other out k g b false ne ∙ h.1 g less

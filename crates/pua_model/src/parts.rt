@@ -1,6 +1,8 @@
 // The parts of a plan.
-ghost use Rattle.std.specs.Prelude.{◌≡◌, ◌<◌, length, slice_index_or, None};
+ghost use Rattle.std.specs.Prelude.{◌≡◌, ◌<◌, length, slice_index_or, None, pos};
+ghost use Rattle.pua_model.specs.Wish.{wished_by};
 
+use crate::wish::wished;
 use sig_types::{GroupNo, ShortName, StageNo, Wishes};
 use std::marker::Model;
 
@@ -75,5 +77,13 @@ impl Interstage {
         ensures { result ≡ slice_index_or self.now.rows g.0 None }
     {
         self.rows[g.0 as usize]
+    }
+
+    /// Whether a group is wished green in second `t`; `before` tells whether it is green in the from-stage.
+    pub(crate) fn wish(&self, t: u8, g: GroupNo, before: bool) -> bool
+        requires { g.0 < length self.now.rows }
+        ensures { result ≡ wished_by (slice_index_or self.now.rows g.0 None) (pos t) before }
+    {
+        wished(self.row(g), i16::from(t), before)
     }
 }

@@ -1,12 +1,11 @@
 // A plan and what it answers.
-ghost use Rattle.std.specs.Prelude.{◌≡◌, ◌≤◌, ◌<◌, length, pos, Some, None, Option, IfSome, ℕ, slice_index_or, []};
+ghost use Rattle.std.specs.Prelude.{◌≡◌, ◌≤◌, ◌<◌, length, pos, Some, None, Option, IfSome, ℕ, slice_index_or, [], false};
 ghost use Rattle.pua_model.specs.Plan.{PlanOf, IsPlan, HasStage, groups_in, in_stage, interstage_between, interstage_at, wish_in, group_of, group_named, stage_of, group_number, stage_number, inter_number};
-ghost use Rattle.pua_model.specs.Parts.{plan_of};
+ghost use Rattle.pua_model.specs.Parts.{plan_of, ArePlaces};
 
 use crate::finds::{place_between, place_named, place_numbered};
 use crate::parts::{Group, Interstage, Stage};
-use crate::wish::wished;
-use sig_types::{GroupNo, InterNo, StageNo};
+use sig_types::{GroupNo, InterNo, StageNo, Wishes};
 use std::marker::Model;
 
 /// A plan: 1 to 64 signal groups in rising order of their numbers, 1 to 32 stages, the stage in which a run starts, and at
@@ -18,17 +17,34 @@ pub struct Plan {
     stages: Vec<Stage>,
     start: StageNo,
     interstages: Vec<Interstage>,
+    places: [Option<GroupNo>; 256],
 }
 
 impl Model for Plan {
     ghost use Rattle.pua_model.specs.Plan.{PlanOf, IsPlan};
-    ghost use Rattle.pua_model.specs.Parts.{plan_of};
+    ghost use Rattle.pua_model.specs.Parts.{plan_of, ArePlaces};
 
     ghost Value = { PlanOf };
 
     ghost view = { λ p. plan_of p.groups.items p.stages.items p.start.0 p.interstages.items };
 
-    ghost invariant = { λ p. IsPlan (plan_of p.groups.items p.stages.items p.start.0 p.interstages.items) };
+    ghost invariant = { λ p.
+        IsPlan (plan_of p.groups.items p.stages.items p.start.0 p.interstages.items) × ArePlaces p.places p.groups.items };
+}
+
+// For each number from 0 to 255 the group that has it.
+fn places_of(groups: &[Group]) -> [Option<GroupNo>; 256]
+    requires { length groups.now ≤ 64 }
+    ensures { ArePlaces result groups.now }
+{
+    let mut places = [None; 256];
+    for number in 0..256 {
+        places[number] = match place_numbered(groups, number as u32) {
+            Some(place) => Some(GroupNo(place as u8)),
+            None => None,
+        };
+    }
+    places
 }
 
 impl Plan {
@@ -42,11 +58,13 @@ impl Plan {
         requires { IsPlan (plan_of groups.items stages.items start.0 interstages.items) }
         ensures plan { result ≡ plan_of groups.items stages.items start.0 interstages.items }
     {
+        let places = places_of(&groups);
         Plan {
             groups,
             stages,
             start,
             interstages,
+            places,
         }
     }
 
@@ -96,13 +114,11 @@ impl Plan {
         ensures found { group_number result ≡ group_of self.now number }
         ensures below { IfSome result (λ g. g.0 < groups_in self.now) }
     {
-        if number < 0 {
+        let places = &self.places;
+        if number < 0 || 255 < number {
             return None;
         }
-        match place_numbered(&self.groups, number.unsigned_abs()) {
-            Some(place) => Some(GroupNo(place as u8)),
-            None => None,
-        }
+        places[number.unsigned_abs() as usize]
     }
 
     /// The group with this name without regard to ASCII case; None where the plan has none.
@@ -190,6 +206,31 @@ impl Plan {
     {
         let interstage = &self.interstages[i.0 as usize];
         let before = self.in_stage(interstage.from_stage(), g);
-        wished(interstage.row(g), i16::from(t), before)
+        interstage.wish(t, g, before)
+    }
+
+    /// Writes for each group whether it is green in the stage.
+    pub fn stage_wishes(&self, s: StageNo, out: &mut Wishes)
+        requires { HasStage self.now s.0 }
+        ensures groups { length out.new ≡ groups_in self.now }
+        ensures wishes { (g : ℕ) → g < groups_in self.now → slice_index_or out.new g false ≡ in_stage self.now s.0 g }
+    {
+        let stage = &self.stages[s.0 as usize - 1];
+        *out = stage.greens.copy();
+    }
+
+    /// Writes whether each group is wished green in second `t` of an interstage, its first being second 0.
+    pub fn interstage_wishes(&self, i: InterNo, t: u8, out: &mut Wishes)
+        requires interstage { i.0 < length self.now.interstages }
+        requires second { t < (interstage_at self.now i.0).length }
+        ensures groups { length out.new ≡ groups_in self.now }
+        ensures wishes { (g : ℕ) → g < groups_in self.now → slice_index_or out.new g false ≡ wish_in self.now i.0 t g }
+    {
+        let interstage = &self.interstages[i.0 as usize];
+        self.stage_wishes(interstage.from_stage(), out);
+        for g in 0..self.groups() {
+            let green = interstage.wish(t, GroupNo(g), out.get(g));
+            out.set(g, green);
+        }
     }
 }

@@ -102,33 +102,22 @@ impl StageState {
         Second(self.since)
     }
 
-    // What the place wishes of a group.
-    #[tactic(auto, unfolding(crate::specs::Stands::StandsFor, crate::specs::Orders::stage_wish))]
-    fn wish(&self, plan: &Plan, g: GroupNo) -> bool
-        requires plan { IsPlan plan.now }
-        requires stands { (orders : List Order) × (k : ℕ) × StandsFor self.now plan.now orders k }
-        requires group { g.0 < groups_in plan.now }
-        ensures { (orders : List Order) (k : ℕ) → StandsFor self.now plan.now orders k → result ≡ stage_wish plan.now (place_at plan.now orders k) g.0 }
-    {
-        match self.place {
-            StagePlace::NoPlan => false,
-            StagePlace::Stage(stage) => plan.in_stage(stage, g),
-            StagePlace::Inter { from, to, t } => match plan.interstage(from, to) {
-                None => false,
-                Some(interstage) => plan.wish(interstage, t, g),
-            },
-        }
-    }
-
     /// Writes what the stage, or the interstage in its second, wishes of each group.
+    #[tactic(auto, unfolding(crate::specs::Stands::StandsFor, crate::specs::Orders::stage_wish))]
     pub fn wishes(&self, plan: &Plan, out: &mut Wishes)
         requires stands { (orders : List Order) × (k : ℕ) × StandsFor self.now plan.now orders k }
         requires groups { length out.old ≡ groups_in plan.now }
         ensures groups { length out.new ≡ groups_in plan.now }
         ensures wishes { (orders : List Order) (k : ℕ) → StandsFor self.now plan.now orders k → (g : ℕ) → g < groups_in plan.now → slice_index_or out.new g false ≡ stage_wish plan.now (place_at plan.now orders k) g }
     {
-        for g in 0..plan.groups() {
-            out.set(g, self.wish(plan, GroupNo(g)));
+        let groups = plan.groups();
+        match self.place {
+            StagePlace::NoPlan => *out = Wishes::all_red(groups),
+            StagePlace::Stage(stage) => plan.stage_wishes(stage, out),
+            StagePlace::Inter { from, to, t } => match plan.interstage(from, to) {
+                None => *out = Wishes::all_red(groups),
+                Some(interstage) => plan.interstage_wishes(interstage, t, out),
+            },
         }
     }
 }

@@ -11,5 +11,5 @@ unreachable-requires c =
     let lt : c.args.g.0 < length groups = omega (arith, ap (λ p. length p.names) c.self.view_is, length-map groups (λ (g : Group). g.name)) in
     let here : get_or (map (λ (g : Group). g.name) groups) c.args.g.0 [] ≡ c.index-group.result.now.name = name_in_plan groups c.args.g.0 c.index-group.result.now lt c.index-group.ensures in
     let named : is_name c.index-group.result.now.name ≡ true =
-    rw (← here) (name_at (map (λ (g : Group). g.name) groups) c.args.g.0 c.self.invariant.names (omega (arith, lt, length-map groups (λ (g : Group). g.name)))) in
+    rw (← here) (name_at (map (λ (g : Group). g.name) groups) c.args.g.0 c.self.invariant.0.names (omega (arith, lt, length-map groups (λ (g : Group). g.name)))) in
     c.in-Err.ensures.cases.0 (rw c.bytes.ensures.bytes (name_is_text c.index-group.result.now.name named))

@@ -9,7 +9,7 @@ get-requires c =
     let stages : List Stage = c.self.inside.stages.items in
     let lt : c.args.s.0 - 1 < length stages = omega (arith, c.requires.stage, ap (λ p. length p.stages) c.self.view_is, length-map stages (λ (s : Stage). s.greens)) in
     let here : get_or (map (λ (s : Stage). s.greens) stages) (c.args.s.0 - 1) [] ≡ c.index-stage.result.now.greens = greens_at stages (c.args.s.0 - 1) c.index-stage.result.now lt c.index-stage.ensures in
-    omega (arith, c.self.invariant.stages (c.args.s.0 - 1) (omega (arith, lt, length-map stages (λ (s : Stage). s.greens))), ap length here, ap (λ p. length p.names) c.self.view_is)
+    omega (arith, c.self.invariant.0.stages (c.args.s.0 - 1) (omega (arith, lt, length-map stages (λ (s : Stage). s.greens))), ap length here, ap (λ p. length p.names) c.self.view_is)
 
 pub returns : goal.returns
 returns c =
