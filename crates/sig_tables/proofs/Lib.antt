@@ -1,3 +1,4 @@
+pub mod ReadErrors
 pub mod Rows
 pub mod Places
 pub mod TimesLists

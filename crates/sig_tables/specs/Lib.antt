@@ -4,5 +4,6 @@ pub mod Headers
 pub mod Groups
 pub mod TimesTable
 pub mod Pairs
+pub mod SiteRules
 pub mod IntergreenTable
 pub mod Held

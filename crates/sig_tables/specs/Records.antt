@@ -4,6 +4,8 @@ use Rattle.std.specs.Borrow.{Bor}
 use Rattle.csv.specs.Reading.{records, Reached, Ready, default_config, source_of, strip_bom}
 use Rattle.csv.specs.declared.parser.State.TheVariants as st
 use Rattle.csv.specs.declared.reader.Trim.TheVariants as trim
+use Rattle.csv.specs.declared.error.ErrorKind.{ErrorKind}
+use Rattle.csv.specs.declared.error.ErrorKind.TheVariants as kind
 use Rattle.sig_types.specs.Text.{same_name}
 use Rattle.sig_tables.specs.declared.records.Records.{Records}
 
@@ -28,9 +30,19 @@ is_header (w ∷ ws) (f ∷ fs) = same_name f w && is_header ws fs
 -- the reader has read these records of the text, and no more
 pub record HasRead (r : Records) (text : List ℕ) (rows : List Row) : Type 0 where
   pub trim : r.reader.trim ≡ trim.None
+  pub flexible : r.reader.flexible ≡ true
   pub ready : Ready r.reader
   pub config : r.reader.config ≡ default_config
   pub rest : List ℕ
   pub source : source_of (λ (s : Bor (List ℕ)). Some s.now) r.reader ≡ Some rest
   pub reached : Reached default_config st.StartRecord (strip_bom text) rows r.reader.state rest
   pub number : r.number ≡ length rows
+
+-- the reader of the text wanted memory, or what it reads from failed: no record's length and no byte is a reason to stop
+abbrev pub IsOfMemory : ErrorKind → Type 0
+IsOfMemory (kind.Io e) = Unit {0}
+IsOfMemory kind.OutOfMemory = Unit {0}
+IsOfMemory (kind.Utf8 pos err) = ⊥
+IsOfMemory (kind.UnequalLengths pos expected len) = ⊥
+IsOfMemory (kind.Serialize why) = ⊥
+IsOfMemory (kind.Deserialize pos err) = ⊥

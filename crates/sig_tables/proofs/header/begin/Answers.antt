@@ -16,3 +16,6 @@ returns-then-not-is_header-clause-refused c =
     let begins = text_begins c.next.new.self c.args.text.now _ (c.in_ok-next.ensures.more found c.args.text.now [] c.open-records.ensures) in
     let wrong : is_header (header_of c.args.table) (fields_of c.next.new.self.row) ≡ false = sym c.is_header.ensures ∙ search rules in
     rw (begins.1, wrong) refl
+
+pub next-requires-clause-read : goal.next-requires-clause-read
+next-requires-clause-read c = (c.args.text.now, [], c.open-records.ensures)

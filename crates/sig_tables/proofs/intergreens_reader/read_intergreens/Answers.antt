@@ -91,3 +91,6 @@ returns-clause-seconds c =
     let reads = c.loop-listed.invariant in
     let all = c.in_ok-next.ensures.end (search rules) c.args.bytes.now (reads.header ∷ reads.rows) reads.read in
     rw c.of.ensures (last_seconds c.args.plan.now c.args.bytes.now c.loop-listed.listed.cells.items c.loop-listed.listed.pairs.items reads.header reads.rows reads.holds all)
+
+pub next-requires-clause-read : goal.next-requires-clause-read
+next-requires-clause-read c = let reads = c.loop-listed.invariant in (c.args.bytes.now, (reads.header ∷ reads.rows), reads.read)

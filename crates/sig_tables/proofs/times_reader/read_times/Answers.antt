@@ -69,3 +69,6 @@ returns-clause-groups c =
     let holds : HoldsTimes c.args.plan.now reads.rows c.deref.result.now = rw c.deref.ensures.value reads.holds in
     IfOk-weaker c.complete.result _ (λ t. length t ≡ groups_in c.args.plan.now)
     (λ t times. ap length (times c.args.plan.now reads.rows holds) ∙ times_counted c.args.plan.now reads.rows (groups_in c.args.plan.now)) c.complete.ensures.times
+
+pub next-requires-clause-read : goal.next-requires-clause-read
+next-requires-clause-read c = let reads = c.loop-held.invariant in (c.args.bytes.now, (reads.header ∷ reads.rows), reads.read)

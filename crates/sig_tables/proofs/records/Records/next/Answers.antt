@@ -4,6 +4,7 @@ use Rattle.csv.specs.Reading.{default_config, strip_bom}
 use Rattle.csv.specs.Records.{fields_of}
 use Rattle.csv.specs.declared.parser.State.TheVariants as st
 use Rattle.csv.proofs.ReadFacts.{rows-end, rows-more}
+use Rattle.sig_tables.proofs.ReadErrors.{of_memory}
 use Rattle.sig_tables.proofs.Rows.{are_all}
 use Rattle.sig_tables.proofs.records.Records.next.Goals as goal
 
@@ -25,6 +26,7 @@ returns c = record {
       record {
         trim = read.3 ∙ has.trim;
         ready = inl (c.in-Ok-true.ensures.ready has.trim);
+        flexible = c.in-Ok-true.ensures.flexible ∙ has.flexible;
         config = read.2 ∙ has.config;
         rest = m.0;
         source = m.1;
@@ -34,3 +36,8 @@ returns c = record {
   end = λ found. absurd (false≢true (sym found));
   memory = tt;
 }
+
+pub refusal_of-requires : goal.refusal_of-requires
+refusal_of-requires c =
+    let read = c.requires.read in
+    of_memory c.in-Err.error.kind c.args.self.now.reader c.read_byte_record.new.self read.2.flexible (c.in-Err.ensures.why read.2.ready)

@@ -8,6 +8,7 @@ returns c =
     let made = c.from_reader-reader.ensures in
     record {
       trim = rw (c.flexible.ensures, c.has_headers.ensures) at made.trim ∙ c.new.ensures.trim;
+      flexible = rw c.flexible.ensures at made.flexible;
       ready = inr (inr (rw (c.flexible.ensures, c.has_headers.ensures) at made.has_headers, made.headers));
       config = rw (c.flexible.ensures, c.has_headers.ensures) at made.config ∙ c.new.ensures.config;
       rest = strip_bom c.args.text.now;
