@@ -9,12 +9,12 @@ use Rattle.sig_types.specs.declared.numbers.Command.{Command}
 use Rattle.pua_model.specs.Plan.{PlanOf}
 use Rattle.sig_tables.specs.declared.times.TimesRow.{TimesRow}
 use Rattle.sig_tables.specs.Pairs.{Pairs, between}
-use Rattle.sig_guard.specs.Tables.{rules_of}
+use Rattle.sig_tables.specs.SiteRules.{rules_by, rules_of}
 use Rattle.junction_run.specs.declared.stop.File.{File}
 use Rattle.junction_run.specs.declared.stop.Stop.{Stop}
 use Rattle.junction_run.specs.declared.stop.Stop.TheVariants.{Memory, ReadFault, WriteFault, Refused, TooLong}
 use Rattle.junction_run.specs.Form.{Form}
-use Rattle.junction_run.specs.Loading.{Loaded, Unloaded, Refusal, is_long, judged, rules_by, load_program, site_by}
+use Rattle.junction_run.specs.Loading.{Loaded, Unloaded, Refusal, is_long, judged, load_program, site_by}
 use Rattle.junction_run.specs.Loading.{TooLong as LongFile}
 use Rattle.junction_run.specs.PlainText.{plain_of}
 use Rattle.junction_run.specs.Stop.{IsLoadStop, IsReadStop, IsRefusedAt, IsUnplain, word_of}

@@ -1,15 +1,14 @@
 -- What the files of a run give.
 use Rattle.std.specs.Prelude.{ℕ, Bool, nat_lt, List, length, codes, Option, None, Some, Result, Ok, Err, if◌then◌else◌}
 use Rattle.sig_io.specs.Outside.{Contents}
-use Rattle.sig_types.specs.Rules.{Rules}
 use Rattle.sig_types.specs.declared.numbers.Command.{Command}
 use Rattle.pua_model.specs.Plan.{PlanOf}
 use Rattle.pua_reader.specs.declared.refusal.PuaWhy.{PuaWhy}
 use Rattle.pua_reader.specs.Accepted.{refusal_of, plan_of_text}
 use Rattle.sig_tables.specs.declared.refusal.TableWhy.{TableWhy}
-use Rattle.sig_tables.specs.declared.times.TimesRow.{TimesRow}
-use Rattle.sig_tables.specs.TimesTable.{times_refusal, times_of, row_of}
+use Rattle.sig_tables.specs.TimesTable.{times_refusal, times_of}
 use Rattle.sig_tables.specs.IntergreenTable.{intergreens_refusal, intergreen_of}
+use Rattle.sig_tables.specs.SiteRules.{rules_by}
 use Rattle.controller.specs.Past.{Site}
 use Rattle.junction_run.specs.Form.{Form}
 use Rattle.junction_run.specs.PlainText.{plain_of}
@@ -49,16 +48,7 @@ unless_refused word (Some at) rest = Err (Refused word at.0 at.1)
 abbrev pub judged : List ℕ → List ℕ → Refusal → Result Loaded Unloaded → Result Loaded Unloaded
 judged word bytes refusal rest = if is_long bytes then Err (TooLong word) else unless_refused word refusal rest
 
--- the rules of turns by the texts of the tables
-abbrev pub rules_by : List TimesRow → (ℕ → ℕ → Option ℕ) → Rules
-rules_by times between = record {
-  count = length times;
-  red_amber = λ g. (row_of times g).red_amber;
-  amber = λ g. (row_of times g).amber;
-  least_green = λ g. (row_of times g).min;
-  between = between;
-}
-
+-- the site by the texts of its tables
 abbrev pub site_by : PlanOf → List ℕ → List ℕ → Site
 site_by plan times intergreens = record { plan = plan; rules = rules_by (times_of plan times) (intergreen_of plan intergreens) }
 

@@ -7,7 +7,7 @@ ghost use Rattle.pua_reader.specs.Accepted.{refusal_of, plan_of_text};
 ghost use Rattle.sig_tables.specs.TimesTable.{times_refusal, times_of};
 ghost use Rattle.sig_tables.specs.IntergreenTable.{intergreens_refusal, intergreen_of};
 ghost use Rattle.sig_tables.specs.Pairs.{between};
-ghost use Rattle.sig_guard.specs.Tables.{rules_of};
+ghost use Rattle.sig_tables.specs.SiteRules.{rules_of};
 ghost use Rattle.controller.specs.Commanded.{IsListed};
 ghost use Rattle.junction_run.specs.RunWords.{form_in};
 ghost use Rattle.junction_run.specs.PlainText.{plain_of};

@@ -7,7 +7,7 @@ use Rattle.sig_tables.specs.Pairs.{Pairs}
 use Rattle.sig_guard.specs.declared.guard.Guard.{Guard}
 use Rattle.sig_guard.specs.Ages.{HasAge, age_at}
 use Rattle.sig_guard.specs.Safety.{IsHistory, Safe}
-use Rattle.sig_guard.specs.Tables.{rules_of}
+use Rattle.sig_tables.specs.SiteRules.{rules_of}
 
 -- what the fields of a guard say, for its own steps
 abbrev pub kept_rules : Guard → Rules

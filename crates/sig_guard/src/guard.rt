@@ -5,7 +5,7 @@ ghost use Rattle.sig_types.specs.Words.{last_below, least_below, run_to};
 ghost use Rattle.sig_types.specs.Recorded.{IsTurn};
 ghost use Rattle.sig_tables.specs.Pairs.{ArePairs};
 ghost use Rattle.sig_guard.specs.Ages.{age_at};
-ghost use Rattle.sig_guard.specs.Tables.{rules_of};
+ghost use Rattle.sig_tables.specs.SiteRules.{rules_of};
 ghost use Rattle.sig_guard.specs.Step.{guard_picture, guard_refused};
 
 use crate::ages::{GroupAge, age_all, first_ages};
