@@ -10,7 +10,7 @@ use Rattle.pua_reader.specs.Groups.{put, put_row, has_number, has_name, group_re
 use Rattle.pua_reader.specs.Legal.{AreGroups}
 use Rattle.pua_reader.proofs.Small.{none_first, not_true, same_turned, both_true, both_false}
 
-length_put : (g : Group) (gs : List Group) → length (put g gs) ≡ suc (length gs)
+pub length_put : (g : Group) (gs : List Group) → length (put g gs) ≡ suc (length gs)
 length_put g [] = refl
 length_put g (h ∷ hs) = go (nat_lt g.number h.number) (length_put g hs)
   where

@@ -12,3 +12,4 @@ pub mod KeepInterstages
 pub mod Keeps
 pub mod Reading
 pub mod Lowered
+pub mod RowsSaid

@@ -127,7 +127,7 @@ head_at all k line more e =
 pub head_of : (all left : List Text) (g : PlanDraftOf) (line : Text) (more : List Text) → Reads all left g → left ≡ line ∷ more → HeadAt all g.lines line more
 head_of all left g line more reads next = head_at all g.lines line more (sym reads.rest ∙ next)
 
-draft_of_more : (all : List Text) (k : ℕ) → k < length all → draft_of (take (k + 1) all) ≡ after_line (draft_of (take k all)) (get_or all k [])
+pub draft_of_more : (all : List Text) (k : ℕ) → k < length all → draft_of (take (k + 1) all) ≡ after_line (draft_of (take k all)) (get_or all k [])
 unfolding draft_of
 draft_of_more all k lt = fold_more after_line empty_draft all k [] lt
 

@@ -5,5 +5,6 @@ pub mod Stages
 pub mod Interstages
 pub mod PlanDraft
 pub mod Accepted
+pub mod SectionRows
 pub mod Views
 pub mod Legal

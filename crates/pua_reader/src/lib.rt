@@ -5,6 +5,7 @@ mod draft;
 mod form;
 mod groups;
 mod interstages;
+mod laws;
 mod reader;
 mod refusal;
 mod section;
@@ -12,5 +13,6 @@ mod stages;
 mod twins;
 mod words;
 
+pub use laws::plan_says_its_rows;
 pub use reader::read_plan;
 pub use refusal::{PuaRefusal, PuaWhy};
