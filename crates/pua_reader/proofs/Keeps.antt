@@ -46,7 +46,7 @@ empty_draft_legal = record {
   room = λ e. absurd (omega arith);
 }
 
-next_line_legal : (g : PlanDraftOf) → Legal g → Legal (at_next_line g)
+pub next_line_legal : (g : PlanDraftOf) → Legal g → Legal (at_next_line g)
 next_line_legal g legal = record {
   groups = legal.groups;
   stages = legal.stages;

@@ -1,5 +1,5 @@
 -- An accepted file's plan says what its rows say.
-use Rattle.std.proofs.Common.{◌≡◌, ℕ, zero, suc, ◌+◌, ◌≤◌, ◌<◌, ◌==◌, Bool, true, false, not, ◌&&◌, ◌||◌, List, [], ◌∷◌, ◌++◌, length, take, get_or, map, refl, sym, ap, subst, ◌∙◌, arith, Option, Some, None, if◌then◌else◌, is_some, is_none, append_assoc, length-append, add-one}
+use Rattle.std.proofs.Common.{◌≡◌, ℕ, zero, suc, ◌+◌, ◌≤◌, ◌<◌, Bool, true, false, not, ◌&&◌, ◌||◌, List, [], ◌∷◌, ◌++◌, length, take, get_or, map, refl, sym, ap, ◌∙◌, arith, Option, Some, None, if◌then◌else◌, is_some, is_none, append_assoc, length-append, add-one}
 use Rattle.std.proofs.lemmas.List.{take_more, take_all, length-map}
 use Rattle.std.proofs.lemmas.List.{append-nil}
 use Rattle.std.proofs.lemmas.Bool.{or_parts}
@@ -17,7 +17,7 @@ use Rattle.pua_reader.specs.Rules.{at_line}
 use Rattle.pua_reader.specs.Groups.{group_row, put, put_row, group_reasons, group_why, groups_with}
 use Rattle.pua_reader.specs.Stages.{is_red_word, greens_of, stage_of, stages_with, start_why, start_with, start_reasons, is_stage_word}
 use Rattle.pua_reader.specs.Interstages.{open_at, interstages_with, interstage_of}
-use Rattle.pua_reader.specs.PlanDraft.{PlanDraftOf, empty_draft, draft_of, judge, line_why, after_line, row_why, row_why_in, after_row, after_row_in, interstage_end_why, after_section_end, section_why, after_section_line, at_next_line, kind_why, after_kind, is_over, is_interstage, end_why, lacks}
+use Rattle.pua_reader.specs.PlanDraft.{PlanDraftOf, draft_of, judge, line_why, after_line, row_why, row_why_in, after_row, after_row_in, interstage_end_why, after_section_end, section_why, after_section_line, at_next_line, kind_why, after_kind, is_over, is_interstage, end_why, lacks}
 use Rattle.pua_reader.specs.Accepted.{lines_in, refusal_of, plan_of_text, plan_in, start_number}
 use Rattle.pua_reader.specs.SectionRows.{section_by, section_with, section_from, is_row, same_section, row_here, rows_from, rows_in, group_before, groups_from, put_all, by_number, file_groups, stages_from, file_stages, SaysItsRows, PlanSaysItsRows}
 use Rattle.pua_reader.proofs.Small.{none_first, none_next, not_true}
@@ -26,7 +26,7 @@ use Rattle.pua_reader.proofs.Keeps.{is_full}
 use Rattle.pua_reader.proofs.Reading.{draft_of_more}
 
 -- one line more
-section_push : (now : Section) (xs : List Text) (x : Text) → section_from now (xs ++ x ∷ []) ≡ section_with (section_from now xs) x
+pub section_push : (now : Section) (xs : List Text) (x : Text) → section_from now (xs ++ x ∷ []) ≡ section_with (section_from now xs) x
 unfolding section_from
 section_push now [] x = refl
 section_push now (y ∷ ys) x = section_push (section_with now y) ys x
@@ -85,11 +85,11 @@ stages_push groups ((v ∷ vs) ∷ rows) row = go (is_red_word v) (stages_push g
         ∙ sym (with_cons groups (record { name = v; greens = greens_of groups vs }) (stages_from groups rows) row)
 
 -- the starting stage, by the rows of its section
-StartSays : Option StageNo → List Stage → List (List Text) → Type 0
+pub StartSays : Option StageNo → List Stage → List (List Text) → Type 0
 StartSays None stages rows = rows ≡ []
 StartSays (Some s) stages rows = (word : Text) × (rows ≡ (word ∷ []) ∷ []) × (stage_of stages word ≡ Some s)
 
-abbrev order : Section → ℕ
+abbrev pub order : Section → ℕ
 order section.Before = 0
 order section.Groups = 1
 order section.Stages = 2
@@ -98,7 +98,7 @@ order section.Interstage = 4
 order section.End = 5
 
 -- a draft says what these rows of the groups, of the stages and of the starting stage say
-record Says (d : PlanDraftOf) (gr st sr : List (List Text)) : Type 0 where
+pub record Says (d : PlanDraftOf) (gr st sr : List (List Text)) : Type 0 where
   pub count : length d.groups ≡ length gr
   pub groups : d.groups ≡ by_number (groups_from 1 gr)
   pub stages : d.stages ≡ stages_from d.groups st
@@ -236,7 +236,7 @@ end_says_by : (b : Bool) (d : PlanDraftOf) (gr st sr : List (List Text)) → Say
 end_says_by true d gr st sr says = says_same d _ gr st sr says refl refl refl (λ le. le) (λ le. le)
 end_says_by false d gr st sr says = says
 
-end_says : (d : PlanDraftOf) (gr st sr : List (List Text)) → Says d gr st sr → Says (after_section_end d) gr st sr
+pub end_says : (d : PlanDraftOf) (gr st sr : List (List Text)) → Says d gr st sr → Says (after_section_end d) gr st sr
 unfolding after_section_end
 end_says d gr st sr says = end_says_by (is_interstage d.section) d gr st sr says
 
@@ -254,7 +254,7 @@ begin_section_by : (b : Bool) (d : PlanDraftOf) (s : Section) → (if b then rec
 begin_section_by true d s = refl
 begin_section_by false d s = refl
 
-at_none : (n : ℕ) (o : Option PuaWhy) → at_line n o ≡ None → o ≡ None
+pub at_none : (n : ℕ) (o : Option PuaWhy) → at_line n o ≡ None → o ≡ None
 at_none n None e = refl
 at_none n (Some why) e = cc
 
@@ -337,7 +337,7 @@ kind_says Row d line gr st sr says none = record {
 counted : (d : PlanDraftOf) (gr st sr : List (List Text)) → Says d gr st sr → Says (at_next_line d) gr st sr
 counted d gr st sr says = says_same d (at_next_line d) gr st sr says refl refl refl (λ le. le) (λ le. le)
 
-over_is_end : (s : Section) → is_over s ≡ true → s ≡ section.End
+pub over_is_end : (s : Section) → is_over s ≡ true → s ≡ section.End
 over_is_end section.Before e = cc
 over_is_end section.Groups e = cc
 over_is_end section.Stages e = cc
@@ -369,7 +369,7 @@ unfolding line_why after_line
 line_says d line gr st sr says none = line_says_by (is_over d.section) d line gr st sr refl says none
 
 -- all lines so far
-record SoFar (before : List Text) (d : PlanDraftOf) : Type 0 where
+pub record SoFar (before : List Text) (d : PlanDraftOf) : Type 0 where
   pub arrived : d.section ≡ section_from section.Before before
   pub says : Says d (rows_in section.Groups before) (rows_in section.Stages before) (rows_in section.Start before)
 
@@ -390,7 +390,7 @@ so_far_none = record {
   says = record { count = refl; groups = refl; stages = refl; start = refl; no_stages = λ le. refl; no_start = λ le. refl };
 }
 
-so_far_to : (all : List Text) (n : ℕ) → n ≤ length all → refused_to judge all [] n ≡ None → SoFar (take n all) (draft_of (take n all))
+pub so_far_to : (all : List Text) (n : ℕ) → n ≤ length all → refused_to judge all [] n ≡ None → SoFar (take n all) (draft_of (take n all))
 unfolding refused_to
 so_far_to all zero le none = so_far_none
 so_far_to all (suc n) le none =
@@ -398,6 +398,11 @@ so_far_to all (suc n) le none =
     let parts = none_next (refused_to judge all [] n) (judge (take n all) (get_or all n [])) none in
     let next = so_far_more (take n all) (draft_of (take n all)) (get_or all n []) (so_far_to all n (omega (arith, le)) parts.0) parts.1 in
     rw (← add-one, draft_of_more all n lt, take_more all n [] lt) next
+
+pub file_parts : (e : PlanDraftOf) (lines : List Text) → Says e (rows_in section.Groups lines) (rows_in section.Stages lines) (rows_in section.Start lines) →
+    (e.groups ≡ file_groups lines) × (e.stages ≡ file_stages lines)
+unfolding file_groups file_stages
+file_parts e lines says = (says.groups, says.stages ∙ ap (λ gs. stages_from gs (rows_in section.Stages lines)) says.groups)
 
 start_final : (o : Option StageNo) (stages there : List Stage) (sr : List (List Text)) → is_some o ≡ true → stages ≡ there → StartSays o stages sr →
     (word : Text) × (sr ≡ (word ∷ []) ∷ []) × (stage_of there word ≡ Some (record { 0 = start_number o }))

@@ -6,5 +6,6 @@ pub mod Interstages
 pub mod PlanDraft
 pub mod Accepted
 pub mod SectionRows
+pub mod InterstageRows
 pub mod Views
 pub mod Legal

@@ -1,4 +1,4 @@
-use Rattle.std.proofs.Common.{◌≡◌, ◌<◌, ◌∙◌, ℕ, None, List, length, get_or, sym, ap, arith, pos}
+use Rattle.std.proofs.Common.{◌≡◌, ◌<◌, ◌∙◌, None, List, length, get_or, sym, ap, arith, pos}
 use Rattle.std.proofs.lemmas.Int.{ints, to_z-of_z}
 use mir.Val.{SFits}
 use mir.Syntax.{w32}

@@ -1,4 +1,4 @@
-use Rattle.std.proofs.Common.{◌≡◌, ◌<◌, ◌-◌, ◌∙◌, length, get_or, map, [], ap, sym, arith, List, false, ℕ}
+use Rattle.std.proofs.Common.{◌≡◌, ◌<◌, ◌-◌, length, get_or, map, [], ap, sym, arith, List, false}
 use Rattle.std.proofs.lemmas.List.{length-map}
 use Rattle.pua_model.proofs.Lists.{greens_at}
 use Rattle.pua_model.specs.declared.parts.Stage.{Stage}
