@@ -3,7 +3,7 @@
 //! Its exit status is the number of the `Status` that the top call `junction` answers.
 #![tactic(auto)]
 
-use junction_run::{Status, junction};
+use junction_run::{Status, exit_status, junction};
 use sig_io::{DiskFiles, ErrSink, OutSink, put_all};
 use std::alloc::{AllocError, Global};
 use std::env::Args;
@@ -35,5 +35,5 @@ fn main(rt: HostRuntime) -> ExitCode {
             Status::Memory
         }
     };
-    ExitCode::from(status as u8)
+    ExitCode::from(exit_status(status))
 }

@@ -1,9 +1,9 @@
-pub mod Lines
-pub mod Fronts
-pub mod PlainLines
+pub mod Agree
+pub mod Ends
+pub mod Guards
 pub mod Loads
 pub mod Logs
-pub mod Stops
+pub mod Once
 pub mod Pieces
-pub mod Tables
-pub mod Safes
+pub mod Plays
+pub mod Texts

@@ -1,93 +1,105 @@
 -- What the program answers to its words and its files.
-use Rattle.std.specs.Prelude.{◌≡◌, ◌≤◌, ℕ, List, [], ◌∷◌, ◌++◌, codes, Option, None, Some, Result, Ok, Err, ⊤, IfOk}
+use Rattle.std.specs.Prelude.{◌≡◌, ◌≤◌, ◌⊎◌, ℕ, zero, suc, List, [], ◌∷◌, ◌++◌, length, take, codes, Option, None, Some, Result, Ok, Err}
 use Rattle.std.specs.Fmt.{decimal}
 use Rattle.std.specs.Io.KnownBytes.{append_known}
-use Prim.Native.Nat.{suc, zero}
 use Rattle.sig_io.specs.Outside.{Contents}
 use Rattle.sig_io.specs.Draft.{IsCut}
-use Rattle.sig_guard.specs.Safety.{Safe}
-use Rattle.controller.specs.Second.{listed}
+use Rattle.det_stream.specs.declared.refusal.StreamWhy.{StreamWhy}
+use Rattle.det_stream.specs.Stream.{Stream, stream_of}
 use Rattle.junction_run.specs.declared.status.Status.{Status}
 use Rattle.junction_run.specs.declared.status.Status.TheVariants as status
-use Rattle.junction_run.specs.Form.{Form, form_of}
-use Rattle.junction_run.specs.Loading.{Loaded, Unloaded, TooLong, Refused, load}
-use Rattle.junction_run.specs.Records.{log_front, pictures_of}
+use Rattle.junction_run.specs.Form.{Form, Run}
+use Rattle.junction_run.specs.Loading.{Unloaded, TooLong, Refused, Loaded, Loads, Playing}
+use Rattle.junction_run.specs.Reasons.{stream_reason}
+use Rattle.junction_run.specs.Records.{log_of}
 
--- What is answered with ample memory and where nothing fails: the status, the text that out has gained after so many
--- whole writes, the number of writes, how many of them come before the last read, and the note.
-pub record Answer : Type 0 where
+-- What is answered where memory is found and nothing fails: the status; which text out may have gained after the first piece
+-- and so many more; the number of pieces; how many of them may come before the last read; and the note.
+pub record Answer : Type 1 where
   pub status : Status
-  pub front : ℕ → List ℕ
-  pub writes : ℕ
+  pub Gained : ℕ → List ℕ → Type 0
+  pub pieces : ℕ
   pub before_reads : ℕ
   pub note : List ℕ
 
-abbrev pub nothing : ℕ → List ℕ
-nothing n = []
+abbrev pub nothing : ℕ → List ℕ → Type 0
+nothing k text = text ≡ []
 
 abbrev pub note_of : List ℕ → List ℕ
 note_of text = codes "junction: " ++ text ++ 10 ∷ []
 
+-- FILE:LINE: REASON
+abbrev pub line_note : List ℕ → ℕ → List ℕ → List ℕ
+line_note word line reason = note_of (word ++ 58 ∷ decimal line ++ codes ": " ++ reason)
+
 -- a status with its note, and nothing for out
 abbrev pub stopped : Status → List ℕ → Answer
-stopped status note = record { status = status; front = nothing; writes = 0; before_reads = 0; note = note }
+stopped status note = record { status = status; Gained = nothing; pieces = 0; before_reads = 0; note = note }
 
-abbrev pub words_answer : Answer
-words_answer = stopped status.Words (note_of (codes "Words"))
-
--- FILE: TooLong, or FILE:LINE: REASON
 abbrev pub unloaded_answer : Unloaded → Answer
 unloaded_answer (TooLong word) = stopped status.TooLong (note_of (word ++ codes ": TooLong"))
-unloaded_answer (Refused word line reason) = stopped status.RefusedFile (note_of (word ++ 58 ∷ decimal line ++ codes ": " ++ reason))
+unloaded_answer (Refused word line reason) = stopped status.RefusedFile (line_note word line reason)
 
--- the log of so many seconds, in each of which the commands of the program are given: a write for the header, and one for
--- each second
-abbrev pub log_answer : ℕ → Loaded → Answer
-log_answer seconds loaded = record {
-  status = status.Done;
-  front = log_front (listed loaded.commands) loaded.site;
-  writes = suc seconds;
-  before_reads = 0;
-  note = [];
+-- the detector file ends, or has a first line that is no frame
+abbrev pub stream_status : Option (ℕ × StreamWhy) → Status
+stream_status None = status.Done
+stream_status (Some at) = status.RefusedLine
+
+abbrev pub stream_note : List ℕ → Option (ℕ × StreamWhy) → List ℕ
+stream_note word None = []
+stream_note word (Some at) = line_note word at.0 (stream_reason at.1)
+
+-- the log of the frames before the first refused line: the header is the first piece, and each record one more; a line is
+-- read before its record is written
+abbrev pub log_answer : (detectors : List ℕ) → Playing → Stream → Answer
+log_answer detectors playing stream = record {
+  status = stream_status stream.refusal;
+  Gained = λ k text. text ≡ log_of playing (take k stream.frames);
+  pieces = suc (length stream.frames);
+  before_reads = suc (length stream.frames);
+  note = stream_note detectors stream.refusal;
 }
 
-abbrev pub run_answer : Form → Result Loaded Unloaded → Answer
-run_answer form (Err unloaded) = unloaded_answer unloaded
-run_answer form (Ok loaded) = log_answer form.seconds loaded
+-- the answer to a form over these files, which give this
+abbrev pub answer_to : (form : Form) → Contents → Result (Loaded form) Unloaded → Answer
+answer_to form file (Err unloaded) = unloaded_answer unloaded
+answer_to (Run program site detectors) file (Ok playing) = log_answer detectors playing (stream_of (file detectors))
 
-abbrev pub answer_of : Option Form → Contents → Answer
-answer_of None file = words_answer
-answer_of (Some form) file = run_answer form (load form file)
+-- the text after so many pieces, none at first
+abbrev pub GainedBy : (ℕ → List ℕ → Type 0) → ℕ → List ℕ → Type 0
+GainedBy Gained zero text = text ≡ []
+GainedBy Gained (suc k) text = Gained k text
 
--- the answer to these words over these files
-abbrev pub answer : List (List ℕ) → Contents → Answer
-answer words file = answer_of (form_of words) file
+-- out gained what so many pieces give
+abbrev pub Gains : Answer → ℕ → Option (List ℕ) → Option (List ℕ) → Type 0
+Gains a k old new = (text : List ℕ) × GainedBy a.Gained k text × (new ≡ append_known old text)
 
--- However many seconds are logged, their pictures are safe by the rules of the tables.
-abbrev pub IsSafe : Option Form → Contents → Type 0
-IsSafe None file = ⊤
-IsSafe (Some form) file = IfOk (load form file) (λ loaded. (n : ℕ) → Safe loaded.site.rules (pictures_of (listed loaded.commands) loaded.site n))
+-- the answer's own: the files give it, its status is this one, and out gained the whole text
+abbrev pub IsAnswered : Form → Contents → Status → Option (List ℕ) → Option (List ℕ) → Type 0
+IsAnswered form file status old new =
+    (r : Result (Loaded form) Unloaded) × Loads form file r × ((answer_to form file r).status ≡ status)
+    × Gains (answer_to form file r) (answer_to form file r).pieces old new
 
--- the text after so many writes, none at first
-abbrev pub after : Answer → ℕ → List ℕ
-after a zero = []
-after a (suc k) = a.front (suc k)
+-- broken off before a read: out gained nothing, or the files give an answer and out gained some of its pieces
+abbrev pub IsBroken : Form → Contents → Option (List ℕ) → Option (List ℕ) → Type 0
+IsBroken form file old new =
+    (new ≡ old)
+    ⊎ ((r : Result (Loaded form) Unloaded) × Loads form file r × (k : ℕ) × (k ≤ (answer_to form file r).before_reads)
+    × Gains (answer_to form file r) k old new)
 
--- out has gained the whole text
-abbrev pub IsAnswered : Answer → Status → Option (List ℕ) → Option (List ℕ) → Type 0
-IsAnswered a status old new = (a.status ≡ status) × (new ≡ append_known old (after a a.writes))
+-- cut off: out gained a front of the whole text, and not all of it
+abbrev pub IsCutOff : Form → Contents → Option (List ℕ) → Option (List ℕ) → Type 0
+IsCutOff form file old new =
+    (r : Result (Loaded form) Unloaded) × Loads form file r
+    × (text : List ℕ) × GainedBy (answer_to form file r).Gained (answer_to form file r).pieces text × (n : ℕ) × IsCut old new n text
 
--- out has gained what some first writes give, at most so many
-abbrev pub IsBroken : Answer → ℕ → Option (List ℕ) → Option (List ℕ) → Type 0
-IsBroken a most old new = (k : ℕ) × (k ≤ most) × (new ≡ append_known old (after a k))
-
--- The status, with what out has gained: the answer's own, or want of memory, or a fault on the way.
-abbrev pub Meets : Answer → Status → Option (List ℕ) → Option (List ℕ) → Type 0
-Meets a status.Done old new = IsAnswered a status.Done old new
-Meets a status.Memory old new = new ≡ old
-Meets a status.Words old new = IsAnswered a status.Words old new
-Meets a status.ReadFault old new = IsBroken a a.before_reads old new
-Meets a status.WriteFault old new = (n : ℕ) × IsCut old new n (after a a.writes)
-Meets a status.RefusedFile old new = IsAnswered a status.RefusedFile old new
-Meets a status.RefusedLine old new = IsAnswered a status.RefusedLine old new
-Meets a status.TooLong old new = IsAnswered a status.TooLong old new
+-- The status of a form, with what out has gained: the answer's own, or want of memory, or a fault on the way.
+abbrev pub Meets : Form → Contents → Status → Option (List ℕ) → Option (List ℕ) → Type 0
+Meets form file status.Done old new = IsAnswered form file status.Done old new
+Meets form file status.Memory old new = new ≡ old
+Meets form file status.Words old new = ⊥
+Meets form file status.ReadFault old new = IsBroken form file old new
+Meets form file status.WriteFault old new = IsCutOff form file old new
+Meets form file status.RefusedFile old new = IsAnswered form file status.RefusedFile old new
+Meets form file status.RefusedLine old new = IsAnswered form file status.RefusedLine old new
+Meets form file status.TooLong old new = IsAnswered form file status.TooLong old new

@@ -1,26 +1,37 @@
--- The words of a run.
-use Rattle.std.specs.Prelude.{ℕ, nat_eq, List, [], ◌∷◌, codes, Option, None, if◌then◌else◌}
-use Rattle.std.specs.Option.{option_map}
+-- The words of a command.
+use Rattle.std.specs.Prelude.{ℕ, nat_eq, List, [], ◌∷◌, codes, Bool, Option, None, Some, if◌then◌else◌}
 use lib.Pointwise.{pointwise}
-use Rattle.sig_types.specs.Text.{number_of, within}
 
--- what the words ask for
-pub record Form : Type 0 where
-  pub program : List ℕ
+-- the names of the files of a site
+pub record SiteWords : Type 0 where
   pub plan : List ℕ
   pub times : List ℕ
   pub intergreens : List ℕ
-  pub seconds : ℕ
 
--- run PROGRAM PUA TIMES INTERGREENS SECONDS, with 0 to 604,800 seconds
-abbrev pub form_of_run : List ℕ → List ℕ → List ℕ → List ℕ → List ℕ → List ℕ → Option Form
-form_of_run command program plan times intergreens seconds =
-    if pointwise nat_eq command (codes "run")
-    then option_map (λ n. record { program = program; plan = plan; times = times; intergreens = intergreens; seconds = n })
-    (within 0 604800 (number_of seconds))
+-- what the words ask for
+pub data Form : Type 0 where
+  Run : (program : List ℕ) (site : SiteWords) (detectors : List ℕ) → Form
+
+abbrev pub is_word : List ℕ → List ℕ → Bool
+is_word word name = pointwise nat_eq word name
+
+-- COMMAND PROGRAM PUA TIMES INTERGREENS DETECTORS
+abbrev pub form_of_play : (command program plan times intergreens detectors : List ℕ) → Option Form
+form_of_play command program plan times intergreens detectors =
+    if is_word command (codes "run")
+    then Some (Run program (record { plan = plan; times = times; intergreens = intergreens }) detectors)
     else None
 
+-- run PROGRAM PUA TIMES INTERGREENS DETECTORS
 abbrev pub form_of : List (List ℕ) → Option Form
-form_of (command ∷ program ∷ plan ∷ times ∷ intergreens ∷ seconds ∷ []) =
-    form_of_run command program plan times intergreens seconds
+form_of (command ∷ program ∷ plan ∷ times ∷ intergreens ∷ detectors ∷ []) =
+    form_of_play command program plan times intergreens detectors
 form_of _ = None
+
+-- the files that a site is read from, in their order
+abbrev pub site_files : SiteWords → List (List ℕ)
+site_files site = site.plan ∷ site.times ∷ site.intergreens ∷ []
+
+-- the files that a form names
+abbrev pub files_of : Form → List (List ℕ)
+files_of (Run program site detectors) = site.plan ∷ site.times ∷ site.intergreens ∷ program ∷ detectors ∷ []

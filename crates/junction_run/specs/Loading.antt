@@ -1,76 +1,137 @@
--- What the files of a run give.
-use Rattle.std.specs.Prelude.{ℕ, Bool, nat_lt, List, length, codes, Option, None, Some, Result, Ok, Err, if◌then◌else◌}
+-- What the files of a command give.
+use Rattle.std.specs.Prelude.{◌≡◌, ◌<◌, ◌≤◌, ℕ, nat_lt, List, length, Option, None, Some, Result, Ok, Err, if◌then◌else◌}
 use Rattle.sig_io.specs.Outside.{Contents}
-use Rattle.sig_types.specs.declared.numbers.Command.{Command}
+use Rattle.sig_types.specs.Pass.{Logic, Store}
 use Rattle.pua_model.specs.Plan.{PlanOf}
 use Rattle.pua_reader.specs.declared.refusal.PuaWhy.{PuaWhy}
 use Rattle.pua_reader.specs.Accepted.{refusal_of, plan_of_text}
 use Rattle.sig_tables.specs.declared.refusal.TableWhy.{TableWhy}
+use Rattle.sig_tables.specs.declared.times.TimesRow.{TimesRow}
+use Rattle.sig_tables.specs.SiteRules.{rules_by}
 use Rattle.sig_tables.specs.TimesTable.{times_refusal, times_of}
 use Rattle.sig_tables.specs.IntergreenTable.{intergreens_refusal, intergreen_of}
-use Rattle.sig_tables.specs.SiteRules.{rules_by}
 use Rattle.controller.specs.Past.{Site}
-use Rattle.junction_run.specs.Form.{Form}
-use Rattle.junction_run.specs.PlainText.{plain_of}
+use Rattle.junction_run.specs.Form.{SiteWords, Form, Run}
+use Rattle.junction_run.specs.Programs.{ProgramIs, logic_of, store_of}
 use Rattle.junction_run.specs.Reasons.{plan_reason, table_reason}
-
--- the site, and the commands that are given in each second
-pub record Loaded : Type 0 where
-  pub site : Site
-  pub commands : List Command
+use Rattle.vap_ast.specs.Syntax.{Program}
 
 -- the first file that is not as it must be, by its word: too long, or refused at a line for a reason
 pub data Unloaded : Type 0 where
-  TooLong : List ℕ → Unloaded
-  Refused : List ℕ → ℕ → List ℕ → Unloaded
+  TooLong : (word : List ℕ) → Unloaded
+  Refused : (word : List ℕ) (line : ℕ) (reason : List ℕ) → Unloaded
 
 -- why a text is refused: the line, and the reason as a note tells it
 abbrev pub Refusal : Type 0
-Refusal = Option (ℕ × List ℕ)
+Refusal = ℕ × List ℕ
 
-abbrev pub plan_refusal : Option (ℕ × PuaWhy) → Refusal
+-- the bytes that a text may have
+abbrev pub text_limit : ℕ
+text_limit = 1048576
+
+-- ---- the site
+
+abbrev pub plan_refusal : Option (ℕ × PuaWhy) → Option Refusal
 plan_refusal None = None
 plan_refusal (Some at) = Some (at.0, plan_reason at.1)
 
-abbrev pub table_refusal : PlanOf → Option (ℕ × TableWhy) → Refusal
+abbrev pub table_refusal : PlanOf → Option (ℕ × TableWhy) → Option Refusal
 table_refusal plan None = None
 table_refusal plan (Some at) = Some (at.0, table_reason plan.names at.1)
 
--- a file may have 1,048,576 bytes
-abbrev pub is_long : List ℕ → Bool
-is_long bytes = nat_lt 1048576 (length bytes)
+abbrev pub unless_refused : {A : Type 0} → List ℕ → Option Refusal → A → Result A Unloaded
+unless_refused word None value = Ok value
+unless_refused word (Some at) value = Err (Refused word at.0 at.1)
 
--- a file is measured, then judged, and then the rest is loaded
-abbrev pub unless_refused : List ℕ → Refusal → Result Loaded Unloaded → Result Loaded Unloaded
-unless_refused word None rest = rest
-unless_refused word (Some at) rest = Err (Refused word at.0 at.1)
+-- a text is measured, then judged, and then gives its value
+abbrev pub judged : {A : Type 0} → List ℕ → List ℕ → Option Refusal → A → Result A Unloaded
+judged word bytes refusal value =
+    if nat_lt text_limit (length bytes) then Err (TooLong word) else unless_refused word refusal value
 
-abbrev pub judged : List ℕ → List ℕ → Refusal → Result Loaded Unloaded → Result Loaded Unloaded
-judged word bytes refusal rest = if is_long bytes then Err (TooLong word) else unless_refused word refusal rest
+abbrev pub plan_at : Contents → List ℕ → Result PlanOf Unloaded
+plan_at file word = judged word (file word) (plan_refusal (refusal_of (file word))) (plan_of_text (file word))
 
--- the site by the texts of its tables
-abbrev pub site_by : PlanOf → List ℕ → List ℕ → Site
-site_by plan times intergreens = record { plan = plan; rules = rules_by (times_of plan times) (intergreen_of plan intergreens) }
+abbrev pub times_at : Contents → List ℕ → PlanOf → Result (List TimesRow) Unloaded
+times_at file word plan = judged word (file word) (table_refusal plan (times_refusal plan (file word))) (times_of plan (file word))
 
-abbrev pub given_by : List ℕ → Site → Result (List Command) ℕ → Result Loaded Unloaded
-given_by word site (Err line) = Err (Refused word line (codes "Plain"))
-given_by word site (Ok commands) = Ok (record { site = site; commands = commands })
+-- the seconds between two groups that conflict
+abbrev pub intergreens_at : Contents → List ℕ → PlanOf → Result (ℕ → ℕ → Option ℕ) Unloaded
+intergreens_at file word plan =
+    judged word (file word) (table_refusal plan (intergreens_refusal plan (file word))) (intergreen_of plan (file word))
 
-abbrev pub load_program : Form → Contents → PlanOf → Result Loaded Unloaded
-load_program form file plan =
-    if is_long (file form.program) then Err (TooLong form.program)
-    else given_by form.program (site_by plan (file form.times) (file form.intergreens)) (plain_of plan (file form.program))
+infixl 10 ◌>>=◌
+abbrev pub ◌>>=◌ : {A B : Type 0} → Result A Unloaded → (A → Result B Unloaded) → Result B Unloaded
+(Ok x) >>= f = f x
+(Err e) >>= f = Err e
 
-abbrev pub load_intergreens : Form → Contents → PlanOf → Result Loaded Unloaded
-load_intergreens form file plan =
-    judged form.intergreens (file form.intergreens) (table_refusal plan (intergreens_refusal plan (file form.intergreens)))
-    (load_program form file plan)
+-- the plan, then the times, then the intergreens
+abbrev pub site_of : SiteWords → Contents → Result Site Unloaded
+site_of words file = do
+  plan ← plan_at file words.plan
+  times ← times_at file words.times plan
+  between ← intergreens_at file words.intergreens plan
+  Ok (record { plan = plan; rules = rules_by times between })
 
-abbrev pub load_times : Form → Contents → PlanOf → Result Loaded Unloaded
-load_times form file plan =
-    judged form.times (file form.times) (table_refusal plan (times_refusal plan (file form.times))) (load_intergreens form file plan)
+-- ---- the program
 
--- the plan, the times, the intergreens and the program, in this order
-abbrev pub load : Form → Contents → Result Loaded Unloaded
-load form file =
-    judged form.plan (file form.plan) (plan_refusal (refusal_of (file form.plan))) (load_times form file (plan_of_text (file form.plan)))
+-- a file is measured, and then judged: `Is` tells the value of its bytes, or the line and the reason of a refusal
+pub data IsJudged {V : Type 0} (Is : List ℕ → Result V Refusal → Type 0) (limit : ℕ) (word bytes : List ℕ) : Result V Unloaded → Type 0 where
+  long : limit < length bytes → IsJudged Is limit word bytes (Err (TooLong word))
+  refused : (line : ℕ) (reason : List ℕ) → length bytes ≤ limit → Is bytes (Err (line, reason)) → IsJudged Is limit word bytes (Err (Refused word line reason))
+  accepted : (value : V) → length bytes ≤ limit → Is bytes (Ok value) → IsJudged Is limit word bytes (Ok value)
+
+-- ---- what a command works on
+
+-- what is played: a logic that decides the passes, from its first store on, at a site
+pub record Playing : Type 0 where
+  pub logic : Logic
+  pub store : Store
+  pub site : Site
+
+abbrev pub program_at : Site → Program → Playing
+program_at site program = record { logic = logic_of program; store = store_of program; site = site }
+
+abbrev pub map_ok : {A B : Type 0} → (A → B) → Result A Unloaded → Result B Unloaded
+map_ok f (Ok x) = Ok (f x)
+map_ok f (Err u) = Err u
+
+-- the site first, and then a file that is judged
+abbrev pub AfterSite : {V : Type 0} → (Site → V → Playing) → Result Site Unloaded → (Result V Unloaded → Type 0) → Result Playing Unloaded → Type 0
+AfterSite at (Err u) Judged r = r ≡ Err u
+AfterSite {V} at (Ok site) Judged r = (v : Result V Unloaded) × Judged v × (r ≡ map_ok (at site) v)
+
+-- a program at a site
+abbrev pub LoadsProgram : (program : List ℕ) → SiteWords → Contents → Result Playing Unloaded → Type 0
+LoadsProgram program words file r = AfterSite program_at (site_of words file) (IsJudged ProgramIs text_limit program (file program)) r
+
+-- what a form works on
+abbrev pub Loaded : Form → Type 0
+Loaded (Run program site detectors) = Playing
+
+-- what the files of a form give, each of which is read, measured and judged before the next one: what the form works on, or
+-- the first file that is not as it must be
+abbrev pub Loads : (form : Form) → Contents → Result (Loaded form) Unloaded → Type 0
+Loads (Run program site detectors) file r = LoadsProgram program site file r
+
+-- ---- which file is read
+
+-- a file of a site is read once those before it are accepted
+pub data ReachedInSite (words : SiteWords) (file : Contents) : List ℕ → Type 0 where
+  at_plan : ReachedInSite words file words.plan
+  at_times : (plan : PlanOf) → plan_at file words.plan ≡ Ok plan → ReachedInSite words file words.times
+  at_intergreens : (plan : PlanOf) (times : List TimesRow) → plan_at file words.plan ≡ Ok plan → times_at file words.times plan ≡ Ok times → ReachedInSite words file words.intergreens
+
+-- a file after those of a site
+pub data ReachedAfterSite (word : List ℕ) (words : SiteWords) (file : Contents) : List ℕ → Type 0 where
+  at_site : (w : List ℕ) → ReachedInSite words file w → ReachedAfterSite word words file w
+  at_last : (site : Site) → site_of words file ≡ Ok site → ReachedAfterSite word words file word
+
+-- the detector file is read once all others are accepted
+pub data ReachedInPlay (word : List ℕ) (words : SiteWords) (detectors : List ℕ) (file : Contents) (IsLoaded : Playing → Type 0) : List ℕ → Type 0 where
+  at_load : (w : List ℕ) → ReachedAfterSite word words file w → ReachedInPlay word words detectors file IsLoaded w
+  at_detectors : (playing : Playing) → IsLoaded playing → ReachedInPlay word words detectors file IsLoaded detectors
+
+-- a form comes to read this file
+abbrev pub Reached : Form → Contents → List ℕ → Type 0
+Reached (Run program site detectors) file word =
+    ReachedInPlay program site detectors file (λ playing. LoadsProgram program site file (Ok playing)) word

@@ -6,9 +6,19 @@ use Rattle.pua_reader.specs.declared.refusal.PuaWhy.{PuaWhy}
 use Rattle.pua_reader.specs.declared.refusal.PuaWhy.TheVariants as pua
 use Rattle.sig_tables.specs.declared.refusal.TableWhy.{TableWhy}
 use Rattle.sig_tables.specs.declared.refusal.TableWhy.TheVariants as table
-use Rattle.junction_run.specs.declared.notes.Told.{Told}
+use Rattle.vap_lex.specs.declared.piece.LexWhy.{LexWhy}
+use Rattle.vap_lex.specs.declared.piece.LexWhy.TheVariants as lex
+use Rattle.vap_parse.specs.declared.program.ParseWhy.{ParseWhy}
+use Rattle.vap_parse.specs.declared.program.ParseWhy.TheVariants as parse
+use Rattle.vap_check.specs.declared.refusal.CheckWhy.{CheckWhy}
+use Rattle.vap_check.specs.declared.refusal.CheckWhy.TheVariants as check
+use Rattle.vap_check.specs.declared.refusal.Which.{Which}
+use Rattle.vap_check.specs.declared.refusal.Which.TheVariants as which
+use Rattle.det_stream.specs.declared.refusal.StreamWhy.{StreamWhy}
+use Rattle.det_stream.specs.declared.refusal.StreamWhy.TheVariants as stream
+use Rattle.junction_run.specs.declared.reasons.Told.{Told}
 use Rattle.junction_run.specs.declared.stop.Reason.{Reason}
-use Rattle.junction_run.specs.declared.stop.Reason.TheVariants.{Plain, Pua, Table}
+use Rattle.junction_run.specs.declared.stop.Reason.TheVariants.{Pua, Table, Lex, Parse, Check}
 
 -- the reason of a refused plan; an inconsistent interstage with its number and the group's name
 abbrev pub plan_reason : PuaWhy → List ℕ
@@ -37,11 +47,57 @@ table_reason names (table.Missing group) = codes "Missing " ++ name_of names gro
 table_reason names (table.OneWay from to) = codes "OneWay " ++ name_of names from ++ codes " " ++ name_of names to
 table_reason names table.SelfConflict = codes "SelfConflict"
 
+abbrev pub lex_reason : LexWhy → List ℕ
+lex_reason lex.Byte = codes "Byte"
+lex_reason lex.OpenComment = codes "OpenComment"
+lex_reason lex.Decimal = codes "Decimal"
+lex_reason lex.NumberRange = codes "NumberRange"
+
+abbrev pub parse_reason : ParseWhy → List ℕ
+parse_reason (parse.Unexpected place) = codes "Unexpected"
+parse_reason parse.Frequency = codes "Frequency"
+parse_reason parse.TooDeep = codes "TooDeep"
+
+-- what a program has too many of
+abbrev pub which_name : Which → List ℕ
+which_name which.Variables = codes "Variables"
+which_name which.Timers = codes "Timers"
+which_name which.Arrays = codes "Arrays"
+which_name which.Cells = codes "Cells"
+which_name which.Subroutines = codes "Subroutines"
+which_name which.Labels = codes "Labels"
+
+abbrev pub check_reason : CheckWhy → List ℕ
+check_reason check.ConstTwice = codes "ConstTwice"
+check_reason check.NameKind = codes "NameKind"
+check_reason check.LabelTwice = codes "LabelTwice"
+check_reason check.NoLabel = codes "NoLabel"
+check_reason check.SubTwice = codes "SubTwice"
+check_reason check.NoSub = codes "NoSub"
+check_reason check.ArraySize = codes "ArraySize"
+check_reason check.AssignConst = codes "AssignConst"
+check_reason check.Arity = codes "Arity"
+check_reason (check.Limit too_many) = codes "Limit " ++ which_name too_many
+check_reason check.StatementTooLong = codes "StatementTooLong"
+check_reason check.ProgramTooLong = codes "ProgramTooLong"
+
+-- the reason of a refused detector line, with the detector that it speaks of
+abbrev pub stream_reason : StreamWhy → List ℕ
+stream_reason stream.Entry = codes "Entry"
+stream_reason stream.Order = codes "Order"
+stream_reason stream.Range = codes "Range"
+stream_reason stream.Unknown = codes "Unknown"
+stream_reason (stream.RearsAhead detector) = codes "RearsAhead " ++ decimal detector.0
+stream_reason stream.LineTooLong = codes "LineTooLong"
+stream_reason stream.TooManySeconds = codes "TooManySeconds"
+
 -- the text of a reason
 abbrev pub reason_text : Reason → List ℕ
-reason_text Plain = codes "Plain"
 reason_text (Pua why) = plan_reason why
 reason_text (Table why plan) = table_reason plan.names why
+reason_text (Lex why) = lex_reason why
+reason_text (Parse why) = parse_reason why
+reason_text (Check why) = check_reason why
 
 -- the text of the pieces of a reason
 abbrev pub told_text : Told → List ℕ

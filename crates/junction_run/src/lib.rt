@@ -1,19 +1,24 @@
 //! The top call of the program: what `junction` answers to its words and its files.
 //!
-//! `specs/Answer` says what is answered with ample memory and where nothing fails, what a call may answer in its place, and
-//! that the pictures of a log are safe. `specs/Loading` says what the files give, `specs/PlainText` what the text of a
-//! program gives, `specs/Records` which seconds a log has, and `specs/Notes` and `specs/Reasons` have the notes.
+//! `specs/Answers` has the clause of the top call in one record. `specs/Form` says what the words ask for, `specs/Loading` what
+//! the files give, `specs/Answer` what is answered with ample memory and where nothing fails, and what a call may answer in its
+//! place; `specs/Programs` when a text is a program, `specs/Records` which log is written, `specs/Guarded` which rules it keeps,
+//! and `specs/Notes` and `specs/Reasons` have the notes.
 #![tactic(auto)]
 
+mod file;
 mod form;
+pub mod laws;
 mod load;
 mod notes;
-mod plain;
 mod play;
-mod refusal;
+mod program;
+mod reasons;
 mod run;
+mod site;
 mod status;
 mod stop;
 
 pub use run::junction;
-pub use status::Status;
+pub use load::{Site, load_site};
+pub use status::{Status, exit_status};

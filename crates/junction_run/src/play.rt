@@ -1,65 +1,104 @@
 // The seconds of a run.
-ghost use Rattle.std.specs.Prelude.{◌≡◌, ◌≤◌, OnOk, IfErr, Err};
-ghost use Rattle.std.specs.Io.KnownBytes.{append_known};
+ghost use Rattle.std.specs.Prelude.{◌≡◌, ◌≤◌, ◌<◌, ◌+◌, ◌*◌, ◌^◌, [], ℕ, List, true, Option, IfErr};
+ghost use Rattle.std.specs.Option.{ForSome};
+ghost use Rattle.sig_io.specs.Draft.{IsDraft, FailsOnly};
 ghost use Rattle.sig_io.specs.Outside.{Rose};
-ghost use Rattle.sig_types.specs.Counts.{Takes};
-ghost use Rattle.controller.specs.Past.{Past, opening, no_store};
-ghost use Rattle.controller.specs.Controls.{StandsFor, site_of, logic_of, plan_of};
-ghost use Rattle.controller.specs.Second.{record_of, longer};
-ghost use Rattle.signal_log.specs.Log.{record_text};
-ghost use Rattle.junction_run.specs.Records.{run_text};
-ghost use Rattle.junction_run.specs.Stop.{IsPlayStop, IsSecondStop};
+ghost use Rattle.sig_types.specs.Counts.{Counts};
+ghost use Rattle.sig_types.specs.Pass.{Store};
+ghost use Rattle.controller.specs.Past.{opening};
+ghost use Rattle.controller.specs.Controls.{StandsFor, site_of};
+ghost use Rattle.det_stream.specs.Answers.{Gave, Reads, is_live, name_of, second_of};
+ghost use Rattle.det_stream.specs.Stream.{stream_of};
+ghost use Rattle.junction_run.specs.Played.{playing_of};
+ghost use Rattle.junction_run.specs.Records.{log_of};
+ghost use Rattle.junction_run.specs.Stop.{IsPlayed, IsPlayStop, IsWritten, StopsAt, StopsWith};
+ghost use Rattle.junction_run.specs.declared.status.Status.TheVariants as status;
 
 use crate::stop::Stop;
 use controller::Controller;
-use sig_io::Sink;
-use sig_types::Frame;
-use signal_log::{write_header, write_second};
+use det_stream::{Lines, StreamRefusal};
+use sig_io::{Draft, Files, Sink};
+use signal_log::{put_header, put_second};
 
-/// Writes the header, and then makes so many seconds, from the first on, and writes the record of each.
-pub(crate) fn play<O: Sink>(
+// Makes a second for each line of the detector file, and puts its record, up to the end of the file, a refused line, a fault
+// of the file or a fault of the sink.
+fn put_seconds<'a, F: Files, O: Sink>(
     controller: &mut Controller,
-    seconds: u32,
+    lines: &mut Lines,
+    word: &'a str,
+    files: &mut F,
+    draft: &mut Draft,
     out: &mut O,
-) -> Result<(), Stop>
-    requires begun { StandsFor controller.old (opening (site_of controller.old) no_store) }
-    requires seconds { seconds ≤ 604800 }
-    ensures done { OnOk result (O.taken out.new ≡ append_known (O.taken out.old) (run_text (logic_of controller.old) (site_of controller.old) seconds)) }
-    ensures stopped { IfErr result (λ stop. IsPlayStop (logic_of controller.old) (site_of controller.old) seconds stop (O.taken out.old) (O.taken out.new)) }
-    ensures later { O.faults out.old ≤ O.faults out.new }
-    ensures cause { result ≡ Err Stop.WriteFault → Rose (O.faults out.old) (O.faults out.new) }
+) -> Result<(), Stop<'a>>
+    requires begun { (store : Store) × StandsFor controller.old (opening (site_of controller.old) store) }
+    requires live { is_live lines.old ≡ true }
+    requires none_given { second_of lines.old ≡ 0 }
+    requires gave { Gave lines.old [] }
+    requires unread { (bytes : List ℕ) → Reads lines.old bytes [] }
+    requires room { draft.old.gone ≤ 2 ^ 28 }
+    ensures played { (store : Store) → StandsFor controller.old (opening (site_of controller.old) store) →
+        (frames : List Counts)
+        × ((start : Option (List ℕ)) → IsDraft start (O.taken out.old) draft.old (log_of (playing_of controller.old store) []) →
+            IsDraft start (O.taken out.new) draft.new (log_of (playing_of controller.old store) frames))
+        × ForSome (F.told files.old) (λ file. IsPlayed word.now result (stream_of (file (name_of lines.old))) frames) }
+    ensures room { draft.new.gone < 2 ^ 60 }
+    ensures stops { IfErr result (λ stop. IsPlayStop word.now draft.new.failed stop) }
+    ensures contents_stay { F.told files.new ≡ F.told files.old }
+    ensures later { F.faults files.old ≤ F.faults files.new }
+    ensures read { StopsWith status.ReadFault result → Rose (F.faults files.old) (F.faults files.new) }
+    ensures cause { FailsOnly (O.faults out.old) (O.faults out.new) draft.old.failed draft.new.failed }
 {
-    if let Err(_fault) = write_header(controller.plan(), out) {
-        return Err(Stop::WriteFault);
-    }
-    let frame = Frame::empty();
-    let mut k = 0;
-    while k < seconds {
-        if let Err(stop) = play_second(controller, &frame, out) {
-            return Err(stop);
+    loop {
+        match lines.next_frame(files) {
+            Ok(true) => {}
+            Ok(false) => return Ok(()),
+            Err(StreamRefusal::Memory) => unreachable!(),
+            Err(StreamRefusal::Fault) => return Err(Stop::ReadFault(word)),
+            Err(StreamRefusal::At { line, why }) => {
+                return Err(Stop::RefusedLine { word, line, why });
+            }
         }
-        k += 1;
+        controller.second(lines.frame());
+        put_second(controller.last(), controller.plan(), draft, out);
+        if draft.failed() {
+            return Err(Stop::WriteFault);
+        }
     }
-    Ok(())
 }
 
-// Makes one second and writes its record.
-fn play_second<O: Sink>(controller: &mut Controller, frame: &Frame, out: &mut O) -> Result<(), Stop>
-    requires { (past : Past) × StandsFor controller.old past × Takes past.frames frame.now }
-    ensures stands { OnOk result ((past : Past) → StandsFor controller.old past → StandsFor controller.new (longer (logic_of controller.old) (site_of controller.old) past frame.now)) }
-    ensures text { OnOk result ((past : Past) → StandsFor controller.old past → O.taken out.new
-        ≡ append_known (O.taken out.old) (record_text (plan_of controller.old).names (record_of (logic_of controller.old) (site_of controller.old) past frame.now))) }
-    ensures stopped { IfErr result (λ stop. (past : Past) → StandsFor controller.old past → IsSecondStop stop (O.taken out.old) (O.taken out.new)
-        (record_text (plan_of controller.old).names (record_of (logic_of controller.old) (site_of controller.old) past frame.now))) }
-    ensures site { site_of controller.new ≡ site_of controller.old }
-    ensures logic { logic_of controller.new ≡ logic_of controller.old }
-    ensures plan { plan_of controller.new ≡ plan_of controller.old }
-    ensures later { O.faults out.old ≤ O.faults out.new }
-    ensures cause { result ≡ Err Stop.WriteFault → Rose (O.faults out.old) (O.faults out.new) }
+/// Writes the header, and then makes a second for each line of the detector file and writes its record. All goes through one
+/// draft, and what is held goes out before each return.
+pub(crate) fn play<'a, F: Files, O: Sink>(
+    controller: &mut Controller,
+    lines: &mut Lines,
+    word: &'a str,
+    files: &mut F,
+    out: &mut O,
+) -> Result<(), Stop<'a>>
+    requires begun { (store : Store) × StandsFor controller.old (opening (site_of controller.old) store) }
+    requires live { is_live lines.old ≡ true }
+    requires none_given { second_of lines.old ≡ 0 }
+    requires gave { Gave lines.old [] }
+    requires unread { (bytes : List ℕ) → Reads lines.old bytes [] }
+    ensures played { (store : Store) → StandsFor controller.old (opening (site_of controller.old) store) →
+        (frames : List Counts)
+        × IsWritten result (log_of (playing_of controller.old store) frames) (O.taken out.old) (O.taken out.new)
+        × ForSome (F.told files.old) (λ file. IsPlayed word.now result (stream_of (file (name_of lines.old))) frames) }
+    ensures word { IfErr result (λ stop. StopsAt word.now stop) }
+    ensures contents_stay { F.told files.new ≡ F.told files.old }
+    ensures later_files { F.faults files.old ≤ F.faults files.new }
+    ensures later_out { O.faults out.old ≤ O.faults out.new }
+    ensures read { StopsWith status.ReadFault result → Rose (F.faults files.old) (F.faults files.new) }
+    ensures write { StopsWith status.WriteFault result → Rose (O.faults out.old) (O.faults out.new) }
 {
-    controller.second(frame);
-    if let Err(_fault) = write_second(controller.last(), controller.plan(), out) {
+    let mut draft = Draft::new();
+    put_header(controller.plan(), &mut draft, out);
+    let end = put_seconds(controller, lines, word, files, &mut draft, out);
+    if draft.failed() {
         return Err(Stop::WriteFault);
     }
-    Ok(())
+    match draft.finish(out) {
+        Ok(()) => end,
+        Err(_fault) => Err(Stop::WriteFault),
+    }
 }

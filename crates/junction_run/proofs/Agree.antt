@@ -1,0 +1,116 @@
+-- A code that does what a program does makes the program's log.
+use Rattle.std.proofs.Common.{◌≡◌, ◌∙◌, ℕ, List, [], ◌∷◌, length, map, replicate, pos, false, refl, sym, ap, subst}
+use Rattle.std.proofs.lemmas.List.{length-map, length-replicate}
+use Rattle.sig_types.specs.Counts.{Counts}
+use Rattle.sig_types.specs.Pass.{Store, World, End, Done, Faulted, Stuck, Unfinished, counted, begun, store_after, without_commands}
+use Rattle.controller.specs.Agree.{KeepsFit, AgreeOn}
+use Rattle.controller.specs.Past.{Site, opening}
+use Rattle.controller.specs.Second.{run_from}
+use Rattle.controller.proofs.Runs.{runs_agree}
+use Rattle.code_verify.specs.Ends.{StoreFits, IfDone}
+use Rattle.code_verify.proofs.Bound.{runs_well}
+use Rattle.signal_log.specs.Log.{log_text}
+use Rattle.vap_ast.specs.Syntax.{Program}
+use Rattle.vap_ast.specs.Tree.{program_of}
+use Rattle.vap_check.specs.Names.{timers, variables}
+use Rattle.vap_check.specs.Numbers.{Meant, checked_of}
+use Rattle.vap_code.specs.Codes.{CodeOf}
+use Rattle.vap_code.specs.Machine.{machine}
+use Rattle.vap_code.specs.Valid.{Valid}
+use Rattle.vap_compile.specs.Compiled.{HasNumbersOf, MeansProgram}
+use Rattle.vap_ast.specs.Passes.{FitsProgram}
+use Rattle.vap_vm.specs.Passes.{first_store}
+use Rattle.junction_run.specs.Loading.{Playing, program_at}
+use Rattle.junction_run.specs.Programs.{logic_of, store_of}
+use Rattle.junction_run.specs.Records.{records_of, log_of}
+use Rattle.controller.specs.declared.controller.Controller.{Controller}
+use Rattle.controller.specs.Controls.{logic_of as controller_logic, site_of}
+use Rattle.junction_run.specs.Played.{playing_of}
+use Rattle.junction_run.specs.Sites.{Runs}
+
+-- the code of a checked program runs it
+pub runs_checked : (m : Meant) (code : CodeOf) → m ≡ checked_of m.tree → MeansProgram m code → HasNumbersOf m code → Runs code (program_of m.tree)
+runs_checked m code is means numbers =
+    let same : MeansProgram (checked_of m.tree) code = subst (λ m. MeansProgram m code) is means in
+    let has : HasNumbersOf (checked_of m.tree) code = subst (λ m. HasNumbersOf m code) is numbers in
+    record { variables_are = has.variables; timers_are = has.timers; arrays_are = has.arrays; same = same }
+
+map-map : {A B C : Type 0} (f : B → C) (g : A → B) (xs : List A) → map f (map g xs) ≡ map (λ x. f (g x)) xs
+map-map f g [] = refl
+map-map f g (x ∷ xs) = ap (λ l. f (g x) ∷ l) (map-map f g xs)
+
+-- the stores of a program
+abbrev Fits : Program → Store → Type 0
+Fits program s = FitsProgram (length (variables program)) (length (timers program)) program.arrays s
+
+module _ (code : CodeOf) (program : Program) (runs : Runs code program) where
+  -- the lengths of the cells
+  lengths : map length code.arrays ≡ map (λ a. length a.values) program.arrays
+  lengths = ap (λ l. map length l) runs.arrays_are ∙ map-map length (λ a. a.values) program.arrays
+
+  to_code : (s : Store) → Fits program s → StoreFits code s
+  to_code s fits = record {
+    variables = fits.variables ∙ sym runs.variables_are;
+    timers = fits.timers ∙ sym runs.timers_are;
+    arrays = fits.arrays ∙ sym lengths;
+    fresh = fits.no_commands;
+  }
+
+  of_code : (s : Store) → StoreFits code s → Fits program s
+  of_code s fits = record {
+    variables = fits.variables ∙ runs.variables_are;
+    timers = fits.timers ∙ runs.timers_are;
+    arrays = fits.arrays ∙ lengths;
+    no_commands = fits.fresh;
+  }
+
+  fits_begun : (s : Store) → Fits program s → Fits program (begun s)
+  fits_begun s fits = record {
+    variables = fits.variables;
+    timers = length-map s.timers counted ∙ fits.timers;
+    arrays = fits.arrays;
+    no_commands = refl;
+  }
+
+  fits_after : (s : Store) (e : End) → Fits program s → IfDone e (λ after. StoreFits code (without_commands after)) → Fits program (store_after s e)
+  fits_after s (Done after) fits done = of_code (without_commands after) done
+  fits_after s (Faulted kind line) fits done = fits
+  fits_after s Stuck fits done = fits
+  fits_after s Unfinished fits done = fits
+
+  keeps : Valid code → KeepsFit (Fits program) (machine code)
+  keeps valid = record {
+    begins = λ s fits. fits_begun s fits;
+    goes_on = λ w s fits. fits_after s (machine code w s) fits (runs_well code w s valid (to_code s fits)).fits;
+  }
+
+  first_is : first_store code ≡ store_of program
+  first_is = λ j. record {
+    variables = replicate (runs.variables_are j) (pos 0);
+    arrays = runs.arrays_are j;
+    timers = replicate (runs.timers_are j) record { count = 0; runs = false };
+    commands = [];
+  }
+
+  first_fits : Fits program (store_of program)
+  first_fits = record {
+    variables = length-replicate (length (variables program)) (pos 0);
+    timers = length-replicate (length (timers program)) record { count = 0; runs = false };
+    arrays = map-map length (λ a. a.values) program.arrays;
+    no_commands = refl;
+  }
+
+  -- the same records, and so the same log
+  pub same_log : Valid code → (site : Site) (frames : List Counts) →
+      log_of (record { logic = machine code; store = first_store code; site = site }) frames ≡ log_of (program_at site program) frames
+  unfolding log_of records_of
+  same_log valid site frames =
+      ap (λ store. log_text site.plan.names (run_from (machine code) site (opening site store) frames)) first_is
+      ∙ ap (λ rs. log_text site.plan.names rs)
+      (runs_agree (Fits program) (machine code) (logic_of program) site (opening site (store_of program)) frames (keeps valid) runs.same first_fits)
+
+-- the log of a controller with this code is the program's
+pub log_is : (code : CodeOf) (program : Program) → Runs code program → Valid code → (controller : Controller) (site : Site) (frames : List Counts) →
+    controller_logic controller ≡ machine code → site_of controller ≡ site → log_of (playing_of controller (first_store code)) frames ≡ log_of (program_at site program) frames
+log_is code program runs valid controller site frames logic is =
+    (λ j. log_of (record { logic = logic j; store = first_store code; site = is j }) frames) ∙ same_log code program runs valid site frames

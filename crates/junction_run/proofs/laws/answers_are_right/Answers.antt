@@ -1,0 +1,11 @@
+use Rattle.junction_run.proofs.Once.{CheckedOnce, loads_once, complete, refused_only_where}
+use Rattle.junction_run.proofs.laws.answers_are_right.Goals as goal
+
+pub returns-clause-once : goal.returns-clause-once
+returns-clause-once c = loads_once (record { refusal = c.one_answer.ensures.refusal; apart = c.one_answer.ensures.apart })
+
+pub returns-clause-complete : goal.returns-clause-complete
+returns-clause-complete c = complete (record { refusal = c.one_answer.ensures.refusal; apart = c.one_answer.ensures.apart })
+
+pub returns-clause-refused : goal.returns-clause-refused
+returns-clause-refused c = refused_only_where

@@ -1,0 +1,19 @@
+use Rattle.std.proofs.Common.{◌≡◌, ◌≤◌, ◌-◌, ◌+◌, ◌*◌, true}
+use Rattle.sig_io.specs.Draft.{FailsOnly}
+use Rattle.det_stream.specs.Answers.{is_live, name_of, second_of}
+use Rattle.junction_run.proofs.Plays.{Underway}
+use Rattle.junction_run.proofs.play.put_seconds.Given as goal
+
+abbrev pub invariant-loop-line : goal.invariant-loop-line
+invariant-loop-line g l =
+    Underway l.fn.controller l.controller l.lines (g.F.Files.told l.fn.files) (name_of l.fn.lines) (g.O.Sink.taken l.fn.out) (g.O.Sink.taken l.out) l.fn.draft l.draft
+    × (g.F.Files.told l.files ≡ g.F.Files.told l.fn.files)
+    × (name_of l.lines ≡ name_of l.fn.lines)
+    × (is_live l.lines ≡ true)
+    × (second_of l.lines ≤ 604800)
+    × (l.draft.gone ≤ 268435456 * (second_of l.lines + 1))
+    × (g.F.Files.faults l.fn.files ≤ g.F.Files.faults l.files)
+    × FailsOnly (g.O.Sink.faults l.fn.out) (g.O.Sink.faults l.out) l.fn.draft.failed l.draft.failed
+
+abbrev pub decreases-loop-line : goal.decreases-loop-line
+decreases-loop-line g l = 604801 - second_of l.lines

@@ -1,0 +1,11 @@
+-- The words of a command, as the program holds them.
+use Rattle.junction_run.specs.declared.form.SiteWords.{SiteWords as Words}
+use Rattle.junction_run.specs.declared.form.Form.{Form as Asked}
+use Rattle.junction_run.specs.declared.form.Form.TheVariants as asked
+use Rattle.junction_run.specs.Form.{SiteWords, Form, Run}
+
+abbrev pub site_in : Words → SiteWords
+site_in words = record { plan = words.plan.now; times = words.times.now; intergreens = words.intergreens.now }
+
+abbrev pub form_in : Asked → Form
+form_in (asked.Run program site detectors) = Run program.now (site_in site) detectors.now

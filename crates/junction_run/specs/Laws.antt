@@ -1,0 +1,25 @@
+-- Laws over the definitions alone.
+use Rattle.std.specs.Prelude.{◌≡◌, List, ℕ, Option, Result, Ok, Err, ◌⊎◌}
+use Rattle.sig_io.specs.Outside.{Contents}
+use Rattle.junction_run.specs.declared.status.Status.{Status}
+use Rattle.junction_run.specs.declared.status.Status.TheVariants.{Done, Memory, ReadFault, WriteFault, RefusedFile, TooLong}
+use Rattle.junction_run.specs.Form.{Form}
+use Rattle.junction_run.specs.Loading.{Unloaded, Loaded, Loads}
+use Rattle.junction_run.specs.Answer.{answer_to, Meets}
+
+-- files give one thing
+abbrev pub LoadsOnce : Type 0
+LoadsOnce = (form : Form) (file : Contents) (r s : Result (Loaded form) Unloaded) → Loads form file r → Loads form file s → r ≡ s
+
+-- where all files are accepted and the answer is Done, nothing else comes but want of memory and faults
+abbrev pub IsComplete : Type 0
+IsComplete =
+    (form : Form) (file : Contents) (loaded : Loaded form) (status : Status) (old new : Option (List ℕ)) →
+    Loads form file (Ok loaded) → (answer_to form file (Ok loaded)).status ≡ Done → Meets form file status old new →
+    (status ≡ Done) ⊎ ((status ≡ Memory) ⊎ ((status ≡ ReadFault) ⊎ (status ≡ WriteFault)))
+
+-- a file is refused, or too long, only where the files give that
+abbrev pub RefusedOnlyWhere : Type 0
+RefusedOnlyWhere =
+    (form : Form) (file : Contents) (old new : Option (List ℕ)) →
+    (Meets form file RefusedFile old new → (u : Unloaded) × Loads form file (Err u)) × (Meets form file TooLong old new → (u : Unloaded) × Loads form file (Err u))
