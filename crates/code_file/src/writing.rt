@@ -186,7 +186,7 @@ fn put_value<O: Sink>(draft: &mut Draft, sink: &mut O, values: &[i32], i: usize)
     ensures text { (start : Option (List ℕ)) (text : List ℕ) →
         IsDraft start (O.taken sink.old) draft.old text →
         IsDraft start (O.taken sink.new) draft.new
-            (text ++ (32 ∷ signed_decimal (get_or values.now i (pos 0)))) }
+        (text ++ (32 ∷ signed_decimal (get_or values.now i (pos 0)))) }
     ensures gone { draft.new.gone ≤ draft.old.gone + 8192 }
     ensures cause { FailsOnly (O.faults sink.old) (O.faults sink.new) draft.old.failed draft.new.failed }
 {
@@ -219,7 +219,7 @@ fn put_arrays<O: Sink>(draft: &mut Draft, sink: &mut O, arrays: &[Vec<i32>])
     ensures text { (start : Option (List ℕ)) (text : List ℕ) →
         IsDraft start (O.taken sink.old) draft.old text →
         IsDraft start (O.taken sink.new) draft.new
-            (text ++ flat_map array_line (map (λ a. a.items) arrays.now)) }
+        (text ++ flat_map array_line (map (λ a. a.items) arrays.now)) }
     ensures gone { draft.new.gone ≤ draft.old.gone + 12288 * 1024 * 32 }
     ensures cause { FailsOnly (O.faults sink.old) (O.faults sink.new) draft.old.failed draft.new.failed }
 {

@@ -100,7 +100,7 @@ fn keep_jump(brought: &mut Vec<Option<usize>>, instr: Instr, height: usize)
     ensures long { length brought.new.items ≡ length brought.old.items }
     ensures kept { (t : ℕ) → t < length brought.old.items →
         slice_index_or brought.new.items t None ≡
-            first_some (slice_index_or brought.old.items t None) (brings instr height t) }
+        first_some (slice_index_or brought.old.items t None) (brings instr height t) }
 {
     if let Some(t) = target(instr) {
         if t < brought.len() && brought[t].is_none() {

@@ -173,7 +173,7 @@ cut_whole : (playing : Playing) (stream : Stream) (frames : List Counts) (old ne
 cut_whole playing stream frames old new n is cut =
     let more = log_of-front playing frames is.0 in
     let whole : log_of playing (take (length stream.frames) stream.frames) ≡ log_of playing frames ++ more.0
-        = ap (λ fs. log_of playing fs) (taken_whole stream.frames ∙ is.1) ∙ more.1 in
+    = ap (λ fs. log_of playing fs) (taken_whole stream.frames ∙ is.1) ∙ more.1 in
     subst (λ t. IsCut old new n t) (sym whole) (cut_more old new n (log_of playing frames) more.0 cut)
 
 -- it played these frames
@@ -194,7 +194,7 @@ ended_playing program words detectors file playing frames (Err (Refused w line r
 ended_playing program words detectors file playing frames (Err (RefusedLine w line why)) old new loads written is =
     let at : stream_status (stream_of (file detectors)).refusal ≡ status.RefusedLine = ap stream_status is.2 in
     let note : stop_note (RefusedLine w line why) ≡ stream_note detectors (stream_of (file detectors)).refusal
-        = ap (λ v. stream_note v (Some (line, why))) is.0 ∙ ap (λ o. stream_note detectors o) (sym is.2) in (
+    = ap (λ v. stream_note v (Some (line, why))) is.0 ∙ ap (λ o. stream_note detectors o) (sym is.2) in (
       (Ok playing, loads, at, (log_of playing frames, whole_log playing (stream_of (file detectors)) frames is.1, written)),
       (Ok playing, loads, at, note),
     )

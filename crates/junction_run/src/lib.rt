@@ -19,6 +19,6 @@ mod site;
 mod status;
 mod stop;
 
-pub use run::junction;
 pub use load::{Site, load_site};
+pub use run::junction;
 pub use status::{Status, exit_status};

@@ -119,7 +119,7 @@ pub fn load_site<F: Files, N: Sink>(
         (note : List ℕ) × (N.taken notes.new ≡ append_known (N.taken notes.old) note)
         × IsNote (site_files (site_named (map string_bytes names.now)) ++ program_named (map string_bytes names.now) ∷ []) s note
         × ForSome (F.told files.old) (λ file.
-            IsSiteNote (program_named (map string_bytes names.now)) (site_named (map string_bytes names.now)) file s note)) }
+        IsSiteNote (program_named (map string_bytes names.now)) (site_named (map string_bytes names.now)) file s note)) }
     ensures contents_stay { F.told files.new ≡ F.told files.old }
     ensures later { F.faults files.old ≤ F.faults files.new }
 {

@@ -89,7 +89,12 @@ pub(crate) fn write_stop<N: Sink>(stop: &Stop<'_>, notes: &mut N)
             let mut line_digits = Buffer::new();
             let mut digits = Buffer::new();
             let line = line_digits.format(*line).as_bytes();
-            write_refusal(word.as_bytes(), line, &stream_reason(*why, &mut digits), notes)
+            write_refusal(
+                word.as_bytes(),
+                line,
+                &stream_reason(*why, &mut digits),
+                notes,
+            )
         }
         Stop::TooLong(word) => write_about(word.as_bytes(), b": TooLong\n", notes),
     }

@@ -39,7 +39,7 @@ fn put_seconds<'a, F: Files, O: Sink>(
     ensures played { (store : Store) → StandsFor controller.old (opening (site_of controller.old) store) →
         (frames : List Counts)
         × ((start : Option (List ℕ)) → IsDraft start (O.taken out.old) draft.old (log_of (playing_of controller.old store) []) →
-            IsDraft start (O.taken out.new) draft.new (log_of (playing_of controller.old store) frames))
+        IsDraft start (O.taken out.new) draft.new (log_of (playing_of controller.old store) frames))
         × ForSome (F.told files.old) (λ file. IsPlayed word.now result (stream_of (file (name_of lines.old))) frames) }
     ensures room { draft.new.gone < 2 ^ 60 }
     ensures stops { IfErr result (λ stop. IsPlayStop word.now draft.new.failed stop) }

@@ -100,11 +100,7 @@ pub(crate) fn read_program<'a>(
 }
 
 // Judges the text of a program, and compiles it.
-fn judge_program<'a>(
-    alloc: Global,
-    text: &[u8],
-    word: &'a str,
-) -> Result<Verified, Stop<'a>>
+fn judge_program<'a>(alloc: Global, text: &[u8], word: &'a str) -> Result<Verified, Stop<'a>>
     requires { length text.now ≤ 1048576 }
     ensures text { IsProgramText text.now result }
     ensures word { IfErr result (λ stop. IsAt word.now stop) }

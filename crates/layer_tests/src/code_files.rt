@@ -81,22 +81,49 @@ fn first_wrong(alloc: Global, text: &[u8]) -> Option<Wrong> {
 #[test]
 fn the_first_wrong_line_is_named(rt: HostRuntime) -> Result<(), Fail> {
     for (change, want) in [
-        (Change::Line(1, "VAPCODE 3"), Wrong::Line(1, CodeWhy::Header)),
+        (
+            Change::Line(1, "VAPCODE 3"),
+            Wrong::Line(1, CodeWhy::Header),
+        ),
         (Change::Line(2, "VARS 01"), Wrong::Line(2, CodeWhy::Line)),
         (Change::Line(2, "VARS 257"), Wrong::Line(2, CodeWhy::Limit)),
         (Change::Line(6, "1"), Wrong::Line(6, CodeWhy::Range)),
-        (Change::Line(7, "CODE 65536"), Wrong::Line(7, CodeWhy::Limit)),
+        (
+            Change::Line(7, "CODE 65536"),
+            Wrong::Line(7, CodeWhy::Limit),
+        ),
         (Change::Line(8, "tick 0"), Wrong::Line(8, CodeWhy::Range)),
-        (Change::Line(9, "push 2147483648"), Wrong::Line(9, CodeWhy::Range)),
+        (
+            Change::Line(9, "push 2147483648"),
+            Wrong::Line(9, CodeWhy::Range),
+        ),
         (Change::Without(13), Wrong::Line(13, CodeWhy::MissingEnd)),
         (Change::Unended, Wrong::Line(13, CodeWhy::Line)),
         (Change::Added, Wrong::Line(14, CodeWhy::Line)),
-        (Change::Line(11, "jump 1"), Wrong::Place(3, VerifyWhy::BackToNoTick)),
-        (Change::Line(11, "jump 5"), Wrong::Place(3, VerifyWhy::JumpOut)),
-        (Change::Line(10, "store 1"), Wrong::Place(2, VerifyWhy::Slot)),
-        (Change::Line(11, "call 0"), Wrong::Place(3, VerifyWhy::CallOrder)),
-        (Change::Line(8, "jump 1"), Wrong::Place(0, VerifyWhy::EdgeToNoTick)),
-        (Change::Line(12, "tick 2"), Wrong::Place(4, VerifyWhy::FallsOff)),
+        (
+            Change::Line(11, "jump 1"),
+            Wrong::Place(3, VerifyWhy::BackToNoTick),
+        ),
+        (
+            Change::Line(11, "jump 5"),
+            Wrong::Place(3, VerifyWhy::JumpOut),
+        ),
+        (
+            Change::Line(10, "store 1"),
+            Wrong::Place(2, VerifyWhy::Slot),
+        ),
+        (
+            Change::Line(11, "call 0"),
+            Wrong::Place(3, VerifyWhy::CallOrder),
+        ),
+        (
+            Change::Line(8, "jump 1"),
+            Wrong::Place(0, VerifyWhy::EdgeToNoTick),
+        ),
+        (
+            Change::Line(12, "tick 2"),
+            Wrong::Place(4, VerifyWhy::FallsOff),
+        ),
     ] {
         let text = changed(rt.alloc(), change)?;
         assert_eq!(rt; first_wrong(rt.alloc(), &text), Some(want));
@@ -107,8 +134,12 @@ fn the_first_wrong_line_is_named(rt: HostRuntime) -> Result<(), Fail> {
 #[test]
 fn a_code_file_is_read_and_written_again(rt: HostRuntime) -> Result<(), Fail> {
     let alloc = rt.alloc();
-    let arrays = b"VAPCODE 1\nVARS 0\nTIMERS 1\nARRAYS 2\n-7 0 12\n5\nROUTINES 2\n0\n3\nCODE 8\ntick 1\nstart 0\nret\ntick 2\ncall 0\ntick 3\nstop 0\nret\nEND\n";
-    for text in [changed(alloc, Change::Line(9, "push -2147483648"))?, Vec::from_slice(alloc, arrays)?] {
+    let arrays =
+        b"VAPCODE 1\nVARS 0\nTIMERS 1\nARRAYS 2\n-7 0 12\n5\nROUTINES 2\n0\n3\nCODE 8\ntick 1\nstart 0\nret\ntick 2\ncall 0\ntick 3\nstop 0\nret\nEND\n";
+    for text in [
+        changed(alloc, Change::Line(9, "push -2147483648"))?,
+        Vec::from_slice(alloc, arrays)?,
+    ] {
         let Ok(code) = read_code(alloc, &text) else {
             assert!(rt; false, "not read");
             return Ok(());

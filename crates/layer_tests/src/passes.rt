@@ -187,13 +187,7 @@ fn a_pass_ends_as_its_code_says(rt: HostRuntime) -> Result<(), Fail> {
             fault(FaultKind::Number, 6),
         ),
         (
-            &[
-                Tick(6),
-                Push(2),
-                Push(1),
-                Do(CommandKind::Interstage),
-                Ret,
-            ],
+            &[Tick(6), Push(2), Push(1), Do(CommandKind::Interstage), Ret],
             fault(FaultKind::Number, 6),
         ),
     ] {
@@ -205,13 +199,7 @@ fn a_pass_ends_as_its_code_says(rt: HostRuntime) -> Result<(), Fail> {
 
 #[test]
 fn the_argument_that_was_pushed_first_comes_first(rt: HostRuntime) -> Result<(), Fail> {
-    let both = [
-        Tick(1),
-        Push(1),
-        Push(2),
-        Do(CommandKind::Interstage),
-        Ret,
-    ];
+    let both = [Tick(1), Push(1), Push(2), Do(CommandKind::Interstage), Ret];
     let end = first_pass::<Brand>(rt.alloc(), &both, Blank::new(1))?;
     assert_eq!(rt; end, Some((PassEnd::Done, 1)));
     Ok(())

@@ -27,36 +27,48 @@ const NO_WAIT_TIMES: &[u8] = b"group,min_green,red_amber,amber\nK1,1,0,0\nK2,1,0
 const NO_WAIT_INTERGREENS: &[u8] = b"from,to,seconds\nK1,K2,0\nK2,K1,0\n";
 
 // A jump into a branch.
-const JUMP: &[u8] = b"PROGRAM v; /* a jump into a branch */\nVAP_FREQUENCY 1;\nCONST go = 14;\nS00Z001: n := n + 1;\nS00Z002: IF n = go THEN\nS01Z002:   GOTO S02Z003\n         ELSE\nS01Z003:   IF n > 100 THEN\nS02Z003:     Interstage(1, 2)\n           END\n         END;\nS00Z005: IF n = go THEN\nS01Z005:   INTERSTAGE(1, 2)\n         END;\nPROG_ENDE:   .\n";
+const JUMP: &[u8] =
+    b"PROGRAM v; /* a jump into a branch */\nVAP_FREQUENCY 1;\nCONST go = 14;\nS00Z001: n := n + 1;\nS00Z002: IF n = go THEN\nS01Z002:   GOTO S02Z003\n         ELSE\nS01Z003:   IF n > 100 THEN\nS02Z003:     Interstage(1, 2)\n           END\n         END;\nS00Z005: IF n = go THEN\nS01Z005:   INTERSTAGE(1, 2)\n         END;\nPROG_ENDE:   .\n";
 
 const ENDLESS: &[u8] = b"PROGRAM l;\nSg_green(1);\nL: GOTO L;\nPROG_ENDE: .\n";
 
-const ALL_UNITS: &[u8] = b"PROGRAM b;\ni := 0;\nL: i := i + 1;\nIF i < 3333 THEN GOTO L; END;\nTRACE(i);\nPROG_ENDE: .\n";
+const ALL_UNITS: &[u8] =
+    b"PROGRAM b;\ni := 0;\nL: i := i + 1;\nIF i < 3333 THEN GOTO L; END;\nTRACE(i);\nPROG_ENDE: .\n";
 
-const ONE_UNIT_MORE: &[u8] = b"PROGRAM b;\ni := 0;\nL: i := i + 1;\nIF i < 3333 THEN GOTO L; END;\nTRACE(i);\nj := 1;\nPROG_ENDE: .\n";
+const ONE_UNIT_MORE: &[u8] =
+    b"PROGRAM b;\ni := 0;\nL: i := i + 1;\nIF i < 3333 THEN GOTO L; END;\nTRACE(i);\nj := 1;\nPROG_ENDE: .\n";
 
-const FAULTS: &[u8] = b"PROGRAM f;\nARRAY a[2] = [1, 2];\nn := n + 1;\nIF Detection(1) THEN x := 2147483647 + 1; END;\nIF Detection(2) THEN x := 1 / 0; END;\nIF Detection(3) THEN x := a[0]; END;\nIF Detection(4) THEN x := Detection(65); END;\nIF n = 2 THEN Interstage(1, 1); END;\nPROG_ENDE: .\n";
+const FAULTS: &[u8] =
+    b"PROGRAM f;\nARRAY a[2] = [1, 2];\nn := n + 1;\nIF Detection(1) THEN x := 2147483647 + 1; END;\nIF Detection(2) THEN x := 1 / 0; END;\nIF Detection(3) THEN x := a[0]; END;\nIF Detection(4) THEN x := Detection(65); END;\nIF n = 2 THEN Interstage(1, 1); END;\nPROG_ENDE: .\n";
 
 const BOTH_SIDES: &[u8] = b"PROGRAM a;\nx := 0 AND (1 / 0);\nPROG_ENDE: .\n";
 
 const DECIMAL: &[u8] = b"PROGRAM d;\nIF Headway(1) > 2.5 THEN END;\nPROG_ENDE: .\n";
 
-const CALLS: &[u8] = b"PROGRAM g;\nSUBROUTINE s;\nPROG_ENDE: .\nx := 0; x := 0; x := 0;\nL: GOSUB s;\nx := 1;\nGOTO L;\nPROG_ENDE: .\n";
+const CALLS: &[u8] =
+    b"PROGRAM g;\nSUBROUTINE s;\nPROG_ENDE: .\nx := 0; x := 0; x := 0;\nL: GOSUB s;\nx := 1;\nGOTO L;\nPROG_ENDE: .\n";
 
-const TIMER: &[u8] = b"PROGRAM t;\nIF Front_ends(1) >= 2 THEN Start(w); Clear_front_ends(1); END;\nIF w = 3 THEN Interstage(2, 1); Stop(w); Reset(w); END;\nPROG_ENDE: .\n";
+const TIMER: &[u8] =
+    b"PROGRAM t;\nIF Front_ends(1) >= 2 THEN Start(w); Clear_front_ends(1); END;\nIF w = 3 THEN Interstage(2, 1); Stop(w); Reset(w); END;\nPROG_ENDE: .\n";
 
 // A plan with a row that can be either way round.
-const ROWS: &[u8] = b"$SIGNAL_GROUPS\nK1 1\nK2 2\n$STAGES\nS1 K1\nS2 K1 K2\n$STARTING_STAGE\nS1\n$INTERSTAGE\nto_stage 2\nLENGTH 6\nFrom Stage = S1\nk1 -127 127\nk2 4 127\n";
+const ROWS: &[u8] =
+    b"$SIGNAL_GROUPS\nK1 1\nK2 2\n$STAGES\nS1 K1\nS2 K1 K2\n$STARTING_STAGE\nS1\n$INTERSTAGE\nto_stage 2\nLENGTH 6\nFrom Stage = S1\nk1 -127 127\nk2 4 127\n";
 
-const WRONG_ROWS: &[u8] = b"$SIGNAL_GROUPS\nK1 1\nK2 2\n$STAGES\nS1 K1\nS2 K1 K2\n$STARTING_STAGE\nS1\n$INTERSTAGE\nto_stage 2\nLENGTH 6\nFrom Stage = S1\nK1 5 127\nk2 4 127\n";
+const WRONG_ROWS: &[u8] =
+    b"$SIGNAL_GROUPS\nK1 1\nK2 2\n$STAGES\nS1 K1\nS2 K1 K2\n$STARTING_STAGE\nS1\n$INTERSTAGE\nto_stage 2\nLENGTH 6\nFrom Stage = S1\nK1 5 127\nk2 4 127\n";
 
-const FOUR_ARMS: &[u8] = b"PROGRAM j;\nVAP_FREQUENCY 1;\nCONST most = 30, least = 10, gap = 3;\nIF NOT Any_interstage_active THEN\n  IF Stage_active(1) AND Stage_duration(1) >= least THEN\n    IF Headway(1) > gap AND Headway(2) > gap AND Headway(3) > gap OR Stage_duration(1) >= most THEN\n      Interstage(1, 2)\n    END\n  END;\n  IF Stage_active(2) AND Stage_duration(2) >= least THEN\n    IF Headway(4) > gap AND Headway(5) > gap AND Headway(6) > gap OR Stage_duration(2) >= most THEN\n      Interstage(2, 3)\n    END\n  END;\n  IF Stage_active(3) AND Stage_duration(3) >= least THEN\n    IF Headway(7) > gap AND Headway(8) > gap AND Headway(9) > gap OR Stage_duration(3) >= most THEN\n      Interstage(3, 4)\n    END\n  END;\n  IF Stage_active(4) AND Stage_duration(4) >= least THEN\n    IF Headway(10) > gap AND Headway(11) > gap AND Headway(12) > gap OR Stage_duration(4) >= most THEN\n      Interstage(4, 1)\n    END\n  END;\nEND;\nPROG_ENDE: .\n";
+const FOUR_ARMS: &[u8] =
+    b"PROGRAM j;\nVAP_FREQUENCY 1;\nCONST most = 30, least = 10, gap = 3;\nIF NOT Any_interstage_active THEN\n  IF Stage_active(1) AND Stage_duration(1) >= least THEN\n    IF Headway(1) > gap AND Headway(2) > gap AND Headway(3) > gap OR Stage_duration(1) >= most THEN\n      Interstage(1, 2)\n    END\n  END;\n  IF Stage_active(2) AND Stage_duration(2) >= least THEN\n    IF Headway(4) > gap AND Headway(5) > gap AND Headway(6) > gap OR Stage_duration(2) >= most THEN\n      Interstage(2, 3)\n    END\n  END;\n  IF Stage_active(3) AND Stage_duration(3) >= least THEN\n    IF Headway(7) > gap AND Headway(8) > gap AND Headway(9) > gap OR Stage_duration(3) >= most THEN\n      Interstage(3, 4)\n    END\n  END;\n  IF Stage_active(4) AND Stage_duration(4) >= least THEN\n    IF Headway(10) > gap AND Headway(11) > gap AND Headway(12) > gap OR Stage_duration(4) >= most THEN\n      Interstage(4, 1)\n    END\n  END;\nEND;\nPROG_ENDE: .\n";
 
-const FOUR_ARMS_PLAN: &[u8] = b"$SIGNAL_GROUPS\nK1 1\nK2 2\nK3 3\nK4 4\nK5 5\nK6 6\nK7 7\nK8 8\n$STAGES\nS1 K1 K2\nS2 K3 K4\nS3 K5 K6\nS4 K7 K8\n$STARTING_STAGE\nS1\n$INTERSTAGE1\nLength [s]: 6\nFrom Stage: 1\nTo Stage: 2\nK1 -127 0\nK2 -127 0\nK3 4 127\nK4 4 127\n$INTERSTAGE2\nLength [s]: 6\nFrom Stage: 1\nTo Stage: 3\nK1 -127 0\nK2 -127 0\nK5 4 127\nK6 4 127\n$INTERSTAGE3\nLength [s]: 6\nFrom Stage: 1\nTo Stage: 4\nK1 -127 0\nK2 -127 0\nK7 4 127\nK8 4 127\n$INTERSTAGE4\nLength [s]: 6\nFrom Stage: 2\nTo Stage: 1\nK3 -127 0\nK4 -127 0\nK1 4 127\nK2 4 127\n$INTERSTAGE5\nLength [s]: 6\nFrom Stage: 2\nTo Stage: 3\nK3 -127 0\nK4 -127 0\nK5 4 127\nK6 4 127\n$INTERSTAGE6\nLength [s]: 6\nFrom Stage: 2\nTo Stage: 4\nK3 -127 0\nK4 -127 0\nK7 4 127\nK8 4 127\n$INTERSTAGE7\nLength [s]: 6\nFrom Stage: 3\nTo Stage: 1\nK5 -127 0\nK6 -127 0\nK1 4 127\nK2 4 127\n$INTERSTAGE8\nLength [s]: 6\nFrom Stage: 3\nTo Stage: 2\nK5 -127 0\nK6 -127 0\nK3 4 127\nK4 4 127\n$INTERSTAGE9\nLength [s]: 6\nFrom Stage: 3\nTo Stage: 4\nK5 -127 0\nK6 -127 0\nK7 4 127\nK8 4 127\n$INTERSTAGE10\nLength [s]: 6\nFrom Stage: 4\nTo Stage: 1\nK7 -127 0\nK8 -127 0\nK1 4 127\nK2 4 127\n$INTERSTAGE11\nLength [s]: 6\nFrom Stage: 4\nTo Stage: 2\nK7 -127 0\nK8 -127 0\nK3 4 127\nK4 4 127\n$INTERSTAGE12\nLength [s]: 6\nFrom Stage: 4\nTo Stage: 3\nK7 -127 0\nK8 -127 0\nK5 4 127\nK6 4 127\n$END\n";
+const FOUR_ARMS_PLAN: &[u8] =
+    b"$SIGNAL_GROUPS\nK1 1\nK2 2\nK3 3\nK4 4\nK5 5\nK6 6\nK7 7\nK8 8\n$STAGES\nS1 K1 K2\nS2 K3 K4\nS3 K5 K6\nS4 K7 K8\n$STARTING_STAGE\nS1\n$INTERSTAGE1\nLength [s]: 6\nFrom Stage: 1\nTo Stage: 2\nK1 -127 0\nK2 -127 0\nK3 4 127\nK4 4 127\n$INTERSTAGE2\nLength [s]: 6\nFrom Stage: 1\nTo Stage: 3\nK1 -127 0\nK2 -127 0\nK5 4 127\nK6 4 127\n$INTERSTAGE3\nLength [s]: 6\nFrom Stage: 1\nTo Stage: 4\nK1 -127 0\nK2 -127 0\nK7 4 127\nK8 4 127\n$INTERSTAGE4\nLength [s]: 6\nFrom Stage: 2\nTo Stage: 1\nK3 -127 0\nK4 -127 0\nK1 4 127\nK2 4 127\n$INTERSTAGE5\nLength [s]: 6\nFrom Stage: 2\nTo Stage: 3\nK3 -127 0\nK4 -127 0\nK5 4 127\nK6 4 127\n$INTERSTAGE6\nLength [s]: 6\nFrom Stage: 2\nTo Stage: 4\nK3 -127 0\nK4 -127 0\nK7 4 127\nK8 4 127\n$INTERSTAGE7\nLength [s]: 6\nFrom Stage: 3\nTo Stage: 1\nK5 -127 0\nK6 -127 0\nK1 4 127\nK2 4 127\n$INTERSTAGE8\nLength [s]: 6\nFrom Stage: 3\nTo Stage: 2\nK5 -127 0\nK6 -127 0\nK3 4 127\nK4 4 127\n$INTERSTAGE9\nLength [s]: 6\nFrom Stage: 3\nTo Stage: 4\nK5 -127 0\nK6 -127 0\nK7 4 127\nK8 4 127\n$INTERSTAGE10\nLength [s]: 6\nFrom Stage: 4\nTo Stage: 1\nK7 -127 0\nK8 -127 0\nK1 4 127\nK2 4 127\n$INTERSTAGE11\nLength [s]: 6\nFrom Stage: 4\nTo Stage: 2\nK7 -127 0\nK8 -127 0\nK3 4 127\nK4 4 127\n$INTERSTAGE12\nLength [s]: 6\nFrom Stage: 4\nTo Stage: 3\nK7 -127 0\nK8 -127 0\nK5 4 127\nK6 4 127\n$END\n";
 
-const FOUR_ARMS_TIMES: &[u8] = b"group,min_green,red_amber,amber\nK1,5,1,3\nK2,5,1,3\nK3,5,1,3\nK4,5,1,3\nK5,5,1,3\nK6,5,1,3\nK7,5,1,3\nK8,5,1,3\n";
+const FOUR_ARMS_TIMES: &[u8] =
+    b"group,min_green,red_amber,amber\nK1,5,1,3\nK2,5,1,3\nK3,5,1,3\nK4,5,1,3\nK5,5,1,3\nK6,5,1,3\nK7,5,1,3\nK8,5,1,3\n";
 
-const FOUR_ARMS_INTERGREENS: &[u8] = b"from,to,seconds\nK1,K3,5\nK1,K4,5\nK1,K5,5\nK1,K6,5\nK1,K7,5\nK1,K8,5\nK2,K3,5\nK2,K4,5\nK2,K5,5\nK2,K6,5\nK2,K7,5\nK2,K8,5\nK3,K1,5\nK3,K2,5\nK3,K5,5\nK3,K6,5\nK3,K7,5\nK3,K8,5\nK4,K1,5\nK4,K2,5\nK4,K5,5\nK4,K6,5\nK4,K7,5\nK4,K8,5\nK5,K1,5\nK5,K2,5\nK5,K3,5\nK5,K4,5\nK5,K7,5\nK5,K8,5\nK6,K1,5\nK6,K2,5\nK6,K3,5\nK6,K4,5\nK6,K7,5\nK6,K8,5\nK7,K1,5\nK7,K2,5\nK7,K3,5\nK7,K4,5\nK7,K5,5\nK7,K6,5\nK8,K1,5\nK8,K2,5\nK8,K3,5\nK8,K4,5\nK8,K5,5\nK8,K6,5\n";
+const FOUR_ARMS_INTERGREENS: &[u8] =
+    b"from,to,seconds\nK1,K3,5\nK1,K4,5\nK1,K5,5\nK1,K6,5\nK1,K7,5\nK1,K8,5\nK2,K3,5\nK2,K4,5\nK2,K5,5\nK2,K6,5\nK2,K7,5\nK2,K8,5\nK3,K1,5\nK3,K2,5\nK3,K5,5\nK3,K6,5\nK3,K7,5\nK3,K8,5\nK4,K1,5\nK4,K2,5\nK4,K5,5\nK4,K6,5\nK4,K7,5\nK4,K8,5\nK5,K1,5\nK5,K2,5\nK5,K3,5\nK5,K4,5\nK5,K7,5\nK5,K8,5\nK6,K1,5\nK6,K2,5\nK6,K3,5\nK6,K4,5\nK6,K7,5\nK6,K8,5\nK7,K1,5\nK7,K2,5\nK7,K3,5\nK7,K4,5\nK7,K5,5\nK7,K6,5\nK8,K1,5\nK8,K2,5\nK8,K3,5\nK8,K4,5\nK8,K5,5\nK8,K6,5\n";
 
 const ONE_WAY: &[u8] = b"from,to,seconds\nK1,K2,5\n";
 
@@ -96,20 +108,26 @@ const CASES: [Case<'static>; 17] = [
     Case {
         plan: TWO_STAGES,
         detectors: b"\n\n\n\n",
-        records: Some(b"1|S1|RR|-|K1:Intergreen:K2|-\n2|S1|RR|-|K1:Intergreen:K2|-\n3|S1|UR|-|-|-\n4|S1|GR|-|-|-\n"),
+        records: Some(
+            b"1|S1|RR|-|K1:Intergreen:K2|-\n2|S1|RR|-|K1:Intergreen:K2|-\n3|S1|UR|-|-|-\n4|S1|GR|-|-|-\n",
+        ),
         ..DONE
     },
     Case {
         program: ENDS_EARLY,
         plan: TWO_STAGES,
         detectors: b"\n\n\n\n\n\n\n\n\n\n\n\n\n\n\n\n\n",
-        records: Some(b"1|S1|RR|-|K1:Intergreen:K2|-\n2|S1|RR|-|K1:Intergreen:K2|-\n3|S1|UR|-|-|-\n4|S1|GR|-|-|-\n5|S1|GR|-|K1:MinGreen|-\n6|S1|GR|-|K1:MinGreen|-\n7|S1|GR|-|K1:MinGreen|-\n8|S1|GR|-|K1:MinGreen|-\n9|S1|GR|-|K1:MinGreen|-\n10|S1|GR|-|K1:MinGreen|-\n11|S1|GR|-|K1:MinGreen|-\n12|S1|GR|-|K1:MinGreen|-\n13|S1|GR|-|K1:MinGreen|-\n14|S1|AR|-|-|-\n15|S1|AR|-|-|-\n16|S1|AR|-|-|-\n17|S1|RR|-|-|-\n"),
+        records: Some(
+            b"1|S1|RR|-|K1:Intergreen:K2|-\n2|S1|RR|-|K1:Intergreen:K2|-\n3|S1|UR|-|-|-\n4|S1|GR|-|-|-\n5|S1|GR|-|K1:MinGreen|-\n6|S1|GR|-|K1:MinGreen|-\n7|S1|GR|-|K1:MinGreen|-\n8|S1|GR|-|K1:MinGreen|-\n9|S1|GR|-|K1:MinGreen|-\n10|S1|GR|-|K1:MinGreen|-\n11|S1|GR|-|K1:MinGreen|-\n12|S1|GR|-|K1:MinGreen|-\n13|S1|GR|-|K1:MinGreen|-\n14|S1|AR|-|-|-\n15|S1|AR|-|-|-\n16|S1|AR|-|-|-\n17|S1|RR|-|-|-\n",
+        ),
         ..DONE
     },
     Case {
         program: BOTH_GREEN,
         detectors: b"\n\n\n\n\n\n",
-        records: Some(b"1|S1|RR|-|-|-\n2|S1|RR|-|-|-\n3|S1|RR|-|-|-\n4|S1|UR|-|K2:Conflict:K1|-\n5|S1|GR|-|K1:Sequence|-\n6|S1|GR|-|K1:MinGreen|-\n"),
+        records: Some(
+            b"1|S1|RR|-|-|-\n2|S1|RR|-|-|-\n3|S1|RR|-|-|-\n4|S1|UR|-|K2:Conflict:K1|-\n5|S1|GR|-|K1:Sequence|-\n6|S1|GR|-|K1:MinGreen|-\n",
+        ),
         ..DONE
     },
     Case {
@@ -124,7 +142,9 @@ const CASES: [Case<'static>; 17] = [
         program: JUMP,
         plan: TWO_STAGES,
         detectors: b"\n\n\n\n\n\n\n\n\n\n\n\n\n\n\n\n\n\n\n\n",
-        records: Some(b"1|S1|RR|-|K1:Intergreen:K2|-\n2|S1|RR|-|K1:Intergreen:K2|-\n3|S1|UR|-|-|-\n4|S1|GR|-|-|-\n5|S1|GR|-|-|-\n6|S1|GR|-|-|-\n7|S1|GR|-|-|-\n8|S1|GR|-|-|-\n9|S1|GR|-|-|-\n10|S1|GR|-|-|-\n11|S1|GR|-|-|-\n12|S1|GR|-|-|-\n13|S1|GR|-|-|-\n14|I1-2+0|AR|-|1-2:Running|-\n15|I1-2+1|AR|-|-|-\n16|I1-2+2|AR|-|-|-\n17|I1-2+3|RR|-|-|-\n18|I1-2+4|RU|-|-|-\n19|I1-2+5|RG|-|-|-\n20|S2|RG|-|-|-\n"),
+        records: Some(
+            b"1|S1|RR|-|K1:Intergreen:K2|-\n2|S1|RR|-|K1:Intergreen:K2|-\n3|S1|UR|-|-|-\n4|S1|GR|-|-|-\n5|S1|GR|-|-|-\n6|S1|GR|-|-|-\n7|S1|GR|-|-|-\n8|S1|GR|-|-|-\n9|S1|GR|-|-|-\n10|S1|GR|-|-|-\n11|S1|GR|-|-|-\n12|S1|GR|-|-|-\n13|S1|GR|-|-|-\n14|I1-2+0|AR|-|1-2:Running|-\n15|I1-2+1|AR|-|-|-\n16|I1-2+2|AR|-|-|-\n17|I1-2+3|RR|-|-|-\n18|I1-2+4|RU|-|-|-\n19|I1-2+5|RG|-|-|-\n20|S2|RG|-|-|-\n",
+        ),
         ..DONE
     },
     Case {
@@ -148,7 +168,9 @@ const CASES: [Case<'static>; 17] = [
     Case {
         program: FAULTS,
         detectors: b"1:1:1\n2:1:1\n3:1:1\n4:1:1\n\n\n",
-        records: Some(b"1|S1|RR|1:1:1|-|Overflow@4\n2|S1|RR|2:1:1|-|ZeroDivisor@5\n3|S1|RR|3:1:1|-|Index@6\n4|S1|RR|4:1:1|-|Number@7\n5|S1|RR|-|-|-\n6|S1|RR|-|1-1:NoInterstage|-\n"),
+        records: Some(
+            b"1|S1|RR|1:1:1|-|Overflow@4\n2|S1|RR|2:1:1|-|ZeroDivisor@5\n3|S1|RR|3:1:1|-|Index@6\n4|S1|RR|4:1:1|-|Number@7\n5|S1|RR|-|-|-\n6|S1|RR|-|1-1:NoInterstage|-\n",
+        ),
         ..DONE
     },
     Case {
@@ -167,13 +189,12 @@ const CASES: [Case<'static>; 17] = [
         program: TIMER,
         plan: TWO_STAGES,
         detectors: b"1:2:1\n1:0:1\n\n\n\n",
-        records: Some(b"1|S1|RR|1:2:1|K1:Intergreen:K2|-\n2|S1|RR|1:0:1|K1:Intergreen:K2|-\n3|S1|UR|-|-|-\n4|S1|GR|-|2-1:WrongStage|-\n5|S1|GR|-|-|-\n"),
+        records: Some(
+            b"1|S1|RR|1:2:1|K1:Intergreen:K2|-\n2|S1|RR|1:0:1|K1:Intergreen:K2|-\n3|S1|UR|-|-|-\n4|S1|GR|-|2-1:WrongStage|-\n5|S1|GR|-|-|-\n",
+        ),
         ..DONE
     },
-    Case {
-        plan: ROWS,
-        ..DONE
-    },
+    Case { plan: ROWS, ..DONE },
     Case {
         program: DECIMAL,
         note: b"junction: p.vap:2: Decimal\n",
@@ -187,7 +208,9 @@ const CASES: [Case<'static>; 17] = [
     Case {
         detectors: b"\n\n\n\n\n\n1:0:1\n",
         status: Status::RefusedLine,
-        records: Some(b"1|S1|RR|-|-|-\n2|S1|RR|-|-|-\n3|S1|RR|-|-|-\n4|S1|RR|-|-|-\n5|S1|RR|-|-|-\n6|S1|RR|-|-|-\n"),
+        records: Some(
+            b"1|S1|RR|-|-|-\n2|S1|RR|-|-|-\n3|S1|RR|-|-|-\n4|S1|RR|-|-|-\n5|S1|RR|-|-|-\n6|S1|RR|-|-|-\n",
+        ),
         note: b"junction: d.txt:7: RearsAhead 1\n",
         ..DONE
     },
@@ -313,7 +336,14 @@ fn words_and_sizes_are_judged(rt: HostRuntime) -> Result<(), Fail> {
         let (status, out, notes) = run_over(alloc, &RUN, all, 100)?;
         assert_eq!(rt; status, wanted);
         assert!(rt; is_log(out.bytes(), if blank == 0 { Some(b"") } else { None }));
-        assert_eq!(rt; notes.bytes(), if blank == 0 { b"".as_slice() } else { b"junction: p.pua: TooLong\n".as_slice() });
+        assert_eq!(rt;
+            notes.bytes(),
+            if blank == 0 {
+                b"".as_slice()
+            } else {
+                b"junction: p.pua: TooLong\n".as_slice()
+            }
+        );
     }
     Ok(())
 }
@@ -326,7 +356,9 @@ fn after<'a>(front: &[u8], bytes: &'a [u8]) -> Option<&'a [u8]> {
 
 // The aspects of the four arms where the groups of one stage are in amber, in red-amber or green.
 const AMBER: [&str; 4] = ["AARRRRRR", "RRAARRRR", "RRRRAARR", "RRRRRRAA"];
+
 const RED_AMBER: [&str; 4] = ["UURRRRRR", "RRUURRRR", "RRRRUURR", "RRRRRRUU"];
+
 const GREEN: [&str; 4] = ["GGRRRRRR", "RRGGRRRR", "RRRRGGRR", "RRRRRRGG"];
 
 // The record of a second of the four arms without traffic: the first ones are green after four seconds, and from second 10 on
@@ -390,7 +422,10 @@ fn a_file_has_at_most_604800_seconds(rt: HostRuntime) -> Result<(), Fail> {
     all[4].1 = vec![in alloc; b'\n'; 604801]?;
     let (status, out, notes) = run_over(alloc, &RUN, all, 20000000)?;
     assert_eq!(rt; status, Status::RefusedLine);
-    assert_eq!(rt; notes.bytes(), b"junction: d.txt:604801: TooManySeconds\n".as_slice());
+    assert_eq!(rt;
+        notes.bytes(),
+        b"junction: d.txt:604801: TooManySeconds\n".as_slice()
+    );
     let mut rest = after(HEADER, out.bytes());
     for k in 1..604801 {
         let record = format!(in alloc; "{k}|S1|RR|-|-|-\n")?;
@@ -413,7 +448,10 @@ fn a_log_is_cut_where_the_sink_has_no_room(rt: HostRuntime) -> Result<(), Fail> 
     };
     let (status, out, notes) = run_over(alloc, &RUN, files(alloc, &case)?, 50)?;
     assert_eq!(rt; status, Status::WriteFault);
-    assert_eq!(rt; out.bytes(), b"VAPLOG 1 K1 K2\n1|S1|RR|-|K1:Intergreen:K2|-\n2|S1|R".as_slice());
+    assert_eq!(rt;
+        out.bytes(),
+        b"VAPLOG 1 K1 K2\n1|S1|RR|-|K1:Intergreen:K2|-\n2|S1|R".as_slice()
+    );
     assert_eq!(rt; notes.bytes(), b"junction: WriteFault\n".as_slice());
     Ok(())
 }
@@ -471,16 +509,30 @@ fn files_are_asked_in_their_order(rt: HostRuntime) -> Result<(), Fail> {
     let alloc = rt.alloc();
     let (status, names) = asked(alloc, &DONE, Vec::new(alloc))?;
     assert!(rt; status == Status::Done && names.as_slice() == b"ptgvd".as_slice());
-    for (case, wanted) in ORDER.iter().zip([b"p".as_slice(), b"pt".as_slice(), b"ptg".as_slice(), b"ptgv".as_slice()]) {
+    for (case, wanted) in ORDER.iter().zip([
+        b"p".as_slice(),
+        b"pt".as_slice(),
+        b"ptg".as_slice(),
+        b"ptgv".as_slice(),
+    ]) {
         let (status, names) = asked(alloc, case, Vec::new(alloc))?;
         assert!(rt; status == Status::RefusedFile && names.as_slice() == wanted);
     }
     // Each file takes two calls, and the second finds its end.
-    let fronts: [&[u8]; 10] = [b"p!", b"p!", b"pt!", b"pt!", b"ptg!", b"ptg!", b"ptgv!", b"ptgv!", b"ptgvd!", b"ptgvd"];
+    let fronts: [&[u8]; 10] = [
+        b"p!", b"p!", b"pt!", b"pt!", b"ptg!", b"ptg!", b"ptgv!", b"ptgv!", b"ptgvd!", b"ptgvd",
+    ];
     for (j, wanted) in fronts.iter().enumerate() {
         let (status, names) = asked(alloc, &DONE, vec![in alloc; j as u64]?)?;
         assert!(rt; names.as_slice() == *wanted, "call {j}");
-        assert!(rt; status == if j < 9 { Status::ReadFault } else { Status::Done });
+        assert!(rt;
+            status
+                == if j < 9 {
+                    Status::ReadFault
+                } else {
+                    Status::Done
+                }
+        );
     }
     Ok(())
 }

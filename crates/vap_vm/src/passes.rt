@@ -86,8 +86,8 @@ impl Vm {
         requires { (w : WorldOf) × W.means world.now w }
         ensures pass { (w : WorldOf) → W.means world.now w →
             PassIs (without_commands self.old.store)
-                (machine_of self.old.code w (without_commands self.old.store))
-                result self.new.store }
+            (machine_of self.old.code w (without_commands self.old.store))
+            result self.new.store }
         ensures counted { (w : WorldOf) → W.means world.now w → steps.new ≡
             steps.old + machine_steps self.old.code w (without_commands self.old.store) }
         ensures bounded { steps.new ≤ steps.old + 10241024 }

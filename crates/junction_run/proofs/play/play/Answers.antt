@@ -16,7 +16,7 @@ returns-then-failed-clause-played g c = λ store s.
     let start : Option (List ℕ) = g.O.Sink.taken c.args.out.now in
     let names : c.plan.result.now.names ≡ (site_of c.args.controller.now).plan.names = ap (λ q. q.names) (c.plan.ensures ∙ plan_is c.args.controller.now) in
     let begun = subst (λ t. IsDraft start (g.O.Sink.taken c.put_header.new.sink) c.put_header.new.draft t) (ap header_text names ∙ sym (log_of-none (playing_of c.args.controller.now store)))
-        (c.put_header.ensures.text start [] (c.new-draft.ensures.text start)) in
+    (c.put_header.ensures.text start [] (c.new-draft.ensures.text start)) in
     let played = c.put_seconds-end.ensures.played store s in (
       played.0,
       (_, is_cut start _ c.put_seconds-end.new.draft _ (sym c.failed.ensures ∙ c.if-failed.true) (played.1 start begun)),
@@ -28,7 +28,7 @@ returns-in-Ok-clause-played g c = λ store s.
     let start : Option (List ℕ) = g.O.Sink.taken c.args.out.now in
     let names : c.plan.result.now.names ≡ (site_of c.args.controller.now).plan.names = ap (λ q. q.names) (c.plan.ensures ∙ plan_is c.args.controller.now) in
     let begun = subst (λ t. IsDraft start (g.O.Sink.taken c.put_header.new.sink) c.put_header.new.draft t) (ap header_text names ∙ sym (log_of-none (playing_of c.args.controller.now store)))
-        (c.put_header.ensures.text start [] (c.new-draft.ensures.text start)) in
+    (c.put_header.ensures.text start [] (c.new-draft.ensures.text start)) in
     let played = c.put_seconds-end.ensures.played store s in (
       played.0,
       written_so c.put_seconds-end.result c.args.word.now c.put_seconds-end.new.draft.failed (log_of (playing_of c.args.controller.now store) played.0) start _
@@ -44,7 +44,7 @@ returns-clause-played g c = λ store s.
     let start : Option (List ℕ) = g.O.Sink.taken c.args.out.now in
     let names : c.plan.result.now.names ≡ (site_of c.args.controller.now).plan.names = ap (λ q. q.names) (c.plan.ensures ∙ plan_is c.args.controller.now) in
     let begun = subst (λ t. IsDraft start (g.O.Sink.taken c.put_header.new.sink) c.put_header.new.draft t) (ap header_text names ∙ sym (log_of-none (playing_of c.args.controller.now store)))
-        (c.put_header.ensures.text start [] (c.new-draft.ensures.text start)) in
+    (c.put_header.ensures.text start [] (c.new-draft.ensures.text start)) in
     let played = c.put_seconds-end.ensures.played store s in (
       played.0,
       (_, c.in-Err.ensures.fault start (log_of (playing_of c.args.controller.now store) played.0) (played.1 start begun)),

@@ -18,7 +18,7 @@ returns-in-Ok-false-clause-played g c = λ store s.
       λ start d. u.put store start s d,
       λ file e.
           let next = subst (λ n. Reads c.loop-line.lines (file n) u.frames → IsNext (file n) u.frames c.next_frame.new.self (Ok c.in-Ok-false.field-0)) i.2
-              (c.in-Ok-false.ensures.next file (i.1 ∙ e) u.frames) (u.reads file e) in
+          (c.in-Ok-false.ensures.next file (i.1 ∙ e) u.frames) (u.reads file e) in
           let last = subst (λ b. IsNext (file (name_of c.args.lines.now)) u.frames c.next_frame.new.self (Ok b)) c.in-Ok-false.field-0-test next in
           (last.0.frames_are, last.0.refusal_is),
     )
@@ -37,7 +37,7 @@ returns-in-Err-At-clause-played g c = λ store s.
       λ start d. u.put store start s d,
       λ file e.
           let next = subst (λ n. Reads c.loop-line.lines (file n) u.frames → IsNext (file n) u.frames c.next_frame.new.self (Err c.in-Err-At.field-0)) i.2
-              (c.in-Err-At.ensures.next file (i.1 ∙ e) u.frames) (u.reads file e) in
+          (c.in-Err-At.ensures.next file (i.1 ∙ e) u.frames) (u.reads file e) in
           let last = subst (λ r. IsNext (file (name_of c.args.lines.now)) u.frames c.next_frame.new.self (Err r)) c.in-Err-At.field-0-is next in
           (refl, last.frames_are, last.refusal_is),
     )
@@ -56,16 +56,16 @@ returns-then-failed-clause-played g c = λ store s.
     let u = i.0 in
     let gave = (c.in-Ok-true.ensures.gave (ap Ok c.in-Ok-true.field-0-test) u.frames u.gave).0 in
     let more = one_more c.args.controller.now c.loop-line.controller c.second.new.self c.loop-line.lines c.next_frame.new.self (g.F.Files.told c.args.files.now) (name_of c.args.lines.now)
-        (g.O.Sink.taken c.args.out.now) (g.O.Sink.taken c.loop-line.out) (g.O.Sink.taken c.put_second.new.sink) c.args.draft.now c.loop-line.draft c.put_second.new.draft
-        c.frame.result.now c.last.result.now c.plan.result.now.names u
-        (subst (λ f. Gave c.next_frame.new.self (u.frames ++ f ∷ [])) (sym c.frame.ensures) gave)
-        (λ file e.
-        let next = subst (λ n. Reads c.loop-line.lines (file n) u.frames → IsNext (file n) u.frames c.next_frame.new.self (Ok c.in-Ok-true.field-0)) i.2
-            (c.in-Ok-true.ensures.next file (i.1 ∙ e) u.frames) (u.reads file e) in
-        let read = subst (λ b. IsNext (file (name_of c.args.lines.now)) u.frames c.next_frame.new.self (Ok b)) c.in-Ok-true.field-0-test next in
-        subst (λ f. Reads c.next_frame.new.self (file (name_of c.args.lines.now)) (u.frames ++ f ∷ [])) (sym c.frame.ensures) read)
-        c.second.ensures.stands (λ past h. c.last.ensures ∙ c.second.ensures.record past h) c.second.ensures.site c.second.ensures.logic c.second.ensures.plan
-        (ap (λ q. q.names) c.plan.ensures) c.put_second.ensures.text in
+    (g.O.Sink.taken c.args.out.now) (g.O.Sink.taken c.loop-line.out) (g.O.Sink.taken c.put_second.new.sink) c.args.draft.now c.loop-line.draft c.put_second.new.draft
+    c.frame.result.now c.last.result.now c.plan.result.now.names u
+    (subst (λ f. Gave c.next_frame.new.self (u.frames ++ f ∷ [])) (sym c.frame.ensures) gave)
+    (λ file e.
+    let next = subst (λ n. Reads c.loop-line.lines (file n) u.frames → IsNext (file n) u.frames c.next_frame.new.self (Ok c.in-Ok-true.field-0)) i.2
+    (c.in-Ok-true.ensures.next file (i.1 ∙ e) u.frames) (u.reads file e) in
+    let read = subst (λ b. IsNext (file (name_of c.args.lines.now)) u.frames c.next_frame.new.self (Ok b)) c.in-Ok-true.field-0-test next in
+    subst (λ f. Reads c.next_frame.new.self (file (name_of c.args.lines.now)) (u.frames ++ f ∷ [])) (sym c.frame.ensures) read)
+    c.second.ensures.stands (λ past h. c.last.ensures ∙ c.second.ensures.record past h) c.second.ensures.site c.second.ensures.logic c.second.ensures.plan
+    (ap (λ q. q.names) c.plan.ensures) c.put_second.ensures.text in
     (more.frames, λ start d. more.put store start s d, λ file e. reads_front c.next_frame.new.self (file (name_of c.args.lines.now)) more.frames (more.reads file e))
 
 pub loop-line-preserved : goal.loop-line-preserved
@@ -80,7 +80,7 @@ loop-line-preserved g c =
           (subst (λ f. Gave c.next_frame.new.self (u.frames ++ f ∷ [])) (sym c.frame.ensures) gave)
           (λ file e.
           let next = subst (λ n. Reads c.loop-line.lines (file n) u.frames → IsNext (file n) u.frames c.next_frame.new.self (Ok c.in-Ok-true.field-0)) i.2
-              (c.in-Ok-true.ensures.next file (i.1 ∙ e) u.frames) (u.reads file e) in
+          (c.in-Ok-true.ensures.next file (i.1 ∙ e) u.frames) (u.reads file e) in
           let read = subst (λ b. IsNext (file (name_of c.args.lines.now)) u.frames c.next_frame.new.self (Ok b)) c.in-Ok-true.field-0-test next in
           subst (λ f. Reads c.next_frame.new.self (file (name_of c.args.lines.now)) (u.frames ++ f ∷ [])) (sym c.frame.ensures) read)
           c.second.ensures.stands (λ past h. c.last.ensures ∙ c.second.ensures.record past h) c.second.ensures.site c.second.ensures.logic c.second.ensures.plan
