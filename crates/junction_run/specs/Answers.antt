@@ -26,6 +26,8 @@ pub record WordsAnswer (out notes : Seen (List ℕ)) (status : Status) : Type 0 
 
 -- The answer to a form.
 pub record FormAnswer (form : Form) (files : Seen Contents) (out notes : Seen (List ℕ)) (status : Status) : Type 0 where
+  -- the words are a form
+  pub not_words : status ≡ Words → ⊥
   -- a fault has its cause
   pub read_fault : status ≡ ReadFault → Rose files.before files.after
   pub write_fault : status ≡ WriteFault → Rose out.before out.after

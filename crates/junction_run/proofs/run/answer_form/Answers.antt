@@ -10,6 +10,7 @@ use Rattle.junction_run.proofs.run.answer_form.Goals as goal
 
 pub returns-in-Ok-clause-answer : goal.returns-in-Ok-clause-answer
 returns-in-Ok-clause-answer g c = record {
+  not_words = λ is. absurd cc;
   read_fault = λ is. absurd cc;
   write_fault = λ is. absurd cc;
   answer = λ file e. c.in-Ok.ensures.ended file e;
@@ -22,6 +23,7 @@ returns-in-Err-clause-answer g c =
     let form : Form = form_in c.args.form.now in
     let is : c.status_of.result ≡ status_of c.in-Err.stop = c.status_of.ensures in
     record {
+      not_words = λ at. no_words c.in-Err.stop (sym is ∙ at);
       read_fault = λ at. c.in-Err.ensures.read (sym is ∙ at);
       write_fault = λ at. c.in-Err.ensures.write (sym is ∙ at);
       answer = λ file e. subst (λ s. Meets form file s (g.O.Sink.taken c.args.out.now) (g.O.Sink.taken c.do_form.new.out)) (sym is) (c.in-Err.ensures.ended file e).0;
