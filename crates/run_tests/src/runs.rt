@@ -329,11 +329,13 @@ fn words_and_sizes_are_judged(rt: HostRuntime) -> Result<(), Fail> {
     }
     // A plan filled up to its limit with blank lines, and one with a line more.
     for (blank, wanted) in [(0, Status::Done), (1, Status::TooLong)] {
-        let mut all = files(alloc, &DONE)?;
         let mut plan = Vec::from_slice(alloc, TWO_STAGES)?;
         plan.resize(1048576 + blank, b'\n')?;
-        all[1].1 = plan;
-        let (status, out, notes) = run_over(alloc, &RUN, all, 100)?;
+        let case = Case {
+            plan: plan.as_slice(),
+            ..DONE
+        };
+        let (status, out, notes) = run_over(alloc, &RUN, files(alloc, &case)?, 100)?;
         assert_eq!(rt; status, wanted);
         assert!(rt; is_log(out.bytes(), if blank == 0 { Some(b"") } else { None }));
         assert_eq!(rt;
@@ -391,16 +393,16 @@ fn arms_record(alloc: Global, k: u32) -> Result<String, Fail> {
 #[test]
 fn four_arms_run_an_hour(rt: HostRuntime) -> Result<(), Fail> {
     let alloc = rt.alloc();
+    let seconds = vec![in alloc; b'\n'; 3600]?;
     let case = Case {
         program: FOUR_ARMS,
         plan: FOUR_ARMS_PLAN,
         times: FOUR_ARMS_TIMES,
         intergreens: FOUR_ARMS_INTERGREENS,
+        detectors: seconds.as_slice(),
         ..DONE
     };
-    let mut all = files(alloc, &case)?;
-    all[4].1 = vec![in alloc; b'\n'; 3600]?;
-    let (status, out, _notes) = run_over(alloc, &RUN, all, 200000)?;
+    let (status, out, _notes) = run_over(alloc, &RUN, files(alloc, &case)?, 200000)?;
     assert_eq!(rt; status, Status::Done);
     let mut rest = after(b"VAPLOG 1 K1 K2 K3 K4 K5 K6 K7 K8\n", out.bytes());
     for k in 1..3601 {
@@ -418,9 +420,12 @@ fn four_arms_run_an_hour(rt: HostRuntime) -> Result<(), Fail> {
 #[test]
 fn a_file_has_at_most_604800_seconds(rt: HostRuntime) -> Result<(), Fail> {
     let alloc = rt.alloc();
-    let mut all = files(alloc, &DONE)?;
-    all[4].1 = vec![in alloc; b'\n'; 604801]?;
-    let (status, out, notes) = run_over(alloc, &RUN, all, 20000000)?;
+    let seconds = vec![in alloc; b'\n'; 604801]?;
+    let case = Case {
+        detectors: seconds.as_slice(),
+        ..DONE
+    };
+    let (status, out, notes) = run_over(alloc, &RUN, files(alloc, &case)?, 20000000)?;
     assert_eq!(rt; status, Status::RefusedLine);
     assert_eq!(rt;
         notes.bytes(),
