@@ -1,9 +1,11 @@
 pub mod Agree
 pub mod Ends
 pub mod Guards
+pub mod LoadedRuns
 pub mod Loads
 pub mod Logs
 pub mod Once
 pub mod Pieces
 pub mod Plays
+pub mod Tables
 pub mod Texts

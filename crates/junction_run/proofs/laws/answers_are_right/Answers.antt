@@ -1,4 +1,5 @@
 use Rattle.junction_run.proofs.Once.{CheckedOnce, loads_once, complete, refused_only_where}
+use Rattle.junction_run.proofs.LoadedRuns.{loaded_runs_are_guarded}
 use Rattle.junction_run.proofs.laws.answers_are_right.Goals as goal
 
 pub returns-clause-once : goal.returns-clause-once
@@ -9,3 +10,6 @@ returns-clause-complete c = complete (record { refusal = c.one_answer.ensures.re
 
 pub returns-clause-refused : goal.returns-clause-refused
 returns-clause-refused c = refused_only_where
+
+pub returns-clause-guarded : goal.returns-clause-guarded
+returns-clause-guarded c = loaded_runs_are_guarded
