@@ -7,7 +7,7 @@ use vap_check::{CheckRefusal, CheckWhy, Checked, Which, check};
 use vap_lex::tokens;
 use vap_parse::parse;
 
-fn checked(alloc: Global, text: &[u8]) -> Result<Result<Checked, CheckRefusal>, Fail> {
+pub fn checked(alloc: Global, text: &[u8]) -> Result<Result<Checked, CheckRefusal>, Fail> {
     if text.len() > 1_048_576 {
         return Err(Fail::new("too long"));
     }

@@ -12,6 +12,8 @@ mod code_files;
 #[cfg(test)]
 mod codes;
 #[cfg(test)]
+mod compiles;
+#[cfg(test)]
 mod guard;
 #[cfg(test)]
 mod outside;
