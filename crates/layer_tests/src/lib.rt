@@ -22,6 +22,8 @@ mod passes;
 #[cfg(test)]
 mod plans;
 #[cfg(test)]
+mod readings;
+#[cfg(test)]
 mod seconds;
 #[cfg(test)]
 mod streams;
