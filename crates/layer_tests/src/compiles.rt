@@ -2,6 +2,7 @@
 ghost use Rattle.std.specs.Prelude.{◌≡◌, ◌<◌, ◌≤◌};
 
 use crate::checks::checked;
+use code_verify::Verified;
 use sig_types::{Command, CommandKind, DetNo, Fault, FaultKind, ReadingKind};
 use std::alloc::Global;
 use std::marker::Brand;
@@ -38,6 +39,14 @@ impl World for Table {
     }
 }
 
+// The code of a program.
+fn code_of(alloc: Global, text: &[u8]) -> Result<Verified, Fail> {
+    let Ok(checked) = checked(alloc, text)? else {
+        return Err(Fail::new("refused"));
+    };
+    Ok(compile(alloc, &checked)?)
+}
+
 // How the passes of the first 15 seconds end, and how many commands each gives.
 fn passes<L: Ledger>(
     alloc: Global,
@@ -48,10 +57,7 @@ fn passes<L: Ledger>(
     requires parts { blank.parts ≡ L.parts }
     requires some { 0 < L.parts }
 {
-    let Ok(checked) = checked(alloc, text)? else {
-        return Err(Fail::new("refused"));
-    };
-    let mut vm = Vm::new(alloc, compile(alloc, &checked)?)?;
+    let mut vm = Vm::new(alloc, code_of(alloc, text)?)?;
     let mut steps = Steps::<L>::new(blank);
     let mut ends = Vec::new(alloc);
     for second in 0..15u32 {

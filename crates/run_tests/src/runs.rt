@@ -1,4 +1,6 @@
 // The texts of whole runs, over files and sinks in memory.
+ghost use Rattle.std.specs.Prelude.{None};
+
 use junction_run::{Status, junction};
 use layer_tests::texts::{DARK, INTERGREENS, TIMES, TWO_STAGES};
 use sig_io::{Failed, Files, MemFiles, MemSink};
