@@ -1,0 +1,172 @@
+-- The controller's side after some seconds.
+use Rattle.std.proofs.Common.{◌≡◌, ◌∙◌, ℕ, ◌+◌, ◌<◌, List, [], ◌∷◌, ◌++◌, length, take, Option, Some, None, refl, sym, ap, subst, arith, length-append, append_assoc}
+use Rattle.std.specs.Prelude.{slice_index_or}
+use Rattle.std.proofs.lemmas.List.{append-nil}
+use Rattle.std.proofs.Math.Seq.{take-append-add}
+use Rattle.std.specs.Io.KnownBytes.{append_known}
+use Rattle.sig_io.specs.Draft.{IsCut}
+use Rattle.sig_types.specs.Counts.{Counts, Takes}
+use Rattle.sig_types.specs.Pass.{Logic}
+use Rattle.sig_types.specs.declared.record.Record.{Record}
+use Rattle.signal_log.specs.Log.{record_text, records_text}
+use Rattle.controller.specs.declared.controller.Controller.{Controller}
+use Rattle.controller.specs.Controls.{StandsFor, site_of, logic_of, plan_of, last_record}
+use Rattle.controller.specs.Past.{Site, Past}
+use Rattle.controller.specs.Second.{run_from, past_of, past_after, record_of, longer}
+use Rattle.controller.proofs.Runs.{run_from-more, past_of-more}
+use Rattle.det_board.specs.Passes.{Ticking, Takes as TickTakes}
+use Rattle.junction_live.specs.Play.{Loaded}
+use Rattle.junction_live.specs.Outcome.{log_of}
+use Rattle.junction_live.proofs.Loads.{loaded_none, loaded_more, takes_next}
+
+-- k seconds were made, of these frames, and their records were written
+pub record Running (k : ℕ) (tick : Ticking) (start now : Controller) (old new : Option (List ℕ)) : Type 0 where
+  pub made : List Counts
+  pub loaded : Loaded tick made
+  pub count : length made ≡ k
+  pub site : site_of now ≡ site_of start
+  pub logic_is : logic_of now ≡ logic_of start
+  pub stands : (past : Past) → StandsFor start past → past.frames ≡ [] → StandsFor now (past_of (logic_of start) (site_of start) past made)
+  pub written : (past : Past) → StandsFor start past → past.frames ≡ [] → new ≡ append_known old (log_of (logic_of start) (site_of start) past made)
+
+known-nil : (o : Option (List ℕ)) → o ≡ append_known o []
+known-nil None = refl
+known-nil (Some xs) = ap Some (sym (append-nil xs))
+
+known-twice : (o : Option (List ℕ)) (a b : List ℕ) → append_known (append_known o a) b ≡ append_known o (a ++ b)
+known-twice None a b = refl
+known-twice (Some xs) a b = ap Some (append_assoc xs a b)
+
+records_text-append : (names : List (List ℕ)) (rs qs : List Record) → records_text names (rs ++ qs) ≡ records_text names rs ++ records_text names qs
+unfolding records_text
+records_text-append names [] qs = refl
+records_text-append names (r ∷ rs) qs =
+    ap (λ l. record_text names r ++ l) (records_text-append names rs qs) ∙ sym (append_assoc (record_text names r) (records_text names rs) (records_text names qs))
+
+records_text-one : (names : List (List ℕ)) (r : Record) → records_text names (r ∷ []) ≡ record_text names r
+unfolding records_text
+records_text-one names r = append-nil (record_text names r)
+
+pub log_none : (logic : Logic) (site : Site) (past : Past) → log_of logic site past [] ≡ []
+unfolding records_text
+log_none logic site past = refl
+
+-- the log of one second more
+pub log_more : (logic : Logic) (site : Site) (past : Past) (fs : List Counts) (f : Counts) →
+    log_of logic site past (fs ++ f ∷ []) ≡ log_of logic site past fs ++ record_text site.plan.names (record_of logic site (past_of logic site past fs) f)
+log_more logic site past fs f =
+    let r = record_of logic site (past_of logic site past fs) f in
+    ap (records_text site.plan.names) (run_from-more logic site past fs f)
+    ∙ records_text-append site.plan.names (run_from logic site past fs) (r ∷ [])
+    ∙ ap (λ l. records_text site.plan.names (run_from logic site past fs) ++ l) (records_text-one site.plan.names r)
+
+pub past_of-frames : (logic : Logic) (site : Site) (past : Past) (fs : List Counts) → (past_of logic site past fs).frames ≡ past.frames ++ fs
+unfolding past_after
+past_of-frames logic site past [] = sym (append-nil past.frames)
+past_of-frames logic site past (f ∷ fs) = past_of-frames logic site (longer logic site past f) fs ∙ append_assoc past.frames (f ∷ []) fs
+
+pub frames_are : (logic : Logic) (site : Site) (past : Past) (fs : List Counts) → past.frames ≡ [] → (past_of logic site past fs).frames ≡ fs
+frames_are logic site past fs none = past_of-frames logic site past fs ∙ ap (λ l. l ++ fs) none
+
+-- a controller's plan is its site's
+pub plan_is : (c : Controller) → plan_of c ≡ (site_of c).plan
+unfolding plan_of site_of
+plan_is c = refl
+
+-- a text cut in its last piece
+cut_later : (start mid new : Option (List ℕ)) (n : ℕ) (front piece whole : List ℕ) → mid ≡ append_known start front →
+    whole ≡ front ++ piece → IsCut mid new n piece → IsCut start new (length front + n) whole
+cut_later start mid new n front piece whole so_far is cut =
+    let taken : take (length front + n) whole ≡ front ++ take n piece
+    = ap (λ bs. take (length front + n) bs) is ∙ take-append-add front piece n in
+    record {
+      some = omega (arith, ap length is, length-append front piece, cut.some);
+      taken = cut.taken ∙ ap (λ o. append_known o (take n piece)) so_far ∙ known-twice start front (take n piece)
+          ∙ ap (λ bs. append_known start bs) (sym taken);
+    }
+
+pub running_none : (tick : Ticking) (c : Controller) (out : Option (List ℕ)) → ((w : ℕ) → slice_index_or tick.loads w [] ≡ []) → Running 0 tick c c out out
+running_none tick c out unread = record {
+  made = [];
+  loaded = loaded_none tick unread;
+  count = refl;
+  site = refl;
+  logic_is = refl;
+  stands = λ past s none. s;
+  written = λ past s none. known-nil out ∙ ap (append_known out) (sym (log_none (logic_of c) (site_of c) past));
+}
+
+-- the frame just taken makes a second
+pub running_takes : (k : ℕ) (tick tick' : Ticking) (start now : Controller) (old new : Option (List ℕ)) (f : Counts) (r : Running k tick start now old new) → TickTakes 64 tick tick' f → k < 604801 →
+    (past : Past) → past.frames ≡ [] → Takes (past_of (logic_of start) (site_of start) past r.made).frames f
+running_takes k tick tick' start now old new f r t few past none =
+    subst (λ fs. Takes fs f) (sym (frames_are (logic_of start) (site_of start) past r.made none)) (takes_next tick tick' r.made f r.loaded t (omega (arith, r.count, few)))
+
+-- what `second` promises, said of the start's logic and site
+pub record Made (now after : Controller) (f : Counts) : Type 0 where
+  pub stands : (past : Past) → StandsFor now past → StandsFor after (longer (logic_of now) (site_of now) past f)
+  pub record_is : (past : Past) → StandsFor now past → last_record after ≡ record_of (logic_of now) (site_of now) past f
+  pub site : site_of after ≡ site_of now
+  pub logic_is : logic_of after ≡ logic_of now
+
+-- the text that a second's record has
+text_is : (start now after : Controller) (f : Counts) (past : Past) (rec : Record) (names : List (List ℕ)) → Made now after f → site_of now ≡ site_of start → logic_of now ≡ logic_of start → StandsFor now past →
+    rec ≡ last_record after → names ≡ (plan_of after).names → record_text names rec ≡ record_text (site_of start).plan.names (record_of (logic_of start) (site_of start) past f)
+text_is start now after f past rec names m site logic s is named =
+    let names_are : names ≡ (site_of start).plan.names = named ∙ ap (λ p. p.names) (plan_is after) ∙ ap (λ (x : Site). x.plan.names) (m.site ∙ site) in
+    let rec_is : rec ≡ record_of (logic_of start) (site_of start) past f = is ∙ m.record_is past s ∙ (λ i. record_of (logic i) (site i) past f) in
+    λ i. record_text (names_are i) (rec_is i)
+
+-- one record more is written
+pub written_more : (start now after : Controller) (past : Past) (made : List Counts) (f : Counts) (rec : Record) (names : List (List ℕ)) (old mid new : Option (List ℕ)) → Made now after f →
+    site_of now ≡ site_of start → logic_of now ≡ logic_of start → StandsFor now (past_of (logic_of start) (site_of start) past made) → rec ≡ last_record after → names ≡ (plan_of after).names →
+    mid ≡ append_known old (log_of (logic_of start) (site_of start) past made) → new ≡ append_known mid (record_text names rec) →
+    new ≡ append_known old (log_of (logic_of start) (site_of start) past (made ++ f ∷ []))
+written_more start now after past made f rec names old mid new m site logic s is named so_far text =
+    let p = past_of (logic_of start) (site_of start) past made in
+    let piece = text_is start now after f p rec names m site logic s is named in
+    text ∙ (λ i. append_known (so_far i) (piece i))
+    ∙ known-twice old (log_of (logic_of start) (site_of start) past made) (record_text (site_of start).plan.names (record_of (logic_of start) (site_of start) p f))
+    ∙ ap (append_known old) (sym (log_more (logic_of start) (site_of start) past made f))
+
+-- or cut
+pub cut_more : (start now after : Controller) (past : Past) (made : List Counts) (f : Counts) (rec : Record) (names : List (List ℕ)) (old mid new : Option (List ℕ)) (n : ℕ) → Made now after f →
+    site_of now ≡ site_of start → logic_of now ≡ logic_of start → StandsFor now (past_of (logic_of start) (site_of start) past made) → rec ≡ last_record after → names ≡ (plan_of after).names →
+    mid ≡ append_known old (log_of (logic_of start) (site_of start) past made) → IsCut mid new n (record_text names rec) →
+    (n : ℕ) × IsCut old new n (log_of (logic_of start) (site_of start) past (made ++ f ∷ []))
+cut_more start now after past made f rec names old mid new n m site logic s is named so_far cut =
+    let p = past_of (logic_of start) (site_of start) past made in
+    let piece = text_is start now after f p rec names m site logic s is named in (
+      length (log_of (logic_of start) (site_of start) past made) + n,
+      cut_later old mid new n (log_of (logic_of start) (site_of start) past made) (record_text (site_of start).plan.names (record_of (logic_of start) (site_of start) p f)) _
+          so_far (log_more (logic_of start) (site_of start) past made f) (subst (λ bs. IsCut mid new n bs) piece cut),
+    )
+
+pub running_more : (k : ℕ) (tick tick' : Ticking) (start now after : Controller) (old new new' : Option (List ℕ)) (f : Counts) (rec : Record) (names : List (List ℕ)) → Running k tick start now old new →
+    TickTakes 64 tick tick' f → Made now after f → rec ≡ last_record after → names ≡ (plan_of after).names → new' ≡ append_known new (record_text names rec) → Running (k + 1) tick' start after old new'
+running_more k tick tick' start now after old new new' f rec names r t m is named text = record {
+  made = r.made ++ f ∷ [];
+  loaded = loaded_more tick tick' r.made f r.loaded t;
+  count = length-append r.made (f ∷ []) ∙ ap (λ n. n + 1) r.count;
+  site = m.site ∙ r.site;
+  logic_is = m.logic_is ∙ r.logic_is;
+  stands = λ past s none.
+      let p = past_of (logic_of start) (site_of start) past r.made in
+      let on : longer (logic_of now) (site_of now) p f ≡ past_of (logic_of start) (site_of start) past (r.made ++ f ∷ []) =
+      (λ i. longer (r.logic_is i) (r.site i) p f) ∙ sym (past_of-more (logic_of start) (site_of start) past r.made f) in
+      subst (λ q. StandsFor after q) on (m.stands p (r.stands past s none));
+  written = λ past s none. written_more start now after past r.made f rec names old new new' m r.site r.logic_is (r.stands past s none) is named (r.written past s none) text;
+}
+
+-- after a fault of the sink, in the text of the second just made
+pub running_fault : (k : ℕ) (tick tick' : Ticking) (start now after : Controller) (old new new' : Option (List ℕ)) (f : Counts) (rec : Record) (names : List (List ℕ)) (n : ℕ) (r : Running k tick start now old new) →
+    Made now after f → rec ≡ last_record after → names ≡ (plan_of after).names → IsCut new new' n (record_text names rec) →
+    (past : Past) → StandsFor start past → past.frames ≡ [] →
+    StandsFor after (past_of (logic_of start) (site_of start) past (r.made ++ f ∷ [])) × ((n : ℕ) × IsCut old new' n (log_of (logic_of start) (site_of start) past (r.made ++ f ∷ [])))
+running_fault k tick tick' start now after old new new' f rec names n r m is named cut past s none =
+    let p = past_of (logic_of start) (site_of start) past r.made in
+    let on : longer (logic_of now) (site_of now) p f ≡ past_of (logic_of start) (site_of start) past (r.made ++ f ∷ []) =
+    (λ i. longer (r.logic_is i) (r.site i) p f) ∙ sym (past_of-more (logic_of start) (site_of start) past r.made f) in (
+      subst (λ q. StandsFor after q) on (m.stands p (r.stands past s none)),
+      cut_more start now after past r.made f rec names old new new' n m r.site r.logic_is (r.stands past s none) is named (r.written past s none) cut,
+    )

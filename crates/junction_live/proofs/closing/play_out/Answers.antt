@@ -1,0 +1,75 @@
+use Rattle.std.proofs.Common.{◌∙◌, ◌∷◌, [], ◌++◌, length, sym, ap, subst, arith, length-append}
+use Rattle.sig_types.specs.Counts.{Takes}
+use Rattle.controller.specs.Controls.{site_of, logic_of}
+use Rattle.controller.specs.Second.{past_of}
+use Rattle.junction_live.specs.Outcome.{Written}
+use Rattle.junction_live.proofs.Ended.{cut_live, done_is}
+use Rattle.junction_live.proofs.ClosingSecond.{Ready, takes_close, same_sums, no_more, ahead_closed, all_passes}
+use Rattle.junction_live.proofs.Loads.{never_ahead}
+use Rattle.junction_live.proofs.Running.{Made, frames_are, written_more, cut_more}
+use Rattle.junction_live.proofs.closing.play_out.Goals as goal
+
+pub end_board-closing-requires : goal.end_board-closing-requires
+end_board-closing-requires g c =
+    let p = c.play_apart-status in
+    all_passes c.args.board c.args.frames.now c.args.feeders.items p.new.feeders.items c.args.tick p.result.2 c.requires.opening p.ensures.feeders p.ensures.feeders_count p.ensures.tick
+
+pub second-requires : goal.second-requires
+second-requires g c =
+    let e = c.play_apart-status.ensures in
+    let p = c.play_apart-status in
+    let m = e.made in
+    let f = c.end_board-closing.result in
+    let ready : Ready c.args.board c.args.frames.now c.args.feeders.items p.new.feeders.items c.args.tick p.result.2 m.0 f =
+    record { opening = c.requires.opening; played = e.feeders; count = e.feeders_count; loaded = m.1; closes = c.end_board-closing.ensures } in
+    let st = c.requires.none_made in
+    let start = c.args.controller in (
+      past_of (logic_of start) (site_of start) st.0 m.0,
+      (m.3 st.0 st.1 st.2).0,
+      subst (λ fs. Takes fs f) (sym (frames_are (logic_of start) (site_of start) st.0 m.0 st.2)) (takes_close _ _ _ _ _ _ m.0 f ready (omega (arith, m.2, c.requires.frames.few))),
+    )
+
+pub returns-then-not-is_done-clause-live : goal.returns-then-not-is_done-clause-live
+returns-then-not-is_done-clause-live g c = λ past s none.
+    let e = c.play_apart-status.ensures in
+    let p = c.play_apart-status in
+    let m = e.made in
+    let f = c.end_board-closing.result in
+    let ready : Ready c.args.board c.args.frames.now c.args.feeders.items p.new.feeders.items c.args.tick p.result.2 m.0 f =
+    record { opening = c.requires.opening; played = e.feeders; count = e.feeders_count; loaded = m.1; closes = c.end_board-closing.ensures } in
+    cut_live p.result.0 c.args.frames.now m.0 _ _ past _ _ (sym c.is_done.ensures ∙ c.if-not-is_done.true) (m.3 past s none).1 (never_ahead p.result.2 m.0 m.1) (no_more _ _ _ _ _ _ m.0 f ready)
+
+pub returns-in-Ok-clause-live : goal.returns-in-Ok-clause-live
+returns-in-Ok-clause-live g c = λ past s none.
+    let e = c.play_apart-status.ensures in
+    let p = c.play_apart-status in
+    let m = e.made in
+    let f = c.end_board-closing.result in
+    let ready : Ready c.args.board c.args.frames.now c.args.feeders.items p.new.feeders.items c.args.tick p.result.2 m.0 f =
+    record { opening = c.requires.opening; played = e.feeders; count = e.feeders_count; loaded = m.1; closes = c.end_board-closing.ensures } in
+    let made' : Made p.result.1 c.second.new.self f = record { stands = c.second.ensures.stands; record_is = c.second.ensures.record; site = c.second.ensures.site; logic_is = c.second.ensures.logic } in
+    let w = subst (λ st. Written st (length c.args.frames.now) (logic_of c.args.controller) (site_of c.args.controller) past m.0 (g.O.Sink.taken c.args.out.now) (g.O.Sink.taken p.new.out)) (done_is _ (sym c.is_done.ensures ∙ c.if-not-is_done.false)) (m.3 past s none).1 in (
+      m.0 ++ f ∷ [],
+      omega (arith, length-append m.0 (f ∷ []), w.0),
+      written_more c.args.controller p.result.1 c.second.new.self past m.0 f c.last.result.now c.plan.result.now.names _ _ _ made' e.site e.logic (m.3 past s none).0 c.last.ensures (ap (λ q. q.names) c.plan.ensures) w.1 c.in-Ok.ensures.ok,
+      ahead_closed _ _ _ _ _ _ m.0 f ready,
+      same_sums _ _ _ _ _ _ m.0 f ready,
+    )
+
+pub returns-clause-live : goal.returns-clause-live
+returns-clause-live g c = λ past s none.
+    let e = c.play_apart-status.ensures in
+    let p = c.play_apart-status in
+    let m = e.made in
+    let f = c.end_board-closing.result in
+    let ready : Ready c.args.board c.args.frames.now c.args.feeders.items p.new.feeders.items c.args.tick p.result.2 m.0 f =
+    record { opening = c.requires.opening; played = e.feeders; count = e.feeders_count; loaded = m.1; closes = c.end_board-closing.ensures } in
+    let made' : Made p.result.1 c.second.new.self f = record { stands = c.second.ensures.stands; record_is = c.second.ensures.record; site = c.second.ensures.site; logic_is = c.second.ensures.logic } in
+    let w = subst (λ st. Written st (length c.args.frames.now) (logic_of c.args.controller) (site_of c.args.controller) past m.0 (g.O.Sink.taken c.args.out.now) (g.O.Sink.taken p.new.out)) (done_is _ (sym c.is_done.ensures ∙ c.if-not-is_done.false)) (m.3 past s none).1 in
+    let same = same_sums _ _ _ _ _ _ m.0 f ready in (
+      m.0 ++ f ∷ [],
+      omega (arith, length-append m.0 (f ∷ []), w.0),
+      cut_more c.args.controller p.result.1 c.second.new.self past m.0 f c.last.result.now c.plan.result.now.names _ _ _ _ made' e.site e.logic (m.3 past s none).0 c.last.ensures (ap (λ q. q.names) c.plan.ensures) w.1 c.in-Err.ensures.fault,
+      ahead_closed _ _ _ _ _ _ m.0 f ready,
+      λ d low. let q = same d low in (omega (arith, q.0), omega (arith, q.1)),
+    )

@@ -1,0 +1,71 @@
+-- What a status says of the seconds that were made and of what was written.
+use Rattle.std.specs.Prelude.{◌≡◌, ℕ, ◌+◌, ◌≤◌, Bool, true, false, List, [], length, Option}
+use Rattle.std.specs.Io.KnownBytes.{append_known}
+use Rattle.sig_io.specs.Draft.{IsCut}
+use Rattle.sig_types.specs.Counts.{Counts}
+use Rattle.sig_types.specs.Pass.{Logic}
+use Rattle.signal_log.specs.Log.{records_text}
+use Rattle.controller.specs.declared.controller.Controller.{Controller}
+use Rattle.controller.specs.Controls.{StandsFor, site_of, logic_of}
+use Rattle.controller.specs.Past.{Site, Past}
+use Rattle.controller.specs.Second.{past_of, run_from}
+use Rattle.det_board.specs.Passes.{Ticking}
+use Rattle.junction_run.specs.declared.status.Status.{Status}
+use Rattle.junction_run.specs.declared.status.Status.TheVariants.{Done, Memory, Words, ReadFault, WriteFault, RefusedFile, RefusedLine, TooLong}
+use Rattle.junction_live.specs.Play.{Loaded, NeverAhead, SameSums, NoMore}
+
+-- the records of these frames after a past
+abbrev pub log_of : Logic → Site → Past → List Counts → List ℕ
+log_of logic site past made = records_text site.plan.names (run_from logic site past made)
+
+-- of that many seconds those of these frames were made, and their records written, or cut
+abbrev pub Written : Status → ℕ → Logic → Site → Past → List Counts → Option (List ℕ) → Option (List ℕ) → Type 0
+Written Done seconds logic site past made old new = (length made ≡ seconds) × (new ≡ append_known old (log_of logic site past made))
+Written WriteFault seconds logic site past made old new = (length made ≤ seconds) × ((n : ℕ) × IsCut old new n (log_of logic site past made))
+Written Memory seconds logic site past made old new = ⊥
+Written Words seconds logic site past made old new = ⊥
+Written ReadFault seconds logic site past made old new = ⊥
+Written RefusedFile seconds logic site past made old new = ⊥
+Written RefusedLine seconds logic site past made old new = ⊥
+Written TooLong seconds logic site past made old new = ⊥
+
+-- all seconds were made, and their records written
+abbrev pub is_done : Status → Bool
+is_done Done = true
+is_done Memory = false
+is_done Words = false
+is_done ReadFault = false
+is_done WriteFault = false
+is_done RefusedFile = false
+is_done RefusedLine = false
+is_done TooLong = false
+
+-- the controller has made no second
+abbrev pub HasMadeNone : Controller → Type 0
+HasMadeNone controller = (past : Past) × StandsFor controller past × (past.frames ≡ [])
+
+-- of at most that many frames, which are what the tick's loads gained, the controller made the seconds
+abbrev pub SecondsMade : ℕ → Status → Controller → Controller → Ticking → Option (List ℕ) → Option (List ℕ) → Type 0
+SecondsMade seconds status start now tick old new =
+    (made : List Counts) × Loaded tick made × (length made ≤ seconds)
+    × ((past : Past) → StandsFor start past → past.frames ≡ [] →
+    StandsFor now (past_of (logic_of start) (site_of start) past made)
+    × Written status seconds (logic_of start) (site_of start) past made old new)
+
+-- a whole live run over these frames: each of their events is in one of the seconds, and none is ahead of its time
+abbrev pub Live : Status → List Counts → Logic → Site → Past → Option (List ℕ) → Option (List ℕ) → Type 0
+Live Done frames logic site past old new =
+    (made : List Counts) × (length made ≡ length frames + 1) × (new ≡ append_known old (log_of logic site past made)) × NeverAhead made × SameSums frames made
+Live WriteFault frames logic site past old new =
+    (made : List Counts) × (length made ≤ length frames + 1) × ((n : ℕ) × IsCut old new n (log_of logic site past made)) × NeverAhead made × NoMore frames made
+Live Memory frames logic site past old new = ⊥
+Live Words frames logic site past old new = ⊥
+Live ReadFault frames logic site past old new = ⊥
+Live RefusedFile frames logic site past old new = ⊥
+Live RefusedLine frames logic site past old new = ⊥
+Live TooLong frames logic site past old new = ⊥
+
+-- a live run of a controller that had made no second
+abbrev pub IsLiveLog : Status → List Counts → Controller → Option (List ℕ) → Option (List ℕ) → Type 0
+IsLiveLog status frames start old new =
+    (past : Past) → StandsFor start past → past.frames ≡ [] → Live status frames (logic_of start) (site_of start) past old new

@@ -1,0 +1,16 @@
+//! A live run: feeders play recorded detectors into the words of a board while a controller takes them, second by second.
+//!
+//! No lock stands between them. What the controller takes is what was loaded of the words, each event is in one second, and
+//! no detector has more rears than fronts at any time.
+#![tactic(auto)]
+
+mod apart;
+mod beside;
+mod closing;
+mod feed;
+mod feeders;
+mod seconds;
+
+pub use apart::play_apart;
+pub use beside::play;
+pub use closing::play_out;

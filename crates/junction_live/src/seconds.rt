@@ -1,0 +1,45 @@
+// The controller's side.
+ghost use Rattle.std.specs.Prelude.{◌≡◌, ℕ, ◌≤◌, [], slice_index_or};
+ghost use Rattle.sig_io.specs.Outside.{Rose};
+ghost use Rattle.controller.specs.Controls.{site_of, logic_of};
+ghost use Rattle.junction_live.specs.Outcome.{HasMadeNone, SecondsMade};
+
+use controller::Controller;
+use det_board::{Board, TickPass};
+use junction_run::Status;
+use sig_io::{Gate, Sink};
+use sig_types::Frame;
+use signal_log::write_second;
+
+/// Takes a frame and makes a second, `seconds` times. After a fault of the sink no further second is made.
+pub fn run_seconds<O: Sink, G: Gate>(
+    controller: &mut Controller,
+    tick: &mut TickPass,
+    board: &Board,
+    seconds: u32,
+    out: &mut O,
+    gate: &G,
+) -> Status
+    requires board { (tick.old.table ≡ board.now.table) × (board.now.detectors ≡ 64) }
+    requires none_made { HasMadeNone controller.old }
+    requires unread { (w : ℕ) → slice_index_or tick.old.loads w [] ≡ [] }
+    requires at_most { seconds ≤ 604800 }
+    ensures table { tick.new.table ≡ tick.old.table }
+    ensures made { SecondsMade seconds result controller.old controller.new tick.new (O.taken out.old) (O.taken out.new) }
+    ensures site { site_of controller.new ≡ site_of controller.old }
+    ensures logic { logic_of controller.new ≡ logic_of controller.old }
+    ensures later { O.faults out.old ≤ O.faults out.new }
+    ensures cause { result ≡ Status.WriteFault → Rose (O.faults out.old) (O.faults out.new) }
+{
+    let mut frame = Frame::empty();
+    for k in 0..seconds {
+        gate.pass(0, k);
+        tick.take(board, &mut frame);
+        controller.second(&frame);
+        match write_second(controller.last(), controller.plan(), out) {
+            Ok(()) => {}
+            Err(_) => return Status::WriteFault,
+        }
+    }
+    Status::Done
+}
