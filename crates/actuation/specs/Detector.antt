@@ -1,7 +1,7 @@
 -- What is kept of one detector, and how one second changes it.
 use Rattle.std.specs.Prelude.{◌≡◌, ℕ, ◌+◌, ◌-◌, ◌≤◌, ◌==◌, ◌&&◌, ◌||◌, Bool, true, false, List, slice_index_or, Option, Some, None, if◌then◌else◌, nat_lt, ℤ, pos}
-use Rattle.sig_types.specs.declared.aspect.ReadingKind.{ReadingKind}
-use Rattle.sig_types.specs.declared.aspect.ReadingKind.TheVariants.{Detection, Occupancy, Headway, FrontEnds, RearEnds, IsRed, IsRedAmber, IsGreen, IsAmber, TGreen, TRed, StageActive, StageDuration, InterstageActive, AnyInterstage}
+use Rattle.sig_types.specs.declared.kinds.ReadingKind.{ReadingKind}
+use Rattle.sig_types.specs.declared.kinds.ReadingKind.TheVariants.{Detection, Occupancy, Headway, FrontEnds, RearEnds, IsRed, IsRedAmber, IsGreen, IsAmber, TGreen, TRed, StageActive, StageDuration, InterstageActive, AnyInterstage}
 use Rattle.sig_types.specs.Counts.{Counts}
 use Rattle.sig_types.specs.Detectors.{headway_of}
 use Rattle.sig_types.specs.Number.{truth}

@@ -1,7 +1,6 @@
 // One detector.
-ghost use Rattle.std.specs.Prelude.{◌≡◌, ◌+◌, ◌<◌, ◌≤◌, ℕ, IfSome, pos};
-ghost use Rattle.sig_types.specs.Detectors.{detector_of, detector_number, headway_of, is_detector};
-ghost use Rattle.sig_types.specs.Number.{truth};
+ghost use Rattle.std.specs.Prelude.{◌≡◌, ◌+◌, ◌<◌, ◌≤◌, IfSome, pos};
+ghost use Rattle.sig_types.specs.Detectors.{detector_of, detector_number, headway_of};
 ghost use Rattle.actuation.specs.Detector.{last_detection, advanced, occupied_at, detected_at, is_now, reading_of};
 
 use sig_types::{DetNo, ReadingKind};

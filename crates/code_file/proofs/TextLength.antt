@@ -7,10 +7,10 @@ use Rattle.std.proofs.lemmas.Bool.{and_parts}
 use Rattle.std.proofs.lemmas.Bool.Decides.{nat_tests}
 use Rattle.std.proofs.lemmas.Fmt.{length-decimal-le}
 use Rattle.sig_types.specs.Number.{fits}
-use Rattle.sig_types.specs.declared.aspect.ReadingKind.{ReadingKind}
-use Rattle.sig_types.specs.declared.aspect.ReadingKind.TheVariants as reading
-use Rattle.sig_types.specs.declared.aspect.CommandKind.{CommandKind}
-use Rattle.sig_types.specs.declared.aspect.CommandKind.TheVariants as command
+use Rattle.sig_types.specs.declared.kinds.ReadingKind.{ReadingKind}
+use Rattle.sig_types.specs.declared.kinds.ReadingKind.TheVariants as reading
+use Rattle.sig_types.specs.declared.kinds.CommandKind.{CommandKind}
+use Rattle.sig_types.specs.declared.kinds.CommandKind.TheVariants as command
 use Rattle.vap_code.specs.declared.Instr.{Instr}
 use Rattle.vap_code.specs.declared.Instr.TheVariants.{Tick, Push, Load, Store, Cell, SetCell, Timer, Neg, Not, Add, Sub, Mul, Div, Eq, Ne, Lt, Le, Gt, Ge, And, Or, Read, Do, Start, Stop, Reset, Jump, JumpZero, Call, Ret}
 use Rattle.code_file.specs.Text.{line, values_text, array_line, start_line, instr_text, instr_line, reading_word, command_word, counts_text, routines_text, body_text, code_text, InstrFits, AllFit, ArrayFits, room_after, StartFits, last_after, InstrStands, nothing_after}

@@ -1,9 +1,9 @@
 // The forms of lines.
-ghost use Rattle.std.specs.Prelude.{◌≡◌, ◌≤◌, IfOk, None, Some, MatchOption};
+ghost use Rattle.std.specs.Prelude.{◌≡◌, ◌≤◌, IfOk, None, Some};
 ghost use Rattle.std.specs.Prelude.{pos, is_some};
 ghost use Rattle.std.specs.Option.{option_map};
 ghost use Rattle.sig_types.specs.Text.{number_of};
-ghost use Rattle.code_file.specs.Reading.{within_range, is_line, count_in, start_in, instr_in, with_operand, instr_by, pushed, signed_of, numbered, find_word, number_words, reading_words, command_words, or_line, below_zero, size_in};
+ghost use Rattle.code_file.specs.Reading.{within_range, is_line, count_in, start_in, instr_in, with_operand, pushed, signed_of, numbered, find_word, number_words, reading_words, command_words, or_line, below_zero, size_in};
 ghost use Rattle.code_file.specs.Values.{as_value};
 
 use crate::refusal::CodeWhy;

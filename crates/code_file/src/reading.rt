@@ -6,7 +6,6 @@ ghost use Rattle.code_file.specs.Text.{room_after, last_after, nothing_after};
 ghost use Rattle.code_file.specs.Reading.{judged_at, many_at, count_in, is_line, start_in, instr_after, size_in, array_in, counts_at, routines_at, body_at, code_of};
 ghost use Rattle.code_file.specs.Refusal.{Gives};
 ghost use Rattle.code_file.specs.Cursors.{place_of};
-ghost use Rattle.std.specs.Prelude.{codes};
 ghost use Rattle.vap_code.specs.Machine.{last_start};
 ghost use Rattle.vap_code.specs.Valid.{HasShape};
 

@@ -1,12 +1,12 @@
 // Writing a code.
-ghost use Rattle.std.specs.Prelude.{◌≡◌, ◌+◌, ◌*◌, ◌^◌, ◌<◌, ◌≤◌, ◌++◌, ◌∷◌, [], ℕ, List, length, map, get_or, pos, Option, OnOk, IfErr, codes};
+ghost use Rattle.std.specs.Prelude.{◌≡◌, ◌+◌, ◌*◌, ◌^◌, ◌<◌, ◌≤◌, ◌++◌, ◌∷◌, [], ℕ, List, length, map, get_or, pos, Option, OnOk, IfErr};
 ghost use Rattle.std.specs.List.{flat_map, All};
 ghost use Rattle.std.specs.Fmt.{decimal, signed_decimal};
 ghost use Rattle.std.specs.Io.KnownBytes.{append_known};
 ghost use Rattle.sig_io.specs.Draft.{IsDraft, IsCut, FailsOnly};
 ghost use Rattle.sig_io.specs.Outside.{HasCause};
 ghost use Rattle.vap_code.specs.Codes.{code_in};
-ghost use Rattle.code_file.specs.Text.{line, instr_text, instr_line, start_line, reading_word, command_word, array_line, code_text, counts_text, routines_text, body_text};
+ghost use Rattle.code_file.specs.Text.{line, instr_text, instr_line, reading_word, command_word, array_line, code_text, counts_text, routines_text, body_text};
 ghost use Rattle.vap_code.specs.Valid.{HasShape};
 
 use code_verify::Verified;

@@ -6,17 +6,17 @@ use Rattle.std.proofs.Math.ListN.{length-set, length-map}
 use Rattle.std.specs.List.{All}
 use Rattle.std.proofs.lemmas.List.Elements.{All-set, All-get_or}
 use Rattle.std.proofs.Common.{set, map}
-use Rattle.sig_types.specs.declared.aspect.FaultKind.{FaultKind}
+use Rattle.sig_types.specs.declared.kinds.FaultKind.{FaultKind}
 use Rattle.sig_types.specs.declared.numbers.Command.{Command}
 use Rattle.sig_types.specs.declared.numbers.Clock.{Clock}
-use Rattle.sig_types.specs.declared.aspect.ReadingKind.{ReadingKind}
-use Rattle.sig_types.specs.declared.aspect.CommandKind.{CommandKind}
-use Rattle.sig_types.specs.declared.aspect.TimerKind.{TimerKind}
-use Rattle.sig_types.specs.declared.aspect.TimerKind.TheVariants.{Start as Start_timer, Stop as Stop_timer, Reset as Reset_timer}
+use Rattle.sig_types.specs.declared.kinds.ReadingKind.{ReadingKind}
+use Rattle.sig_types.specs.declared.kinds.CommandKind.{CommandKind}
+use Rattle.sig_types.specs.declared.kinds.TimerKind.{TimerKind}
+use Rattle.sig_types.specs.declared.kinds.TimerKind.TheVariants.{Start as Start_timer, Stop as Stop_timer, Reset as Reset_timer}
 use Rattle.sig_types.specs.Number.{Answer, bounded, truth, holds, quotient, equal}
 use Rattle.sig_types.specs.Pass.{Store as StoreOf, World, End, set_variable, cell, set_cell, set_cell_at, set_timer, clock_after, read, command, given}
-use Rattle.sig_types.specs.declared.aspect.CommandKind.TheVariants.{Interstage}
-use Rattle.sig_types.specs.declared.aspect.ReadingKind.TheVariants.{InterstageActive, AnyInterstage}
+use Rattle.sig_types.specs.declared.kinds.CommandKind.TheVariants.{Interstage}
+use Rattle.sig_types.specs.declared.kinds.ReadingKind.TheVariants.{InterstageActive, AnyInterstage}
 use Rattle.vap_code.specs.declared.Instr.{Instr}
 use Rattle.vap_code.specs.declared.Instr.TheVariants.{Tick, Push, Load, Store, Cell, SetCell, Timer, Neg, Not, Add, Sub, Mul, Div, Eq, Ne, Lt, Le, Gt, Ge, And, Or, Read, Do, Start, Stop, Reset, Jump, JumpZero, Call, Ret}
 use Rattle.vap_code.specs.Codes.{CodeOf}

@@ -2,7 +2,7 @@
 use Rattle.std.proofs.Common.{◌≡◌, ℕ, zero, suc, ◌+◌, ◌*◌, ◌≤◌, List, [], ◌∷◌, refl, ◌∙◌, arith}
 use Rattle.std.specs.Prelude.{pos, negsuc, Ok, Err}
 use Rattle.sig_types.specs.Number.{quotient}
-use Rattle.sig_types.specs.declared.aspect.FaultKind.TheVariants.{Budget, Overflow, ZeroDivisor}
+use Rattle.sig_types.specs.declared.kinds.FaultKind.TheVariants.{Budget, Overflow, ZeroDivisor}
 use Rattle.sig_types.specs.Pass.{Store as StoreOf, World, Faulted}
 use Rattle.vap_code.specs.declared.Instr.{Instr}
 use Rattle.vap_code.specs.declared.Instr.TheVariants.{Tick, Push, Load, Store, Div, Jump, Call, Ret}

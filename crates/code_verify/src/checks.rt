@@ -2,7 +2,7 @@
 
 ghost use Rattle.std.specs.Prelude.{◌≡◌, ℕ, ◌+◌, ◌<◌, ◌≤◌, ◌^◌, ◌↔◌, length, slice_index, slice_index_or, IsTrue, IfSome};
 ghost use Rattle.vap_code.specs.Codes.{code_in};
-ghost use Rattle.vap_code.specs.Valid.{heights as heights_of, FitsCheck, HasShape, HeightFits, SlotFits, CallFits, EdgeFits, Passed, check_rank, routine_of as routine_at};
+ghost use Rattle.vap_code.specs.Valid.{heights as heights_of, FitsCheck, HasShape, HeightFits, SlotFits, CallFits, EdgeFits, Passed, check_rank};
 ghost use Rattle.code_verify.specs.Tables.{IsTables};
 ghost use Rattle.vap_code.specs.declared.VerifyWhy.TheVariants.{JumpOut, BackToNoTick, Height, Slot, CallOrder, EdgeToNoTick, FallsOff, Stretch, Commands};
 

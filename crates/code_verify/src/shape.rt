@@ -1,6 +1,6 @@
 // The counts, the arrays, the starts of routines and the lines of ticks.
 
-ghost use Rattle.std.specs.Prelude.{◌≡◌, ℕ, ◌≤◌, ◌<◌, ◌↔◌, length, map, sum, IsTrue, slice_index, slice_index_or};
+ghost use Rattle.std.specs.Prelude.{◌≡◌, ℕ, ◌≤◌, ◌<◌, ◌↔◌, length, map, sum, IsTrue, slice_index};
 ghost use Rattle.std.specs.List.{All};
 ghost use Rattle.code_verify.specs.Shape.{CountsFit, ArraysFit, StartsFit};
 ghost use Rattle.vap_code.specs.Codes.{code_in};

@@ -1,10 +1,10 @@
 // The heights, stretches and command counts of all places.
 
-ghost use Rattle.std.specs.Prelude.{◌≡◌, ℕ, ◌+◌, ◌-◌, ◌<◌, ◌≤◌, length, slice_index, slice_index_or, drop, IfOk, IsTrue, Option, None, true, if◌then◌else◌};
+ghost use Rattle.std.specs.Prelude.{◌≡◌, ℕ, ◌+◌, ◌-◌, ◌<◌, ◌≤◌, length, slice_index, slice_index_or, drop, IfOk, Option, None, true, if◌then◌else◌};
 ghost use Rattle.vap_code.specs.Codes.{code_in};
-ghost use Rattle.vap_code.specs.Valid.{from_first, height_after as height_after_of, begins as begins_at, greatest as greatest_of, later_at, is_tick as is_tick_of, instr_at, FitsCheck};
+ghost use Rattle.vap_code.specs.Valid.{from_first, height_after as height_after_of, begins as begins_at, greatest as greatest_of, later_at, is_tick as is_tick_of, instr_at};
 ghost use Rattle.code_verify.specs.Tables.{first_jump, first_some, brings, number_of, numbers as numbers_of, IsTables, JumpsAhead};
-ghost use Rattle.vap_code.specs.declared.VerifyWhy.TheVariants.{Shape, JumpOut, BackToNoTick};
+ghost use Rattle.vap_code.specs.declared.VerifyWhy.TheVariants.{Shape};
 ghost use Rattle.vap_code.specs.Valid.{Passed, HasShape};
 
 use crate::instrs::{goes_on, is_tick, leaves, target};

@@ -3,8 +3,8 @@ use Rattle.std.specs.Prelude.{◌≡◌, ℕ, ◌+◌, ◌<◌, ◌≤◌, Bool,
 use Rattle.sig_types.specs.declared.aspect.Aspect.TheVariants.{Red}
 use Rattle.sig_types.specs.declared.numbers.Command.{Command}
 use Rattle.sig_types.specs.declared.numbers.Command.TheVariants.{Interstage}
-use Rattle.sig_types.specs.declared.numbers.StageRefusal.{StageRefusal}
-use Rattle.sig_types.specs.declared.numbers.TurnRefusal.{TurnRefusal}
+use Rattle.sig_types.specs.declared.refused.StageRefusal.{StageRefusal}
+use Rattle.sig_types.specs.declared.refused.TurnRefusal.{TurnRefusal}
 use Rattle.sig_types.specs.declared.record.Record.{Record}
 use Rattle.sig_types.specs.Counts.{Counts}
 use Rattle.sig_types.specs.Pass.{End, Logic, Store, commands_after}

@@ -1,7 +1,6 @@
 // The world of a pass.
-ghost use Rattle.std.specs.Prelude.{◌≡◌, ◌-◌, ◌+◌, ◌<◌, ◌≤◌, ◌^◌, ℕ, List, Option, Some, None, IfSome, length};
+ghost use Rattle.std.specs.Prelude.{◌≡◌, ◌-◌, ◌+◌, ◌<◌, ◌≤◌, ◌^◌, List, Option, Some, None, IfSome};
 ghost use Rattle.controller.specs.Commanded.{IsCommand};
-ghost use Rattle.sig_types.specs.Pass.{World as WorldOf};
 ghost use Rattle.sig_types.specs.Number.{truth};
 ghost use Rattle.std.specs.Prelude.{pos, if◌then◌else◌};
 ghost use Rattle.controller.specs.World.{same_aspect, is_stage, is_between, is_inter, command_in};

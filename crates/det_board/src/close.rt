@@ -1,7 +1,7 @@
 // Closing a board.
-ghost use Rattle.std.specs.Prelude.{◌≡◌, ℕ, ◌+◌, ◌*◌, ◌<◌, ◌≤◌, [], slice_set, slice_get, slice_index_or, length, Some};
+ghost use Rattle.std.specs.Prelude.{◌≡◌, ℕ, ◌+◌, ◌*◌, ◌<◌, ◌≤◌, [], slice_set, slice_index_or, length, Some};
 ghost use Rattle.det_board.specs.Rule.{dealt_of, loads_of, owned_of};
-ghost use Rattle.det_board.specs.Passes.{AreAll, Closes, GivenBack, WithinCounts};
+ghost use Rattle.det_board.specs.Passes.{AreAll, Closes, WithinCounts};
 ghost use Rattle.det_board.specs.declared.view.View.TheVariants.{Tick};
 
 use crate::board::{Board, FeederPass};

@@ -1,6 +1,6 @@
 // Making a board.
 ghost use Rattle.std.specs.Prelude.{◌≡◌, ◌+◌, ◌*◌, ◌<◌, ◌≤◌, [], replicate, IfOk};
-ghost use Rattle.det_board.specs.Passes.{IsOpening, AreAll, Closes, Undealt};
+ghost use Rattle.det_board.specs.Passes.{IsOpening, Undealt};
 
 use crate::board::{Board, FeederPass};
 use crate::rule::Deal;

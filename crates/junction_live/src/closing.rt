@@ -1,9 +1,8 @@
 // All seconds of a live run, the closing one with them, over frames that were read.
-ghost use Rattle.std.specs.Prelude.{◌≡◌, ◌≤◌, [], length};
+ghost use Rattle.std.specs.Prelude.{◌≡◌, ◌≤◌, []};
 ghost use Rattle.sig_io.specs.Outside.{Rose};
 ghost use Rattle.sig_types.specs.Counts.{AreFrames};
 ghost use Rattle.controller.specs.Past.{Past};
-ghost use Rattle.controller.specs.Controls.{StandsFor, site_of, logic_of};
 ghost use Rattle.det_board.specs.Passes.{IsOpening};
 ghost use Rattle.junction_live.specs.Outcome.{HasMadeNone, IsLiveLog, is_done as is_done_lem};
 

@@ -2,10 +2,8 @@
 ghost use Rattle.std.specs.Prelude.{◌≡◌, ◌≤◌, ℕ, IfOk, IfErr, None, length};
 ghost use Rattle.std.specs.Option.{ForSome};
 ghost use Rattle.sig_io.specs.Outside.{Rose};
-ghost use Rattle.sig_types.specs.Rules.{IsTwoWay};
 ghost use Rattle.pua_model.specs.Plan.{groups_in};
 ghost use Rattle.pua_reader.specs.Accepted.{refusal_of, plan_of_text};
-ghost use Rattle.sig_tables.specs.SiteRules.{rules_of};
 ghost use Rattle.sig_tables.specs.TimesTable.{times_refusal, times_of};
 ghost use Rattle.sig_tables.specs.IntergreenTable.{intergreens_refusal, intergreen_of};
 ghost use Rattle.sig_tables.specs.Pairs.{between};

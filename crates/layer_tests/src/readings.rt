@@ -1,5 +1,5 @@
 // What one detector reads, second by second.
-ghost use Rattle.std.specs.Prelude.{◌≡◌, ◌<◌, List, length};
+ghost use Rattle.std.specs.Prelude.{◌≡◌, ◌<◌, List};
 ghost use Rattle.actuation.specs.Stands.{StandsFor};
 ghost use Rattle.sig_types.specs.Counts.{Counts};
 ghost use Rattle.sig_types.specs.Detectors.{Clear};

@@ -1,8 +1,8 @@
 // Groups by their numbers and names.
-ghost use Rattle.std.specs.Prelude.{◌≡◌, ◌==◌, ◌<◌, ◌≤◌, length, Some, None, Option};
+ghost use Rattle.std.specs.Prelude.{◌≡◌, ◌==◌, ◌<◌, ◌≤◌, None, Option};
 ghost use Rattle.std.specs.List.{position};
 ghost use Rattle.sig_types.specs.Text.{same_name};
-ghost use Rattle.pua_model.specs.Plan.{group_number, inter_number, joins};
+ghost use Rattle.pua_model.specs.Plan.{joins};
 
 use crate::parts::{Group, Interstage};
 use sig_types::text::same_name;

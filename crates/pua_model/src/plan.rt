@@ -1,5 +1,5 @@
 // A plan and what it answers.
-ghost use Rattle.std.specs.Prelude.{◌≡◌, ◌≤◌, ◌<◌, length, pos, Some, None, Option, IfSome, ℕ, slice_index_or, [], false};
+ghost use Rattle.std.specs.Prelude.{◌≡◌, ◌≤◌, ◌<◌, length, Some, None, Option, IfSome, ℕ, slice_index_or, [], false};
 ghost use Rattle.pua_model.specs.Plan.{PlanOf, IsPlan, HasStage, groups_in, in_stage, interstage_between, interstage_at, wish_in, group_of, group_named, stage_of, group_number, stage_number, inter_number};
 ghost use Rattle.pua_model.specs.Parts.{plan_of, ArePlaces};
 

@@ -1,5 +1,5 @@
 // The wish of a group in an interstage.
-ghost use Rattle.std.specs.Prelude.{◌≡◌, pos, ◌≤ℤ◌, ◌<◌, ◌^◌, ◌≤◌, Option};
+ghost use Rattle.std.specs.Prelude.{◌≡◌, ◌≤ℤ◌, ◌<◌, ◌^◌, ◌≤◌, Option};
 ghost use Rattle.pua_model.specs.Wish.{wished_by, is_green_at, leads};
 
 /// Whether a group with this row, a red end and a green end in seconds of the interstage, is wished green in second

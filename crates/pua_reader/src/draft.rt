@@ -1,10 +1,9 @@
 // A plan that is being read.
-ghost use Rattle.std.specs.Prelude.{◌-◌, ◌≡◌, ◌≤◌, ◌<◌, ◌+◌, ◌^◌, ℕ, MatchResult, None, Some, Option, is_some, true};
-ghost use Rattle.sig_types.specs.FirstRefused.{or_next};
+ghost use Rattle.std.specs.Prelude.{◌-◌, ◌≡◌, ◌≤◌, ◌<◌, ◌+◌, ◌^◌, MatchResult, None, Some, Option, is_some, true};
 ghost use Rattle.pua_model.specs.Plan.{IsPlan};
-ghost use Rattle.pua_reader.specs.Rules.{RowStopIs, at_line};
+ghost use Rattle.pua_reader.specs.Rules.{RowStopIs};
 ghost use Rattle.pua_reader.specs.Accepted.{RefusedAs, plan_in};
-ghost use Rattle.pua_reader.specs.PlanDraft.{PlanDraftOf, empty_draft, row_why, after_row, row_why_in, after_row_in, interstage_end_why, after_section_end, section_why, after_section_line, line_why, after_line, end_why, lacks, kind_why, after_kind, at_next_line};
+ghost use Rattle.pua_reader.specs.PlanDraft.{empty_draft, row_why, after_row, row_why_in, after_row_in, interstage_end_why, after_section_end, section_why, after_section_line, line_why, after_line, end_why, lacks, kind_why, after_kind};
 
 use crate::groups::read_group;
 use crate::interstages::{OpenInterstage, interstage_of, interstage_why};

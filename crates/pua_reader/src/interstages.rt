@@ -1,14 +1,13 @@
 // Rows of interstages, and their ends.
-ghost use Rattle.std.specs.Prelude.{[], ◌≡◌, ◌==◌, ◌≤◌, ◌<◌, ◌+◌, ℕ, ℤ, map, length, IfOk, OnOk, true, false, not, None, Some, Option, MatchOption, MatchResult, slice_index_or, replicate, is_some, IfSome, slice_set};
+ghost use Rattle.std.specs.Prelude.{[], ◌≡◌, ◌==◌, ◌≤◌, ◌<◌, ◌+◌, ℕ, map, length, IfOk, true, not, None, Some, Option, MatchOption, MatchResult, slice_index_or, is_some, IfSome};
 ghost use Rattle.std.specs.List.{list_any};
-ghost use Rattle.sig_types.specs.Text.{number_of, within};
+ghost use Rattle.sig_types.specs.Text.{number_of};
 ghost use Rattle.pua_model.specs.Wish.{leads};
-ghost use Rattle.pua_model.specs.Plan.{InterstageOf, joins, is_end};
+ghost use Rattle.pua_model.specs.Plan.{joins};
 ghost use Rattle.pua_reader.specs.Words.{signed_of};
-ghost use Rattle.pua_reader.specs.Interstages.{OpenInterstageOf, open_at, form_of, interstage_row_why, open_after, length_reasons, stage_reasons, ends_reasons, or_none, end_or_none, word, last_word, has_row, set_row, form_why, open_after_form, interstage_by_keys, first_inconsistent, greens_in, inconsistent_why, interstage_reasons, interstages_with};
+ghost use Rattle.pua_reader.specs.Interstages.{open_at, form_of, interstage_row_why, open_after, length_reasons, stage_reasons, ends_reasons, or_none, end_or_none, word, last_word, form_why, open_after_form, interstage_by_keys, first_inconsistent, greens_in, interstage_reasons};
 ghost use Rattle.pua_reader.specs.Stages.{stage_of};
 ghost use Rattle.pua_reader.specs.Groups.{place_of};
-ghost use Rattle.pua_reader.specs.Rules.{RowStopIs};
 
 use crate::form::{Form, form_of};
 use crate::refusal::{PuaWhy, RowStop};

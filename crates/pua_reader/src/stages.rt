@@ -1,9 +1,9 @@
 // Rows of stages, and of the starting stage.
-ghost use Rattle.std.specs.Prelude.{◌≢◌, ◌≡◌, ◌==◌, ◌≤◌, ◌<◌, ◌+◌, ℕ, map, length, IfOk, OnOk, true, false, not, None, Some, Option, MatchOption, MatchResult};
+ghost use Rattle.std.specs.Prelude.{◌≢◌, ◌≡◌, ◌==◌, ◌≤◌, ◌<◌, ◌+◌, map, length, true, false, not, None, Some, Option, MatchResult};
 ghost use Rattle.std.specs.List.{list_any, list_all, position};
 ghost use Rattle.sig_types.specs.Text.{is_name, same_name};
 ghost use Rattle.pua_model.specs.Plan.{are_apart};
-ghost use Rattle.pua_reader.specs.Stages.{has_stage_name, stage_reasons, greens_of, last_greens, is_green_in, red_reasons, is_red_word, stage_row_why, stages_with, is_stage_row, stage_of, start_reasons, start_why, start_with};
+ghost use Rattle.pua_reader.specs.Stages.{has_stage_name, stage_reasons, greens_of, last_greens, is_green_in, red_reasons, stage_row_why, stages_with, is_stage_row, stage_of, start_reasons, start_why, start_with};
 ghost use Rattle.pua_reader.specs.Groups.{has_name};
 ghost use Rattle.pua_reader.specs.Rules.{RowStopIs};
 ghost use Rattle.pua_model.specs.Plan.{stands_in};

@@ -1,8 +1,8 @@
 // The words of a line.
-ghost use Rattle.std.specs.Prelude.{◌≡◌, map, IfOk, is_some, ℤ, ◌≤ℤ◌, pos, negsuc, IfSome, MatchOption, Some, None, true, false, length, ◌<◌, ◌≤◌};
+ghost use Rattle.std.specs.Prelude.{◌≡◌, map, IfOk, is_some, ℤ, ◌≤ℤ◌, MatchOption, Some, None, true, false, length, ◌<◌, ◌≤◌};
 ghost use Rattle.pua_model.specs.Plan.{is_end};
 ghost use Rattle.pua_reader.specs.Interstages.{word, last_word};
-ghost use Rattle.pua_reader.specs.Words.{parts, words, is_printed, is_text, signed_of, FewIs};
+ghost use Rattle.pua_reader.specs.Words.{parts, words, is_text, signed_of, FewIs};
 
 use sig_types::text::{is_number, number};
 use std::alloc::{AllocError, Global};

@@ -13,7 +13,7 @@ use Rattle.std.proofs.Common.{is_some, nat_lt, ◌&&◌, inl, inr}
 use Rattle.std.proofs.lemmas.Bool.{cases_eq, cases_lt, both_ways, and_from, and_left, and_right, ltb-false, le-ltb}
 use Rattle.sig_types.proofs.LastBelow.{IsLast, last_below-some, last_below-at, last_below-never}
 use Rattle.std.proofs.Common.{List, is_none, slice_set, add-one}
-use Rattle.sig_types.specs.declared.numbers.TurnRefusal.{TurnRefusal}
+use Rattle.sig_types.specs.declared.refused.TurnRefusal.{TurnRefusal}
 use Rattle.sig_guard.specs.declared.turn.Breach.{Breach}
 use Rattle.sig_guard.specs.Step.{started, ended, is_uncleared, is_in_conflict, is_due, natural, natural_after, is_short_green, end_breach, start_breach, first_breach, when, wants_end, wants_start, ends_to, starts_to, listed, refusal}
 

@@ -4,7 +4,7 @@ use Rattle.std.proofs.Math.ListN.{length-append}
 use Rattle.std.proofs.lemmas.Bool.{cases_eq}
 use Rattle.std.proofs.lemmas.List.Elements.{All-append, All-cons, All-nil}
 use Rattle.sig_types.specs.declared.aspect.Rule.TheVariants as rule
-use Rattle.sig_types.specs.declared.numbers.TurnRefusal.{TurnRefusal}
+use Rattle.sig_types.specs.declared.refused.TurnRefusal.{TurnRefusal}
 use Rattle.sig_types.specs.Turns.{History, shown, is_on}
 use Rattle.sig_types.specs.Words.{least_below}
 use Rattle.sig_types.specs.Rules.{Rules}

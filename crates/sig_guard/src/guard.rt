@@ -120,10 +120,9 @@ impl Guard {
 // The parts of a step.
 impl Guard {
     ghost use Rattle.sig_types.specs.Turns.{ends_at};
-    ghost use Rattle.sig_guard.specs.Ages.{HasAge};
     ghost use Rattle.sig_guard.specs.Count.{many};
     ghost use Rattle.sig_guard.specs.Stands.{kept_rules, HasPast};
-    ghost use Rattle.sig_guard.specs.Step.{natural_after, end_breach, start_breach, is_in_conflict, is_uncleared, natural as natural_spec, natural_to, ends_to, starts_to, refused_ends_to, refused_to, refusal as refusal_spec, wants_end, wants_start};
+    ghost use Rattle.sig_guard.specs.Step.{natural_after, end_breach, start_breach, is_in_conflict, is_uncleared, natural as natural_spec, ends_to, starts_to, refused_ends_to, refused_to, refusal as refusal_spec, wants_end, wants_start};
 
     /// The second that comes next.
     fn now(&self) -> u32

@@ -1,5 +1,5 @@
 // The headers of the tables.
-ghost use Rattle.std.specs.Prelude.{◌≡◌, length};
+ghost use Rattle.std.specs.Prelude.{◌≡◌};
 ghost use Rattle.csv.specs.Records.{fields_of};
 ghost use Rattle.sig_tables.specs.Records.{Row, table_rows, is_header as is_header_lem, HasRead};
 ghost use Rattle.std.specs.Prelude.{◌∷◌, [], true, IfOk, IfErr};

@@ -4,10 +4,10 @@ ghost use Rattle.csv.specs.Records.{fields_of};
 ghost use Rattle.sig_types.specs.FirstRefused.{first_refused};
 ghost use Rattle.sig_types.specs.declared.numbers.GroupNo.{GroupNo};
 ghost use Rattle.pua_model.specs.Plan.{PlanOf, groups_in};
-ghost use Rattle.sig_tables.specs.Records.{Row, table_rows, HasRead};
+ghost use Rattle.sig_tables.specs.Records.{Row};
 ghost use Rattle.sig_tables.specs.Refusals.{IsRefusal, numbered};
 ghost use Rattle.sig_tables.specs.IntergreenTable.{seconds_in, pair_in, intergreen_form, intergreen_reason, one_way_reason, intergreens_refusal, intergreen_of};
-ghost use Rattle.sig_tables.specs.Pairs.{ArePairs, between, cell_of};
+ghost use Rattle.sig_tables.specs.Pairs.{between, cell_of};
 ghost use Rattle.sig_tables.specs.Held.{empties, IsPairOf, no_pair, HoldsPairs};
 
 use crate::header::{Table, begin};

@@ -2,7 +2,6 @@
 ghost use Rattle.std.specs.Prelude.{◌≡◌, ◌<◌, ◌+◌, ◌++◌, ◌∷◌, ℕ, List, [], true, false, length, IfOk, IfErr};
 ghost use Rattle.csv.specs.Records.{fields_of};
 ghost use Rattle.sig_tables.specs.Records.{Row, table_rows, field, HasRead, IsOfMemory};
-ghost use Rattle.sig_tables.specs.Refusals.{IsRefusal};
 
 use crate::refusal::TableRefusal;
 use csv::{ByteRecord, Error, ErrorKind, Reader, ReaderBuilder};

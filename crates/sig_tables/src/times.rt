@@ -1,6 +1,6 @@
 // Minimum green, red-amber and amber of each group.
 ghost use Rattle.std.specs.Prelude.{◌≡◌, ◌<◌, ◌≤◌, length};
-ghost use Rattle.sig_tables.specs.TimesTable.{IsRow, AreTimes, row_of};
+ghost use Rattle.sig_tables.specs.TimesTable.{AreTimes, row_of};
 
 use sig_types::GroupNo;
 use std::marker::Model;

@@ -1,11 +1,11 @@
 // The reader of the table of times.
-ghost use Rattle.std.specs.Prelude.{◌≡◌, ◌+◌, ◌++◌, ◌∷◌, ◌<◌, ◌≤◌, [], None, Some, ℕ, slice_index_or, List, length, replicate, IfOk, IfErr, IfSome, MatchResult, Option};
+ghost use Rattle.std.specs.Prelude.{◌≡◌, ◌+◌, ◌++◌, ◌∷◌, ◌<◌, ◌≤◌, [], None, Some, ℕ, slice_index_or, List, length, replicate, IfOk, IfErr, IfSome, Option};
 ghost use Rattle.csv.specs.Records.{fields_of};
 ghost use Rattle.pua_model.specs.Plan.{PlanOf, groups_in};
-ghost use Rattle.sig_tables.specs.Records.{Row, table_rows, HasRead};
+ghost use Rattle.sig_tables.specs.Records.{Row};
 ghost use Rattle.sig_tables.specs.Refusals.{IsRefusal};
 ghost use Rattle.sig_tables.specs.Groups.{group_at};
-ghost use Rattle.sig_tables.specs.TimesTable.{IsRow, AreTimes, times_in, times_form, times_reason, missing_times, times_below, times_refusal, times_of};
+ghost use Rattle.sig_tables.specs.TimesTable.{IsRow, times_in, times_form, times_reason, missing_times, times_below, times_refusal, times_of};
 ghost use Rattle.sig_tables.specs.Held.{empties, IsRowOrNone, HoldsTimes};
 
 use crate::header::{Table, begin};

@@ -1,9 +1,9 @@
 -- How many numbers a reading and a command take.
 use Rattle.std.specs.Prelude.{ℕ}
-use Rattle.sig_types.specs.declared.aspect.ReadingKind.{ReadingKind}
-use Rattle.sig_types.specs.declared.aspect.ReadingKind.TheVariants.{Detection, Occupancy, Headway, FrontEnds, RearEnds, IsRed, IsRedAmber, IsGreen, IsAmber, TGreen, TRed, StageActive, StageDuration, InterstageActive, AnyInterstage}
-use Rattle.sig_types.specs.declared.aspect.CommandKind.{CommandKind}
-use Rattle.sig_types.specs.declared.aspect.CommandKind.TheVariants.{Interstage, SgGreen, SgRed, ClearFronts, ClearRears}
+use Rattle.sig_types.specs.declared.kinds.ReadingKind.{ReadingKind}
+use Rattle.sig_types.specs.declared.kinds.ReadingKind.TheVariants.{Detection, Occupancy, Headway, FrontEnds, RearEnds, IsRed, IsRedAmber, IsGreen, IsAmber, TGreen, TRed, StageActive, StageDuration, InterstageActive, AnyInterstage}
+use Rattle.sig_types.specs.declared.kinds.CommandKind.{CommandKind}
+use Rattle.sig_types.specs.declared.kinds.CommandKind.TheVariants.{Interstage, SgGreen, SgRed, ClearFronts, ClearRears}
 
 -- the numbers of a reading: a detector, a group, a stage, or two stages
 abbrev pub reading_arity : ReadingKind → ℕ

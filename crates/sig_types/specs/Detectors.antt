@@ -1,8 +1,8 @@
 -- What detectors read in a second, from the frames so far and the clears.
 use Rattle.std.specs.Prelude.{ℕ, zero, suc, ◌+◌, ◌-◌, ◌≤◌, ◌==◌, ◌||◌, ◌&&◌, Bool, true, false, min, List, [], ◌∷◌, length, slice_index_or, Option, Some, None, if◌then◌else◌, nat_lt, nat_le, unwrap_or, ℤ, pos, negsuc}
 use Rattle.sig_types.specs.declared.numbers.DetNo.{DetNo}
-use Rattle.sig_types.specs.declared.aspect.ReadingKind.{ReadingKind}
-use Rattle.sig_types.specs.declared.aspect.ReadingKind.TheVariants.{Detection, Occupancy, Headway, FrontEnds, RearEnds, IsRed, IsRedAmber, IsGreen, IsAmber, TGreen, TRed, StageActive, StageDuration, InterstageActive, AnyInterstage}
+use Rattle.sig_types.specs.declared.kinds.ReadingKind.{ReadingKind}
+use Rattle.sig_types.specs.declared.kinds.ReadingKind.TheVariants.{Detection, Occupancy, Headway, FrontEnds, RearEnds, IsRed, IsRedAmber, IsGreen, IsAmber, TGreen, TRed, StageActive, StageDuration, InterstageActive, AnyInterstage}
 use Rattle.sig_types.specs.Counts.{Counts, Kind, fronts, rears, count_in, count_to}
 use Rattle.sig_types.specs.Number.{truth}
 use Rattle.sig_types.specs.Words.{last_below, run_to}

@@ -2,7 +2,7 @@
 use Rattle.std.specs.Prelude.{◌≡◌, ℕ, ◌<◌, ◌⊎◌, true, length, is_some, All}
 use Rattle.std.specs.Option.{ForSome}
 use Rattle.sig_types.specs.declared.aspect.Rule.TheVariants.{Conflict, Intergreen}
-use Rattle.sig_types.specs.declared.numbers.TurnRefusal.{TurnRefusal}
+use Rattle.sig_types.specs.declared.refused.TurnRefusal.{TurnRefusal}
 use Rattle.sig_types.specs.declared.record.Record.{Record}
 
 -- a refused turn names groups that there are, and the other group where its rule speaks of two

@@ -2,8 +2,8 @@
 use Rattle.std.specs.Prelude.{ℕ}
 use Rattle.sig_types.specs.declared.aspect.Rule.{Rule}
 use Rattle.sig_types.specs.declared.aspect.Rule.TheVariants.{Sequence, MinGreen, Conflict, Intergreen, Running, WrongStage, NoInterstage}
-use Rattle.sig_types.specs.declared.aspect.FaultKind.{FaultKind}
-use Rattle.sig_types.specs.declared.aspect.FaultKind.TheVariants.{Budget, Overflow, ZeroDivisor, Index, Number}
+use Rattle.sig_types.specs.declared.kinds.FaultKind.{FaultKind}
+use Rattle.sig_types.specs.declared.kinds.FaultKind.TheVariants.{Budget, Overflow, ZeroDivisor, Index, Number}
 
 -- the rules of turns, and then those of stage commands, in the order in which they are asked
 abbrev pub rule_number : Rule → ℕ

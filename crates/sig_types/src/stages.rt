@@ -16,7 +16,7 @@ pub struct StageRefusals {
 
 impl Model for StageRefusals {
     ghost use Rattle.std.specs.Prelude.{◌≡◌, ◌≤◌, List, length, vec_len, vec_capacity};
-    ghost use Rattle.sig_types.specs.declared.numbers.StageRefusal.{StageRefusal};
+    ghost use Rattle.sig_types.specs.declared.refused.StageRefusal.{StageRefusal};
 
     ghost Value = { List StageRefusal };
 

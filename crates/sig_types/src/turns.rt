@@ -20,7 +20,7 @@ pub struct TurnRefusals {
 
 impl Model for TurnRefusals {
     ghost use Rattle.std.specs.Prelude.{◌≡◌, ◌≤◌, List, length, take};
-    ghost use Rattle.sig_types.specs.declared.numbers.TurnRefusal.{TurnRefusal};
+    ghost use Rattle.sig_types.specs.declared.refused.TurnRefusal.{TurnRefusal};
 
     ghost Value = { List TurnRefusal };
 

@@ -9,12 +9,12 @@ use Rattle.sig_types.specs.declared.aspect.Aspect.{Aspect}
 use Rattle.sig_types.specs.declared.aspect.Aspect.TheVariants.{Red, RedAmber, Green, Amber}
 use Rattle.sig_types.specs.declared.aspect.Rule.{Rule}
 use Rattle.sig_types.specs.declared.aspect.Rule.TheVariants.{Sequence, MinGreen, Conflict, Intergreen, Running, WrongStage, NoInterstage}
-use Rattle.sig_types.specs.declared.aspect.FaultKind.{FaultKind}
-use Rattle.sig_types.specs.declared.aspect.FaultKind.TheVariants.{Budget, Overflow, ZeroDivisor, Index, Number}
-use Rattle.sig_types.specs.declared.numbers.TurnRefusal.{TurnRefusal}
-use Rattle.sig_types.specs.declared.numbers.StageRefusal.{StageRefusal}
+use Rattle.sig_types.specs.declared.kinds.FaultKind.{FaultKind}
+use Rattle.sig_types.specs.declared.kinds.FaultKind.TheVariants.{Budget, Overflow, ZeroDivisor, Index, Number}
+use Rattle.sig_types.specs.declared.refused.TurnRefusal.{TurnRefusal}
+use Rattle.sig_types.specs.declared.refused.StageRefusal.{StageRefusal}
 use Rattle.sig_types.specs.declared.numbers.GroupNo.{GroupNo}
-use Rattle.sig_types.specs.declared.numbers.Fault.{Fault}
+use Rattle.sig_types.specs.declared.refused.Fault.{Fault}
 use Rattle.sig_types.specs.declared.numbers.StagePlace.{StagePlace}
 use Rattle.sig_types.specs.declared.numbers.StagePlace.TheVariants.{NoPlan, Stage, Inter}
 use Rattle.signal_log.specs.Log.{letter, rule_name, fault_name, place_text, name_of, stage_refusal_text, other_text, other_of, turn_text, fault_text, gap, listed, parted, count_text}

@@ -1,6 +1,6 @@
 // The active stage, counted on from second to second.
 ghost use Rattle.std.specs.Prelude.{◌≡◌, ℕ, ◌+◌, ◌<◌, ◌≤◌, List, [], ◌∷◌, length, slice_index_or, false, IfSome, MatchResult, None, Some};
-ghost use Rattle.pua_model.specs.Plan.{PlanOf, HasStage, IsPlan, groups_in, length_between};
+ghost use Rattle.pua_model.specs.Plan.{PlanOf, HasStage, groups_in, length_between};
 
 use pua_model::Plan;
 use sig_types::{GroupNo, Rule, Second, StageNo, StagePlace, Wishes};
@@ -26,7 +26,7 @@ fn length_between(plan: &Plan, from: StageNo, to: StageNo) -> Option<u8>
 
 impl StageState {
     ghost use Rattle.stage_machine.specs.Orders.{Order, place_at, since_at, refused_order, stage_wish};
-    ghost use Rattle.stage_machine.specs.Stands.{StandsFor, HasOrders};
+    ghost use Rattle.stage_machine.specs.Stands.{StandsFor};
 
     /// Second 0, in which the starting stage is active.
     #[tactic(auto, unfolding(crate::specs::Stands::StandsFor, crate::specs::Orders::place_at, crate::specs::Orders::since_at))]

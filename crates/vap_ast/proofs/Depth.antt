@@ -1,7 +1,7 @@
 -- The meaning doesn't depend on the depth, where that is at least the units.
 use Rattle.std.proofs.Common.{◌≡◌, ℕ, zero, suc, ◌≤◌, Result, Ok, Err, refl, ap, ◌∙◌, arith}
-use Rattle.sig_types.specs.declared.aspect.FaultKind.{FaultKind}
-use Rattle.sig_types.specs.declared.aspect.FaultKind.TheVariants.{Budget}
+use Rattle.sig_types.specs.declared.kinds.FaultKind.{FaultKind}
+use Rattle.sig_types.specs.declared.kinds.FaultKind.TheVariants.{Budget}
 use Rattle.sig_types.specs.Pass.{Store, World}
 use Rattle.vap_ast.specs.Names.{Source, meaning_in}
 use Rattle.vap_ast.specs.Mean.{Outcome, Done, Faulted, at_step, spend, or_fault, after_done, step, mean_within, sub_body}

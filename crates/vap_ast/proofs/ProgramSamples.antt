@@ -1,9 +1,9 @@
 -- Small programs, computed: statements, faults and their lines, jumps into branches, calls and units.
 use Rattle.std.proofs.Common.{◌≡◌, ℕ, List, [], ◌∷◌, refl}
 use Rattle.std.specs.Prelude.{pos, codes, true, false}
-use Rattle.sig_types.specs.declared.aspect.FaultKind.TheVariants.{Budget, ZeroDivisor, Overflow, Index, Number}
-use Rattle.sig_types.specs.declared.aspect.CommandKind.TheVariants.{Interstage}
-use Rattle.sig_types.specs.declared.aspect.TimerKind.TheVariants.{Stop, Reset}
+use Rattle.sig_types.specs.declared.kinds.FaultKind.TheVariants.{Budget, ZeroDivisor, Overflow, Index, Number}
+use Rattle.sig_types.specs.declared.kinds.CommandKind.TheVariants.{Interstage}
+use Rattle.sig_types.specs.declared.kinds.TimerKind.TheVariants.{Stop, Reset}
 use Rattle.sig_types.specs.Pass.{Store, World}
 use Rattle.vap_ast.specs.declared.name.Entry.{Entry}
 use Rattle.vap_ast.specs.declared.name.Meaning.TheVariants.{Variable, Sub as SubOf}

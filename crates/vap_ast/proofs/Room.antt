@@ -1,7 +1,7 @@
 -- Where each reading has as many arguments as its word takes, the room of an expression is enough.
 use Rattle.std.proofs.Common.{◌+◌, ◌-◌, ◌≤◌, arith}
-use Rattle.sig_types.specs.declared.aspect.ReadingKind.{ReadingKind}
-use Rattle.sig_types.specs.declared.aspect.ReadingKind.TheVariants as r
+use Rattle.sig_types.specs.declared.kinds.ReadingKind.{ReadingKind}
+use Rattle.sig_types.specs.declared.kinds.ReadingKind.TheVariants as r
 use Rattle.sig_types.specs.Arity.{reading_arity}
 use Rattle.vap_ast.specs.Syntax.{Expr, Exprs}
 use Rattle.vap_ast.specs.Sound.{Regular, Regular_all, count_arguments, waiting, waiting_arguments}

@@ -1,8 +1,8 @@
 -- Values of expressions, computed: the order of operands and arguments, cut division, ranges, timers and cells.
 use Rattle.std.proofs.Common.{◌≡◌, ℕ, List, [], ◌∷◌, Ok, Err, refl, Some, None}
 use Rattle.std.specs.Prelude.{pos, negsuc, codes, true, ◌-ℤ◌}
-use Rattle.sig_types.specs.declared.aspect.FaultKind.TheVariants.{ZeroDivisor, Overflow, Index}
-use Rattle.sig_types.specs.declared.aspect.ReadingKind.TheVariants.{InterstageActive}
+use Rattle.sig_types.specs.declared.kinds.FaultKind.TheVariants.{ZeroDivisor, Overflow, Index}
+use Rattle.sig_types.specs.declared.kinds.ReadingKind.TheVariants.{InterstageActive}
 use Rattle.sig_types.specs.Pass.{Store, World}
 use Rattle.vap_ast.specs.declared.name.Entry.{Entry}
 use Rattle.vap_ast.specs.declared.name.Meaning.TheVariants.{Variable, Constant, Array as ArrayOf, Timer as TimerOf, Sub as SubOf}

@@ -1,7 +1,7 @@
 -- What a program does.
 use Rattle.std.specs.Prelude.{◌≡◌, ◌≤◌, ℕ, zero, suc, List, Option, Some, Result, Ok, Err, if◌then◌else◌}
-use Rattle.sig_types.specs.declared.aspect.FaultKind.{FaultKind}
-use Rattle.sig_types.specs.declared.aspect.FaultKind.TheVariants.{Budget}
+use Rattle.sig_types.specs.declared.kinds.FaultKind.{FaultKind}
+use Rattle.sig_types.specs.declared.kinds.FaultKind.TheVariants.{Budget}
 use Rattle.sig_types.specs.Number.{holds}
 use Rattle.sig_types.specs.Pass.{Store, World, at, set_variable, set_cell, set_timer, command}
 use Rattle.vap_ast.specs.declared.name.Meaning.{Meaning}

@@ -1,8 +1,8 @@
 -- The trees of a program as plain data.
 use Rattle.std.specs.Prelude.{ℕ, List, ℤ}
-use Rattle.sig_types.specs.declared.aspect.ReadingKind.{ReadingKind}
-use Rattle.sig_types.specs.declared.aspect.CommandKind.{CommandKind}
-use Rattle.sig_types.specs.declared.aspect.TimerKind.{TimerKind}
+use Rattle.sig_types.specs.declared.kinds.ReadingKind.{ReadingKind}
+use Rattle.sig_types.specs.declared.kinds.CommandKind.{CommandKind}
+use Rattle.sig_types.specs.declared.kinds.TimerKind.{TimerKind}
 use Rattle.vap_ast.specs.declared.tree.UnaryOp.{UnaryOp}
 use Rattle.vap_ast.specs.declared.tree.BinaryOp.{BinaryOp}
 

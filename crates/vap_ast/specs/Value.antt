@@ -1,6 +1,6 @@
 -- The value of an expression.
 use Rattle.std.specs.Prelude.{ℕ, List, [], ◌∷◌, Option, Some, ℤ, pos, Result, Ok, Err, ◌+ℤ◌, ◌-ℤ◌, ◌*ℤ◌, neg_ℤ, int_lt, int_le, not, ◌&&◌, ◌||◌}
-use Rattle.sig_types.specs.declared.aspect.FaultKind.{FaultKind}
+use Rattle.sig_types.specs.declared.kinds.FaultKind.{FaultKind}
 use Rattle.sig_types.specs.Number.{Answer, bounded, truth, holds, quotient, equal}
 use Rattle.sig_types.specs.Pass.{Store, World, at, cell, timer_count, read}
 use Rattle.vap_ast.specs.declared.name.Meaning.{Meaning}

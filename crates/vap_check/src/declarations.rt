@@ -2,9 +2,9 @@
 ghost use Rattle.std.specs.Prelude.{◌≡◌, [], None, ◌||◌, OnOk, IfOk, map};
 ghost use Rattle.vap_ast.specs.Tree.{body_of, array_of, routine_of, constant_of, program_of};
 ghost use Rattle.vap_check.specs.FirstFinding.{first_of_all};
-ghost use Rattle.vap_check.specs.Names.{among, const_names, array_names, with_names};
+ghost use Rattle.vap_check.specs.Names.{among, with_names};
 ghost use Rattle.vap_check.specs.Findings as wrong;
-ghost use Rattle.vap_check.specs.KeptNames.{Knows, kind_in, line_in, const_keys, taken_in};
+ghost use Rattle.vap_check.specs.KeptNames.{Knows, kind_in, line_in, taken_in};
 
 use crate::finding::{Finding, note_finding, note_finding_if};
 use crate::kinds::{First, Known, has, has_const, note};

@@ -1,5 +1,5 @@
 // What the names of a program are.
-ghost use Rattle.std.specs.Prelude.{◌≡◌, OnOk, IfOk, map};
+ghost use Rattle.std.specs.Prelude.{◌≡◌, OnOk};
 ghost use Rattle.vap_check.specs.KeptNames.{kind_in, const_keys};
 ghost use Rattle.vap_check.specs.Names.{among, is_kind, with_name};
 

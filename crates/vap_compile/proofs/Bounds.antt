@@ -1,8 +1,8 @@
 -- The stretches and the command counts of compiled code.
 use Rattle.vap_ast.specs.Sizes.{own_size}
 use Rattle.std.proofs.Common.{◌≡◌, ℕ, ◌+◌, ◌-◌, ◌≤◌, List, [], ◌∷◌, ◌++◌, length, Some, Option, None, refl, arith, length-append}
-use Rattle.sig_types.specs.declared.aspect.TimerKind.{TimerKind}
-use Rattle.sig_types.specs.declared.aspect.TimerKind.TheVariants.{Start as Start_timer, Stop as Stop_timer, Reset as Reset_timer}
+use Rattle.sig_types.specs.declared.kinds.TimerKind.{TimerKind}
+use Rattle.sig_types.specs.declared.kinds.TimerKind.TheVariants.{Start as Start_timer, Stop as Stop_timer, Reset as Reset_timer}
 use Rattle.vap_ast.specs.declared.name.Entry.{Entry}
 use Rattle.vap_ast.specs.declared.name.Meaning.{Meaning}
 use Rattle.vap_ast.specs.declared.name.Meaning.TheVariants.{Constant, Array, Sub as Sub_of, Timer as Timer_of, Variable}

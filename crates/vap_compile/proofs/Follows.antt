@@ -1,12 +1,12 @@
 -- The machine follows the meaning of the items.
 use Rattle.std.proofs.Common.{◌≡◌, ℕ, zero, suc, ◌+◌, ◌<◌, ◌≤◌, List, [], ◌∷◌, ◌++◌, length, Bool, true, false, cond, Some, Result, Ok, Err, refl, sym, ap, ◌∙◌, subst, arith}
 use Rattle.std.specs.Prelude.{slice_get, ℤ, pos, if◌then◌else◌}
-use Rattle.sig_types.specs.declared.aspect.FaultKind.{FaultKind}
-use Rattle.sig_types.specs.declared.aspect.FaultKind.TheVariants.{Budget}
-use Rattle.sig_types.specs.declared.aspect.CommandKind.{CommandKind}
-use Rattle.sig_types.specs.declared.aspect.CommandKind.TheVariants.{Interstage}
-use Rattle.sig_types.specs.declared.aspect.TimerKind.{TimerKind}
-use Rattle.sig_types.specs.declared.aspect.TimerKind.TheVariants.{Start as Start_timer, Stop as Stop_timer, Reset as Reset_timer}
+use Rattle.sig_types.specs.declared.kinds.FaultKind.{FaultKind}
+use Rattle.sig_types.specs.declared.kinds.FaultKind.TheVariants.{Budget}
+use Rattle.sig_types.specs.declared.kinds.CommandKind.{CommandKind}
+use Rattle.sig_types.specs.declared.kinds.CommandKind.TheVariants.{Interstage}
+use Rattle.sig_types.specs.declared.kinds.TimerKind.{TimerKind}
+use Rattle.sig_types.specs.declared.kinds.TimerKind.TheVariants.{Start as Start_timer, Stop as Stop_timer, Reset as Reset_timer}
 use Rattle.sig_types.specs.Number.{Answer, holds}
 use Rattle.sig_types.specs.Pass.{Store as StoreOf, World, at, set_variable, set_cell, set_timer, command}
 use Rattle.vap_ast.specs.Names.{Source, meaning_in}

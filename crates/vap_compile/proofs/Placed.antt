@@ -2,8 +2,8 @@
 use Rattle.std.proofs.Common.{◌≡◌, ℕ, ◌+◌, ◌<◌, ◌≤◌, List, [], ◌∷◌, length, Some, None, Option, refl, sym, ap, ◌∙◌, arith}
 use Rattle.std.specs.Prelude.{slice_get, IsTrue, IfSome}
 use Rattle.std.proofs.lemmas.Option.{get_or_from_slice_get, slice_get_within}
-use Rattle.sig_types.specs.declared.aspect.TimerKind.{TimerKind}
-use Rattle.sig_types.specs.declared.aspect.TimerKind.TheVariants.{Start as Start_timer, Stop as Stop_timer, Reset as Reset_timer}
+use Rattle.sig_types.specs.declared.kinds.TimerKind.{TimerKind}
+use Rattle.sig_types.specs.declared.kinds.TimerKind.TheVariants.{Start as Start_timer, Stop as Stop_timer, Reset as Reset_timer}
 use Rattle.vap_ast.specs.declared.name.Entry.{Entry}
 use Rattle.vap_ast.specs.declared.name.Meaning.{Meaning}
 use Rattle.vap_ast.specs.declared.name.Meaning.TheVariants.{Constant, Array, Sub as Sub_of, Timer as Timer_of, Variable}

@@ -1,10 +1,10 @@
 -- How many operands stand along the code of a program.
 use Rattle.std.proofs.Common.{◌≡◌, ℕ, suc, ◌+◌, ◌≤◌, List, [], ◌∷◌, ◌++◌, Option, Some, None, refl, sym, subst, arith}
 use Rattle.std.specs.Prelude.{IsTrue, IfSome, if◌then◌else◌}
-use Rattle.sig_types.specs.declared.aspect.TimerKind.{TimerKind}
-use Rattle.sig_types.specs.declared.aspect.TimerKind.TheVariants.{Start as Start_timer, Stop as Stop_timer, Reset as Reset_timer}
-use Rattle.sig_types.specs.declared.aspect.CommandKind.{CommandKind}
-use Rattle.sig_types.specs.declared.aspect.CommandKind.TheVariants.{Interstage}
+use Rattle.sig_types.specs.declared.kinds.TimerKind.{TimerKind}
+use Rattle.sig_types.specs.declared.kinds.TimerKind.TheVariants.{Start as Start_timer, Stop as Stop_timer, Reset as Reset_timer}
+use Rattle.sig_types.specs.declared.kinds.CommandKind.{CommandKind}
+use Rattle.sig_types.specs.declared.kinds.CommandKind.TheVariants.{Interstage}
 use Rattle.vap_ast.specs.declared.name.Meaning.{Meaning}
 use Rattle.vap_ast.specs.declared.name.Meaning.TheVariants.{Constant, Array, Sub as Sub_of, Timer as Timer_of, Variable}
 use Rattle.vap_ast.specs.declared.name.Entry.{Entry}

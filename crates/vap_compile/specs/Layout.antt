@@ -3,9 +3,9 @@
 use Rattle.std.specs.Str.{bytes_eq}
 use Rattle.std.specs.Option.{option_or}
 use Rattle.std.specs.Prelude.{◌≡◌, ℕ, ◌+◌, List, [], ◌∷◌, ◌++◌, Bool, true, false, ◌||◌, Option, Some, None, pos, if◌then◌else◌, codes, unwrap_or, map}
-use Rattle.sig_types.specs.declared.aspect.CommandKind.{CommandKind}
-use Rattle.sig_types.specs.declared.aspect.TimerKind.{TimerKind}
-use Rattle.sig_types.specs.declared.aspect.TimerKind.TheVariants.{Start as Start_timer, Stop as Stop_timer, Reset as Reset_timer}
+use Rattle.sig_types.specs.declared.kinds.CommandKind.{CommandKind}
+use Rattle.sig_types.specs.declared.kinds.TimerKind.{TimerKind}
+use Rattle.sig_types.specs.declared.kinds.TimerKind.TheVariants.{Start as Start_timer, Stop as Stop_timer, Reset as Reset_timer}
 use Rattle.vap_ast.specs.declared.name.Meaning.{Meaning}
 use Rattle.vap_ast.specs.declared.name.Meaning.TheVariants.{Constant, Sub as Sub_of, Timer as Timer_of, Variable}
 use Rattle.vap_ast.specs.declared.tree.BinaryOp.{BinaryOp}

@@ -1,10 +1,10 @@
 // The tokens of a text.
-ghost use Rattle.std.specs.Prelude.{◌≡◌, ◌<◌, ◌≤◌, ◌^◌, ◌+◌, ◌-◌, ◌++◌, ◌==◌, ℕ, ℤ, List, length, count_by, IfOk, IfErr, IfSome, OnOk};
+ghost use Rattle.std.specs.Prelude.{◌≡◌, ◌<◌, ◌≤◌, ◌^◌, ◌+◌, ◌-◌, ◌++◌, ◌==◌, ℕ, List, length, count_by, IfOk, IfErr, IfSome, OnOk};
 ghost use Rattle.std.specs.List.{All};
 ghost use Rattle.vap_ast.specs.Name.{IsWord};
-ghost use Rattle.vap_lex.specs.Kept.{IsKept, IsUnsigned, HasLine};
+ghost use Rattle.vap_lex.specs.Kept.{IsUnsigned, HasLine};
 ghost use Rattle.vap_lex.specs.Piece.{IsNumbered};
-ghost use Rattle.vap_lex.specs.Tokens.{Scans, HasTokens, End, kind_at, found, start_of};
+ghost use Rattle.vap_lex.specs.Tokens.{HasTokens, kind_at, found, start_of};
 ghost use Rattle.vap_lex.specs.Refusal.{IsRefused, IsStuck};
 ghost use Rattle.vap_lex.specs.declared.piece.LexWhy.{LexWhy};
 ghost use Rattle.vap_lex.specs.declared.piece.Piece.TheVariants.{Word};

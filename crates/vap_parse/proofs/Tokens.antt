@@ -3,10 +3,10 @@ use Rattle.std.proofs.Common.{◌≡◌, ℕ, List, Option, Some, None, Bool, tr
 use Rattle.std.specs.Prelude.{ℤ, pos, if◌then◌else◌, is_some, codes}
 use Rattle.std.specs.Str.{bytes_eq}
 use Rattle.std.proofs.lemmas.Slice.Eq.{bytes_eq-Decides}
-use Rattle.sig_types.specs.declared.aspect.ReadingKind.{ReadingKind}
-use Rattle.sig_types.specs.declared.aspect.ReadingKind.TheVariants as reading_kind
-use Rattle.sig_types.specs.declared.aspect.CommandKind.TheVariants as command_kind
-use Rattle.sig_types.specs.declared.aspect.TimerKind.TheVariants as timer_kind
+use Rattle.sig_types.specs.declared.kinds.ReadingKind.{ReadingKind}
+use Rattle.sig_types.specs.declared.kinds.ReadingKind.TheVariants as reading_kind
+use Rattle.sig_types.specs.declared.kinds.CommandKind.TheVariants as command_kind
+use Rattle.sig_types.specs.declared.kinds.TimerKind.TheVariants as timer_kind
 use Rattle.vap_lex.specs.declared.token.Token.{Token}
 use Rattle.vap_lex.specs.declared.token.TokenKind.{TokenKind}
 use Rattle.vap_lex.specs.declared.token.TokenKind.TheVariants as t

@@ -4,7 +4,7 @@
 -- name what they read; what the language is stands in Grammar.antt, and proofs/Exact.antt shows that what is read here
 -- is what the grammar spells. Where a rule has the same name there, it has the same meaning here.
 use Rattle.std.specs.Prelude.{ℕ, zero, suc, Bool, true, false, not, is_some, List, [], ◌∷◌, ◌++◌, ℤ, neg_ℤ, codes}
-use Rattle.sig_types.specs.declared.aspect.ReadingKind.TheVariants.{AnyInterstage}
+use Rattle.sig_types.specs.declared.kinds.ReadingKind.TheVariants.{AnyInterstage}
 use Rattle.vap_lex.specs.declared.token.Token.{Token}
 use Rattle.vap_ast.specs.declared.tree.UnaryOp.TheVariants.{Neg, Not}
 use Rattle.vap_ast.specs.Syntax.{Expr, Exprs, Item, Stmt, Constant, Array, Routine, Program}

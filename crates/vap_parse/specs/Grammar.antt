@@ -5,10 +5,10 @@
 -- written once more in Descent.antt, as the code reads them; nothing has to be believed of that file, since the proofs
 -- show that both say the same.
 use Rattle.std.specs.Prelude.{◌≡◌, ℕ, zero, suc, List, [], ◌∷◌, ◌++◌, ℤ, neg_ℤ, codes}
-use Rattle.sig_types.specs.declared.aspect.ReadingKind.{ReadingKind}
-use Rattle.sig_types.specs.declared.aspect.ReadingKind.TheVariants.{AnyInterstage}
-use Rattle.sig_types.specs.declared.aspect.CommandKind.{CommandKind}
-use Rattle.sig_types.specs.declared.aspect.TimerKind.{TimerKind}
+use Rattle.sig_types.specs.declared.kinds.ReadingKind.{ReadingKind}
+use Rattle.sig_types.specs.declared.kinds.ReadingKind.TheVariants.{AnyInterstage}
+use Rattle.sig_types.specs.declared.kinds.CommandKind.{CommandKind}
+use Rattle.sig_types.specs.declared.kinds.TimerKind.{TimerKind}
 use Rattle.vap_lex.specs.declared.token.Token.{Token}
 use Rattle.vap_ast.specs.declared.tree.UnaryOp.TheVariants.{Neg, Not}
 use Rattle.vap_ast.specs.declared.tree.BinaryOp.{BinaryOp}

@@ -4,9 +4,9 @@ use Rattle.vap_lex.specs.declared.token.Token.{Token}
 use Rattle.vap_lex.specs.declared.token.TokenKind.{TokenKind}
 use Rattle.vap_lex.specs.declared.token.TokenKind.TheVariants as t
 use Rattle.vap_ast.specs.declared.tree.BinaryOp.{BinaryOp}
-use Rattle.sig_types.specs.declared.aspect.ReadingKind.{ReadingKind}
-use Rattle.sig_types.specs.declared.aspect.CommandKind.{CommandKind}
-use Rattle.sig_types.specs.declared.aspect.TimerKind.{TimerKind}
+use Rattle.sig_types.specs.declared.kinds.ReadingKind.{ReadingKind}
+use Rattle.sig_types.specs.declared.kinds.CommandKind.{CommandKind}
+use Rattle.sig_types.specs.declared.kinds.TimerKind.{TimerKind}
 use Rattle.vap_parse.specs.declared.kind.Kind.{Kind}
 use Rattle.vap_parse.specs.declared.kind.Kind.TheVariants as k
 use Rattle.vap_parse.specs.declared.kind.Rank.{Rank}

@@ -3,12 +3,12 @@ use denote.Enum.Bare.{sameb}
 use Rattle.vap_parse.specs.contracts.kind.Kind.{the_type}
 use Rattle.std.specs.Prelude.{ℕ, Bool, List, if◌then◌else◌, codes, Option, Some, None}
 use Rattle.std.specs.Str.{bytes_eq}
-use Rattle.sig_types.specs.declared.aspect.ReadingKind.{ReadingKind}
-use Rattle.sig_types.specs.declared.aspect.ReadingKind.TheVariants as reading
-use Rattle.sig_types.specs.declared.aspect.CommandKind.{CommandKind}
-use Rattle.sig_types.specs.declared.aspect.CommandKind.TheVariants as command
-use Rattle.sig_types.specs.declared.aspect.TimerKind.{TimerKind}
-use Rattle.sig_types.specs.declared.aspect.TimerKind.TheVariants as timer
+use Rattle.sig_types.specs.declared.kinds.ReadingKind.{ReadingKind}
+use Rattle.sig_types.specs.declared.kinds.ReadingKind.TheVariants as reading
+use Rattle.sig_types.specs.declared.kinds.CommandKind.{CommandKind}
+use Rattle.sig_types.specs.declared.kinds.CommandKind.TheVariants as command
+use Rattle.sig_types.specs.declared.kinds.TimerKind.{TimerKind}
+use Rattle.sig_types.specs.declared.kinds.TimerKind.TheVariants as timer
 use Rattle.vap_ast.specs.declared.tree.BinaryOp.{BinaryOp}
 use Rattle.vap_ast.specs.declared.tree.BinaryOp.TheVariants as op
 use Rattle.vap_lex.specs.declared.token.Sign.{Sign}

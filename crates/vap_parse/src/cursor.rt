@@ -1,7 +1,7 @@
 // The tokens that are left.
 ghost use Rattle.std.specs.Prelude.{◌≡◌, ◌<◌, ◌≤◌, ◌+◌, [], ◌∷◌, None, Some, Ok, Err, IfOk, IfErr, IfSome, IsOk, MatchOption};
 ghost use Rattle.std.specs.List.{All};
-ghost use Rattle.vap_lex.specs.Kept.{IsKept, IsNatural};
+ghost use Rattle.vap_lex.specs.Kept.{IsNatural};
 ghost use Rattle.vap_parse.specs.Kinds.{same_kind};
 ghost use Rattle.vap_parse.specs.Input as spec;
 ghost use Rattle.vap_parse.specs.Input.{Reads, Input};

@@ -1,5 +1,5 @@
 // Declarations.
-ghost use Rattle.std.specs.Prelude.{◌≡◌, map, IfOk};
+ghost use Rattle.std.specs.Prelude.{◌≡◌, map};
 ghost use Rattle.vap_ast.specs.Tree.{array_of, constant_of};
 ghost use Rattle.vap_parse.specs.Input as spec;
 ghost use Rattle.vap_parse.specs.Input.{Builds, Leaves, Reads};

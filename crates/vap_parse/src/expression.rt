@@ -2,7 +2,7 @@
 ghost use Rattle.std.specs.Prelude.{◌≡◌, ◌<◌, ◌∷◌, [], IfOk};
 ghost use Rattle.vap_ast.specs.Syntax as tree;
 ghost use Rattle.vap_ast.specs.Tree.{exprs, expr_of, exprs_of};
-ghost use Rattle.vap_parse.specs.Input.{Builds, Reads};
+ghost use Rattle.vap_parse.specs.Input.{Builds};
 ghost use Rattle.vap_parse.specs.Descent as rule;
 ghost use Rattle.vap_parse.specs.View.{args_of};
 ghost use Rattle.vap_parse.specs.declared.kind.Rank.TheVariants as rank;

@@ -1,5 +1,5 @@
 // Statements and bodies.
-ghost use Rattle.std.specs.Prelude.{◌≡◌, ◌<◌, ◌≤◌, IfOk};
+ghost use Rattle.std.specs.Prelude.{◌≡◌, ◌<◌, ◌≤◌};
 ghost use Rattle.vap_ast.specs.Syntax as tree;
 ghost use Rattle.vap_ast.specs.Tree.{expr_of, exprs_of, item_of, items_of};
 ghost use Rattle.vap_parse.specs.Input as spec;

@@ -25,7 +25,7 @@ impl Model for Arrays {
 }
 
 impl Arrays {
-    ghost use Rattle.std.specs.Prelude.{◌≡◌, ◌<◌, ◌≤◌, [], map, length, slice_get, slice_set, slice_index_or, IfOk, OnErr};
+    ghost use Rattle.std.specs.Prelude.{◌≡◌, ◌<◌, ◌≤◌, [], map, length, slice_set, slice_index_or, IfOk};
     ghost use Rattle.std.specs.List.{All};
     ghost use Rattle.sig_types.specs.Pass.{cell_at, cell_place};
 

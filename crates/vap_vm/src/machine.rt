@@ -1,10 +1,6 @@
 // What a pass works on.
 
 ghost use Rattle.std.specs.Prelude.{◌≡◌, [], IfOk};
-ghost use Rattle.vap_vm.specs.View.{state_of};
-ghost use Rattle.vap_code.specs.Machine.{first_state};
-ghost use Rattle.sig_types.specs.Pass.{without_commands};
-ghost use Rattle.vap_vm.specs.View.{store_of};
 
 use crate::given::Given;
 use crate::noted::Noted;

@@ -1,6 +1,6 @@
 // The variables, arrays and timers of a machine.
 
-ghost use Rattle.std.specs.Prelude.{◌≡◌, ◌<◌, ◌≤◌, ℕ, length, map, replicate, pos, IfOk};
+ghost use Rattle.std.specs.Prelude.{◌≡◌, ◌<◌, ◌≤◌, length, map, replicate, pos, IfOk};
 ghost use Rattle.std.specs.List.{All};
 ghost use Rattle.sig_types.specs.Pass.{counted};
 ghost use Rattle.vap_code.specs.Codes.{code_in};
