@@ -58,7 +58,8 @@ fn count<'a>(
     }
 }
 
-// The header, and the numbers of variables, timers and arrays.
+/// The header, and the numbers of variables (0 to 256), timers (0 to 64) and arrays (0 to 32). The error names the first
+/// wrong line.
 #[tactic(auto, unfolding(crate::specs::Reading::counts_at))]
 pub fn counts(cursor: Cursor<'_>) -> Result<((u32, u32, u32), Cursor<'_>), CodeRefusal>
     requires { cursor.number < 60000 }
@@ -116,7 +117,8 @@ fn starts(
     Ok((starts, rest))
 }
 
-// The number of routines, and their starts.
+/// The starts of the routines, of which there are 1 to 65, from the line with their number on. The error names the first
+/// wrong line, or says that memory was wanted.
 #[tactic(auto, unfolding(crate::specs::Reading::routines_at))]
 pub fn routines(alloc: Global, cursor: Cursor<'_>) -> Result<(Vec<u16>, Cursor<'_>), CodeRefusal>
     requires { cursor.number < 50000 }
@@ -187,7 +189,8 @@ fn size(cursor: Cursor<'_>, last: u16) -> Result<(u32, Cursor<'_>), CodeRefusal>
     }
 }
 
-// The instructions, and the end line.
+/// The instructions, 1 to 65,535, from the line with their number on, and the end line. `last` is the last start, which must
+/// lie among them. The error names the first wrong line, or says that memory was wanted.
 #[tactic(auto, unfolding(crate::specs::Reading::body_at))]
 pub fn body(
     alloc: Global,

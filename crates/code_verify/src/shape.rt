@@ -8,8 +8,8 @@ ghost use Rattle.vap_code.specs.Valid.{HasShape, rise as rise_of, line_fits as l
 
 use vap_code::{Code, Instr};
 
-// Whether all counts are within their limits, the starts begin with 0, rise and lie in the code, and each tick
-// has a line that a program can have.
+/// Whether all counts are within their limits, the starts begin with 0, rise and lie in the code, and each tick has a line
+/// that a program can have, 1 to 1,048,577.
 pub fn has_shape(code: &Code) -> bool
     ensures { IsTrue result ↔ HasShape (code_in code.now) }
 {
