@@ -7,6 +7,7 @@ use Rattle.sig_types.specs.Detectors.{headway_of}
 use Rattle.sig_types.specs.Number.{truth}
 use Rattle.actuation.specs.declared.detector.Detector.{Detector}
 
+-- what is kept of a detector at which nothing was counted yet
 abbrev pub nothing : Detector
 nothing = record { fronts = 0; rears = 0; fronts_cleared = 0; rears_cleared = 0; since = 0; last = 0 }
 
@@ -14,6 +15,7 @@ nothing = record { fronts = 0; rears = 0; fronts_cleared = 0; rears_cleared = 0;
 abbrev pub at : List Detector → ℕ → Detector
 at detectors p = slice_index_or detectors p nothing
 
+-- the fronts and the rears that a frame has of the detector at place p; none where the frame has no such place
 abbrev pub count_at : Counts → ℕ → ℕ × ℕ
 count_at frame p = slice_index_or frame p (0, 0)
 
@@ -30,6 +32,7 @@ is_on x = nat_lt x.rears x.fronts
 abbrev pub last_detection : Detector → Bool → ℕ → ℕ → ℕ
 last_detection x occupied fronts second = if occupied || nat_lt 0 fronts then second else if is_on x then second - 1 else x.last
 
+-- the detector after one second more in which these counts moved it
 abbrev pub moved : Detector → ℕ × ℕ → ℕ → Detector
 moved x c second = record {
   fronts = x.fronts + c.0;
@@ -56,9 +59,11 @@ not_zero n = if n == 0 then None else Some n
 abbrev pub detected_at : Detector → ℕ → Option ℕ
 detected_at x k = if is_on x then Some k else not_zero x.last
 
+-- all fronts so far are cleared
 abbrev pub with_fronts_cleared : Detector → Detector
 with_fronts_cleared x = record x { fronts_cleared = x.fronts }
 
+-- all rears so far are cleared
 abbrev pub with_rears_cleared : Detector → Detector
 with_rears_cleared x = record x { rears_cleared = x.rears }
 
@@ -70,6 +75,7 @@ pub record IsSized (seconds : ℕ) (x : Detector) : Type 0 where
   pub since : x.since ≤ seconds
   pub begun : is_on x ≡ true → 1 ≤ x.since
 
+-- a second that is known is this one
 abbrev pub is_now : Option ℕ → ℕ → Bool
 is_now None k = false
 is_now (Some j) k = j == k

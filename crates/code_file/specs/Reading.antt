@@ -21,8 +21,8 @@ use Rattle.code_file.specs.Text.{start_follows, room_after, last_after, nothing_
 abbrev pub Refusal : Type 0
 Refusal = ℕ × CodeWhy
 
--- what follows a step that did not fail
 infixl 10 ◌>>=◌
+-- what follows a step that did not fail
 abbrev pub ◌>>=◌ : {A B : Type 0} → Result A Refusal → (A → Result B Refusal) → Result B Refusal
 (Ok x) >>= f = f x
 (Err e) >>= f = Err e

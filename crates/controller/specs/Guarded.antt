@@ -46,10 +46,11 @@ pub record IsGuardedSecond (site : Site) (past : Past) (end : End) (r : Record) 
   pub turns : All (WouldBreak site.rules past.history (wishes_in site past end)) r.turns
   pub stages : All (IsRefusedStage site.plan (next past) past.orders (commands_after end)) r.stages
 
--- the past after the first n seconds of a run, and how the pass of the next one ends
+-- the past after the first n seconds of a run
 abbrev pub past_at : Logic → Site → Store → List Counts → ℕ → Past
 past_at logic site store frames n = past_of logic site (opening site store) (take n frames)
 
+-- how the pass of the second after the first n ends
 abbrev pub pass_at : Logic → Site → Store → List Counts → ℕ → End
 pass_at logic site store frames n = pass_of logic site (past_at logic site store frames n) (slice_index_or frames n [])
 

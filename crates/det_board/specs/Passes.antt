@@ -24,17 +24,19 @@ pub record Ticking : Type 0 where
   pub table : TableId
   pub loads : List (List ℕ)
 
--- the values that were loaded of a detector's fronts, and of its rears
+-- the values that the tick loaded of a detector's fronts, in order
 abbrev pub fronts_loads : Ticking → ℕ → List ℕ
 fronts_loads t d = slice_index_or t.loads (fronts_word d) []
 
+-- the values that the tick loaded of a detector's rears, in order
 abbrev pub rears_loads : Ticking → ℕ → List ℕ
 rears_loads t d = slice_index_or t.loads (rears_word d) []
 
--- the fronts, and the rears, that were read last
+-- the fronts of a detector that the tick read last
 abbrev pub fronts_read : Ticking → ℕ → ℕ
 fronts_read t d = last_read t.loads (fronts_word d)
 
+-- the rears of a detector that the tick read last
 abbrev pub rears_read : Ticking → ℕ → ℕ
 rears_read t d = last_read t.loads (rears_word d)
 

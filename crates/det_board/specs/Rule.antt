@@ -11,10 +11,11 @@ use Rattle.det_board.specs.Interleaving.{Marks, Reached}
 abbrev pub most_fronts : ℕ
 most_fronts = 2147483647
 
--- the word of the fronts, and that of the rears, of the detector at place d
+-- the place of the word with the fronts of the detector at place d
 abbrev pub fronts_word : ℕ → ℕ
 fronts_word d = 2 * d
 
+-- the place of the word with its rears
 abbrev pub rears_word : ℕ → ℕ
 rears_word d = 2 * d + 1
 
@@ -119,12 +120,13 @@ given_back (Tick dealt loads owned) Spent = Tick dealt loads owned
 given_back (Feeder k fronts rears) w = Feeder k fronts rears
 given_back Spent w = Spent
 
--- one front, or one rear, of the feeder's own
+-- a feeder's view with one front more
 abbrev pub with_front : View → View
 with_front (Feeder k fronts rears) = Feeder k (fronts + 1) rears
 with_front (Tick a b c) = Tick a b c
 with_front Spent = Spent
 
+-- a feeder's view with one rear more
 abbrev pub with_rear : View → View
 with_rear (Feeder k fronts rears) = Feeder k fronts (rears + 1)
 with_rear (Tick a b c) = Tick a b c

@@ -6,6 +6,7 @@ use Rattle.pua_model.specs.declared.parts.Group.{Group}
 use Rattle.pua_model.specs.declared.parts.Stage.{Stage}
 use Rattle.pua_model.specs.Plan.{InterstageOf, PlanOf, group_number}
 
+-- the plan that has these groups, stages and interstages, and starts in this stage
 abbrev pub plan_of : List Group → List Stage → ℕ → List InterstageOf → PlanOf
 plan_of groups stages start interstages = record {
   names = map (λ g. g.name) groups;

@@ -24,9 +24,11 @@ pub record PlanOf : Type 0 where
   pub start : ℕ
   pub interstages : List InterstageOf
 
+-- stands for the interstage at a place where the plan has none
 abbrev pub no_interstage : InterstageOf
 no_interstage = record { from = 0; to = 0; length = 0; rows = [] }
 
+-- how many groups a plan has
 abbrev pub groups_in : PlanOf → ℕ
 groups_in p = length p.names
 
@@ -46,9 +48,11 @@ joins a b w = (w.from == a) && (w.to == b)
 abbrev pub interstage_between : PlanOf → ℕ → ℕ → Option ℕ
 interstage_between p a b = position (joins a b) p.interstages
 
+-- the interstage with this number, which counts from 0
 abbrev pub interstage_at : PlanOf → ℕ → InterstageOf
 interstage_at p i = slice_index_or p.interstages i no_interstage
 
+-- the length of the interstage with this number, in seconds
 abbrev pub length_at : PlanOf → Option ℕ → Option ℕ
 length_at p None = None
 length_at p (Some i) = Some (interstage_at p i).length
@@ -65,34 +69,40 @@ row_at p i g = slice_index_or (interstage_at p i).rows g None
 abbrev pub wish_in : PlanOf → ℕ → ℕ → ℕ → Bool
 wish_in p i t g = wished_by (row_at p i g) (pos t) (in_stage p (interstage_at p i).from g)
 
--- the group with this number, and the group with this name in any case
+-- the place of the group with this number
 abbrev pub group_with : PlanOf → ℕ → Option ℕ
 group_with p n = position (λ k. k == n) p.numbers
 
+-- the place of the group with this name, in any case
 abbrev pub group_named : PlanOf → List ℕ → Option ℕ
 group_named p name = position (λ n. same_name n name) p.names
 
--- the group, and the stage, that a number names
+-- the place of the group that a number names
 unfoldable pub group_of : PlanOf → ℤ → Option ℕ
 group_of plan (pos n) = group_with plan n
 group_of plan (negsuc n) = None
 
+-- the stage that a number names: one from 1 to the number of stages
 unfoldable pub stage_of : PlanOf → ℤ → Option ℕ
 stage_of plan (pos n) = if nat_le 1 n && nat_le n (length plan.stages) then Some n else None
 stage_of plan (negsuc n) = None
 
+-- a group's place as a plain number
 abbrev pub group_number : Option GroupNo → Option ℕ
 group_number None = None
 group_number (Some g) = Some g.0
 
+-- a stage's number as a plain number
 abbrev pub stage_number : Option StageNo → Option ℕ
 stage_number None = None
 stage_number (Some s) = Some s.0
 
+-- an interstage's number as a plain number
 abbrev pub inter_number : Option InterNo → Option ℕ
 inter_number None = None
 inter_number (Some i) = Some i.0
 
+-- each of the texts is a name
 abbrev pub are_names : List (List ℕ) → Bool
 are_names [] = true
 are_names (n ∷ ns) = is_name n && are_names ns
@@ -112,19 +122,21 @@ abbrev pub is_above : ℕ → List ℕ → Bool
 is_above least [] = true
 is_above least (n ∷ ns) = nat_lt least n && nat_le n 255 && is_above n ns
 
--- a red end and a green end
+-- a red end or a green end is a second from -127 to 127
 abbrev pub is_end : ℤ → Bool
 is_end e = int_le (negsuc 126) e && int_le e (pos 127)
 
+-- a row, where there is one, has a red end and a green end in range
 abbrev pub is_row : Option (ℤ × ℤ) → Bool
 is_row None = true
 is_row (Some row) = is_end row.0 && is_end row.1
 
--- no two interstages are of one pair of stages
+-- one of the interstages leads from stage a to stage b
 abbrev pub has_pair : ℕ → ℕ → List InterstageOf → Bool
 has_pair a b [] = false
 has_pair a b (w ∷ ws) = joins a b w || has_pair a b ws
 
+-- no two interstages are of one pair of stages
 abbrev pub are_pairs_apart : List InterstageOf → Bool
 are_pairs_apart [] = true
 are_pairs_apart (w ∷ ws) = not (has_pair w.from w.to ws) && are_pairs_apart ws

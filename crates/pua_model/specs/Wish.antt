@@ -10,6 +10,7 @@ abbrev pub wished_by : Option (ℤ × ℤ) → ℤ → Bool → Bool
 wished_by None t before = before
 wished_by (Some row) t before = is_green_at row.0 row.1 t
 
+-- both hold, or neither does
 abbrev pub same_truth : Bool → Bool → Bool
 same_truth true b = b
 same_truth false b = not b

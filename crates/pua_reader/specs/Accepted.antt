@@ -16,6 +16,7 @@ use Rattle.pua_reader.specs.PlanDraft.{PlanDraftOf, draft_of, judge, end_why, af
 abbrev pub without_mark : Text → Text
 without_mark bytes = if starts_with nat_eq bytes (239 ∷ 187 ∷ 191 ∷ []) then drop 3 bytes else bytes
 
+-- the lines of a text, without the byte order mark
 unfoldable pub lines_in : Text → List Text
 lines_in bytes = lines (without_mark bytes)
 
@@ -23,10 +24,12 @@ lines_in bytes = lines (without_mark bytes)
 unfoldable pub refusal_of : Text → Option (ℕ × PuaWhy)
 refusal_of bytes = or_next (first_refused judge (lines_in bytes) []) (end_why (draft_of (lines_in bytes)))
 
+-- the number of the starting stage; 0 where none is given yet
 abbrev pub start_number : Option StageNo → ℕ
 start_number None = 0
 start_number (Some s) = s.0
 
+-- the plan that a draft gives when its file ends
 abbrev pub plan_in : PlanDraftOf → PlanOf
 plan_in g = plan_of g.groups g.stages (start_number g.start) g.interstages
 

@@ -9,23 +9,27 @@ use Rattle.pua_reader.specs.declared.refusal.PuaWhy.TheVariants as why
 use Rattle.pua_reader.specs.Words.{Text}
 use Rattle.pua_reader.specs.Rules.{when}
 
--- `NAME` or `NAME NUMBER`; left out, the number is the row's place from 1
+-- the group of a name and a number, where the number is one
 abbrev pub numbered : Text → Option ℕ → Option Group
 numbered name None = None
 numbered name (Some n) = Some (record { name = name; number = n })
 
+-- the group of a row `NAME` or `NAME NUMBER`; left out, the number is the row's place, from 1
 abbrev pub group_row : ℕ → List Text → Option Group
 group_row place [] = None
 group_row place (name ∷ []) = if is_name name then Some (record { name = name; number = place }) else None
 group_row place (name ∷ number ∷ []) = if is_name name then numbered name (number_of number) else None
 group_row place (a ∷ b ∷ c ∷ more) = None
 
+-- one of the groups has this name, in any case
 abbrev pub has_name : List Group → Text → Bool
 has_name groups w = list_any (λ g. same_name g.name w) groups
 
+-- one of the groups has this number
 abbrev pub has_number : List Group → ℕ → Bool
 has_number groups n = list_any (λ g. g.number == n) groups
 
+-- why a row with this group, or with none, is refused after these groups
 unfoldable pub group_reasons : List Group → Option Group → Option PuaWhy
 group_reasons groups None = Some why.Row
 group_reasons groups (Some g) = first_reason (
@@ -43,6 +47,7 @@ abbrev pub put : Group → List Group → List Group
 put g [] = g ∷ []
 put g (h ∷ hs) = if nat_lt g.number h.number then g ∷ h ∷ hs else h ∷ put g hs
 
+-- the group of a row, where it has one, is put where its number belongs
 abbrev pub put_row : Option Group → List Group → List Group
 put_row None groups = groups
 put_row (Some g) groups = put g groups

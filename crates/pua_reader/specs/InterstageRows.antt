@@ -24,15 +24,17 @@ in_last [] row = []
 in_last (rows ∷ []) row = (rows ++ row ∷ []) ∷ []
 in_last (rows ∷ next ∷ more) row = rows ∷ in_last (next ∷ more) row
 
--- a section line begins a section, and a row stands in the last one
+-- the sections with a line of an interstage's section more: a section line begins one, and a row stands in the last
 abbrev pub part_by : Kind → List (List (List Text)) → List Text → List (List (List Text))
 part_by Passed parts row = parts
 part_by (Begins s) parts row = parts ++ [] ∷ []
 part_by Row parts row = in_last parts row
 
+-- the sections of interstages with one line more, which stands in the section `now`
 abbrev pub part_with : Section → List (List (List Text)) → Text → List (List (List Text))
 part_with now parts line = if is_interstage now then part_by (kind_of (words false line)) parts (words true line) else parts
 
+-- the sections of interstages with these lines more, before which stand lines of the section `now`
 unfoldable pub parts_from : Section → List (List (List Text)) → List Text → List (List (List Text))
 parts_from now parts [] = parts
 parts_from now parts (line ∷ more) = parts_from (section_with now line) (part_with (section_with now line) parts line) more
@@ -41,6 +43,7 @@ parts_from now parts (line ∷ more) = parts_from (section_with now line) (part_
 abbrev pub interstage_sections : List Text → List (List (List Text))
 interstage_sections lines = parts_from section.Before [] lines
 
+-- a number for each form
 abbrev pub form_number : Form → ℕ
 form_number form.NoForm = 0
 form_number form.Number = 1
@@ -49,6 +52,7 @@ form_number form.From = 3
 form_number form.To = 4
 form_number form.Ends = 5
 
+-- the two forms are one
 abbrev pub same_form : Form → Form → Bool
 same_form a b = form_number a == form_number b
 
@@ -57,6 +61,7 @@ unfoldable pub values : Form → List (List Text) → List Text
 values f [] = []
 values f (row ∷ rows) = if same_form f (form_of row) then last_word row ∷ values f rows else values f rows
 
+-- a group that is found is the one at place g
 abbrev pub names_place : Option ℕ → ℕ → Bool
 names_place None g = false
 names_place (Some p) g = p == g

@@ -26,15 +26,19 @@ pub record OpenInterstageOf : Type 0 where
   pub to : Option StageNo
   pub rows : List (Option (ℤ × ℤ))
 
+-- an interstage that is begun by the section line in line n, with no row yet
 abbrev pub open_at : ℕ → ℕ → OpenInterstageOf
 open_at n groups = record { line = n; length = None; from = None; to = None; rows = replicate groups None }
 
+-- the form of a row that gives a length by this word
 abbrev pub number_form : Text → Form
 number_form w = if is_some (number_of w) then form.Length else form.NoForm
 
+-- the form of a row that gives a stage by this word: f, where the word can name one
 abbrev pub stage_form : Form → Text → Form
 stage_form f w = if is_stage_word w then f else form.NoForm
 
+-- the form of a row `GROUP R E` of these three words
 abbrev pub ends_form : Text → Text → Text → Form
 ends_form a b c = if is_name a && is_some (signed_of b) && is_some (signed_of c) then form.Ends else form.NoForm
 
@@ -56,6 +60,7 @@ form_of_three a b c =
     else if same_name a (codes "interstage") && same_name b (codes "number") then form.Number
     else ends_form a b c
 
+-- the form of a row
 abbrev pub form_of : List Text → Form
 form_of [] = form.NoForm
 form_of (a ∷ []) = form.NoForm
@@ -63,32 +68,38 @@ form_of (a ∷ b ∷ []) = form_of_two a b
 form_of (a ∷ b ∷ c ∷ []) = form_of_three a b c
 form_of (a ∷ b ∷ c ∷ d ∷ more) = form.NoForm
 
+-- a number, or 0 where there is none
 abbrev pub or_none : Option ℕ → ℕ
 or_none None = 0
 or_none (Some n) = n
 
+-- an end, or 0 where there is none
 abbrev pub end_or_none : Option ℤ → ℤ
 end_or_none None = pos 0
 end_or_none (Some e) = e
 
--- the word at a place of a row; the value of a key is its last word
+-- the word at a place of a row
 abbrev pub word : List Text → ℕ → Text
 word ws i = slice_index_or ws i []
 
+-- a row's last word, which is the value of a key
 abbrev pub last_word : List Text → Text
 last_word ws = word ws (length ws - 1)
 
+-- why a row with the length n is refused, after the length given before: it has one already, or n is not 1 to 126
 unfoldable pub length_reasons : Option ℕ → ℕ → Option PuaWhy
 length_reasons given n = first_reason (when (is_some given) why.Row ∷ when (not (nat_le 1 n && nat_le n 126)) why.Range ∷ [])
 
+-- why a row with a stage is refused, after the one given before: it has one already, or the file has no such stage
 unfoldable pub stage_reasons : Option StageNo → Option StageNo → Option PuaWhy
 stage_reasons given stage = first_reason (when (is_some given) why.Row ∷ when (is_none stage) why.UnknownName ∷ [])
 
--- the row that a group already has
+-- the group at the place has its row already
 abbrev pub has_row : List (Option (ℤ × ℤ)) → Option ℕ → Bool
 has_row rows None = false
 has_row rows (Some g) = is_some (slice_index_or rows g None)
 
+-- why a row with the ends of the group at a place is refused, after these rows
 unfoldable pub ends_reasons : List (Option (ℤ × ℤ)) → Option ℕ → ℤ → ℤ → Option PuaWhy
 ends_reasons rows place r e = first_reason (
     when (has_row rows place) why.NameTwice
@@ -106,9 +117,11 @@ form_why form.To groups stages current ws = stage_reasons current.to (stage_of s
 form_why form.Ends groups stages current ws =
     ends_reasons current.rows (place_of groups (word ws 0)) (end_or_none (signed_of (word ws 1))) (end_or_none (signed_of (word ws 2)))
 
+-- why a row is refused in the section of the current interstage
 abbrev pub interstage_row_why : List Group → List Stage → OpenInterstageOf → List Text → Option PuaWhy
 interstage_row_why groups stages current ws = form_why (form_of ws) groups stages current ws
 
+-- the rows with these ends for the group at the place
 abbrev pub set_row : List (Option (ℤ × ℤ)) → Option ℕ → ℤ → ℤ → List (Option (ℤ × ℤ))
 set_row rows None r e = rows
 set_row rows (Some g) r e = slice_set rows g (Some (r, e))
@@ -123,6 +136,7 @@ open_after_form form.To groups stages current ws = record current { to = stage_o
 open_after_form form.Ends groups stages current ws =
     record current { rows = set_row current.rows (place_of groups (word ws 0)) (end_or_none (signed_of (word ws 1))) (end_or_none (signed_of (word ws 2))) }
 
+-- the current interstage with what a row gives it
 abbrev pub open_after : List Group → List Stage → OpenInterstageOf → List Text → OpenInterstageOf
 open_after groups stages current ws = open_after_form (form_of ws) groups stages current ws
 
@@ -133,9 +147,11 @@ interstage_by_keys None from to rows = None
 interstage_by_keys (Some n) None to rows = None
 interstage_by_keys (Some n) (Some a) None rows = None
 
+-- the interstage that a section gives at its end, where nothing is missing
 abbrev pub interstage_of : OpenInterstageOf → Option InterstageOf
 interstage_of current = interstage_by_keys current.length current.from current.to current.rows
 
+-- group g is green in stage s
 abbrev pub greens_in : List Stage → ℕ → ℕ → Bool
 greens_in stages s g = slice_index_or (slice_index_or stages (s - 1) (record { name = []; greens = [] })).greens g false
 
@@ -144,6 +160,7 @@ abbrev pub first_inconsistent : ℕ → List Stage → InterstageOf → Option �
 first_inconsistent groups stages w =
     least_below (λ g. not (leads (slice_index_or w.rows g None) (greens_in stages w.from g) (greens_in stages w.to g) w.length)) groups
 
+-- the reason to refuse an interstage by its number and the first group that it leads wrongly, if there is one
 abbrev pub inconsistent_why : ℕ → List Group → Option ℕ → Option PuaWhy
 inconsistent_why number groups None = None
 inconsistent_why number groups (Some g) =
@@ -158,6 +175,7 @@ interstage_reasons groups stages interstages (Some w) = first_reason (
     ∷ inconsistent_why (length interstages + 1) groups (first_inconsistent (length groups) stages w)
     ∷ [])
 
+-- the interstages with one more, where there is one
 abbrev pub interstages_with : List InterstageOf → Option InterstageOf → List InterstageOf
 interstages_with interstages None = interstages
 interstages_with interstages (Some w) = interstages ++ w ∷ []

@@ -29,10 +29,11 @@ pub record PlanDraftOf : Type 0 where
   pub interstages : List InterstageOf
   pub current : OpenInterstageOf
 
+-- before the first line
 abbrev pub empty_draft : PlanDraftOf
 empty_draft = record { section = section.Before; lines = 0; groups = []; stages = []; after_stage = false; start = None; interstages = []; current = open_at 0 0 }
 
--- a row, by the section in which it stands
+-- why a row of this section is refused
 abbrev pub row_why_in : Section → PlanDraftOf → Text → Option PuaWhy
 row_why_in section.Before g line = Some why.Section
 row_why_in section.Groups g line = group_why g.groups (words false line)
@@ -41,9 +42,11 @@ row_why_in section.Start g line = start_why g.stages g.start (words false line)
 row_why_in section.Interstage g line = interstage_row_why g.groups g.stages g.current (words true line)
 row_why_in section.End g line = None
 
+-- why a row is refused: it is no text, or its section has no such row
 unfoldable pub row_why : PlanDraftOf → Text → Option PuaWhy
 row_why g line = first_reason (when (not (is_text line)) why.NotText ∷ row_why_in g.section g line ∷ [])
 
+-- the draft after a row of this section
 abbrev pub after_row_in : Section → PlanDraftOf → Text → PlanDraftOf
 after_row_in section.Before g line = g
 after_row_in section.Groups g line = record g { groups = groups_with g.groups (words false line) }
@@ -53,9 +56,11 @@ after_row_in section.Start g line = record g { start = start_with g.stages (word
 after_row_in section.Interstage g line = record g { current = open_after g.groups g.stages g.current (words true line) }
 after_row_in section.End g line = g
 
+-- the draft after a row
 unfoldable pub after_row : PlanDraftOf → Text → PlanDraftOf
 after_row g line = after_row_in g.section g line
 
+-- the section is that of an interstage
 abbrev pub is_interstage : Section → Bool
 is_interstage section.Interstage = true
 is_interstage _ = false
@@ -65,10 +70,11 @@ unfoldable pub interstage_end_why : PlanDraftOf → Option (ℕ × PuaWhy)
 interstage_end_why g =
     if is_interstage g.section then at_line g.current.line (interstage_reasons g.groups g.stages g.interstages (interstage_of g.current)) else None
 
+-- the draft after the end of its section: that of an interstage adds it
 unfoldable pub after_section_end : PlanDraftOf → PlanDraftOf
 after_section_end g = if is_interstage g.section then record g { interstages = interstages_with g.interstages (interstage_of g.current); current = open_at 0 0 } else g
 
--- a section line
+-- why the section line that begins section s is refused
 unfoldable pub section_why : PlanDraftOf → Section → Text → Option PuaWhy
 section_why g s line = first_reason (
     when (not (is_text line)) why.NotText
@@ -76,6 +82,7 @@ section_why g s line = first_reason (
     ∷ when (is_interstage s && nat_le 256 (length g.interstages)) why.Limit
     ∷ [])
 
+-- the draft after the section line that begins section s
 unfoldable pub after_section_line : PlanDraftOf → Section → PlanDraftOf
 after_section_line g s = if is_interstage s then record g { section = s; current = open_at g.lines (length g.groups) } else record g { section = s }
 
@@ -89,19 +96,22 @@ kind_why Passed g line = None
 kind_why (Begins s) g line = or_next (interstage_end_why g) (at_line g.lines (section_why (after_section_end g) s line))
 kind_why Row g line = at_line g.lines (row_why g line)
 
+-- the draft after a line of this kind
 abbrev pub after_kind : Kind → PlanDraftOf → Text → PlanDraftOf
 after_kind Passed g line = g
 after_kind (Begins s) g line = after_section_line (after_section_end g) s
 after_kind Row g line = after_row g line
 
+-- the section is the end, after which lines are passed over
 abbrev pub is_over : Section → Bool
 is_over section.End = true
 is_over _ = false
 
--- lines after `$END` are passed over
+-- the reason to refuse a line, with the line that it names; lines after `$END` are passed over
 unfoldable pub line_why : PlanDraftOf → Text → Option (ℕ × PuaWhy)
 line_why g line = if is_over g.section then None else kind_why (kind_of (words false line)) (at_next_line g) line
 
+-- the draft after one line more
 unfoldable pub after_line : PlanDraftOf → Text → PlanDraftOf
 after_line g line = if is_over g.section then at_next_line g else after_kind (kind_of (words false line)) (at_next_line g) line
 

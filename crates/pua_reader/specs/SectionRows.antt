@@ -28,11 +28,13 @@ unfoldable pub section_from : Section → List Text → Section
 section_from now [] = now
 section_from now (line ∷ more) = section_from (section_with now line) more
 
+-- a line of this kind is a row
 abbrev pub is_row : Kind → Bool
 is_row Passed = false
 is_row (Begins s) = false
 is_row Row = true
 
+-- the place of a section in the order of sections
 abbrev pub place_in_order : Section → ℕ
 place_in_order section.Before = 0
 place_in_order section.Groups = 1
@@ -41,6 +43,7 @@ place_in_order section.Start = 3
 place_in_order section.Interstage = 4
 place_in_order section.End = 5
 
+-- the two sections are one
 abbrev pub same_section : Section → Section → Bool
 same_section a b = place_in_order a == place_in_order b
 
@@ -49,6 +52,7 @@ abbrev pub row_here : Section → Section → Text → List (List Text)
 row_here wanted now line =
     if same_section wanted now && is_row (kind_of (words false line)) then words (is_interstage wanted) line ∷ [] else []
 
+-- the rows of the section that is wanted among these lines, before which stand lines of the section `now`
 unfoldable pub rows_from : Section → Section → List Text → List (List Text)
 rows_from wanted now [] = []
 rows_from wanted now (line ∷ more) = row_here wanted (section_with now line) line ++ rows_from wanted (section_with now line) more
@@ -57,6 +61,7 @@ rows_from wanted now (line ∷ more) = row_here wanted (section_with now line) l
 abbrev pub rows_in : Section → List Text → List (List Text)
 rows_in wanted lines = rows_from wanted section.Before lines
 
+-- the group of a row, where it has one, before the others
 abbrev pub group_before : Option Group → List Group → List Group
 group_before None groups = groups
 group_before (Some g) groups = g ∷ groups
@@ -66,6 +71,7 @@ unfoldable pub groups_from : ℕ → List (List Text) → List Group
 groups_from place [] = []
 groups_from place (row ∷ rows) = group_before (group_row place row) (groups_from (place + 1) rows)
 
+-- the sorted groups with all these, each put where its number belongs
 abbrev pub put_all : List Group → List Group → List Group
 put_all sorted [] = sorted
 put_all sorted (g ∷ more) = put_all (put g sorted) more

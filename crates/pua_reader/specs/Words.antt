@@ -9,13 +9,15 @@ use Rattle.pua_reader.specs.declared.section.Section.TheVariants as section
 use Rattle.pua_reader.specs.declared.section.Kind.{Kind}
 use Rattle.pua_reader.specs.declared.section.Kind.TheVariants.{Passed, Begins, Row}
 
+-- a text is a list of bytes
 abbrev pub Text : Type 0
 Text = List ℕ
 
--- what parts words: spaces and tabs, and in an interstage also `:` and `=`
+-- a space or a tab
 abbrev pub is_blank : ℕ → Bool
 is_blank b = (b == 32) || (b == 9)
 
+-- what parts words: spaces and tabs, and with `keys`, as in an interstage, also `:` and `=`
 abbrev pub parts : Bool → ℕ → Bool
 parts keys b = is_blank b || (keys && ((b == 58) || (b == 61)))
 
@@ -27,6 +29,7 @@ words keys line = filter (λ w. not (length w == 0)) (slice_split (parts keys) l
 abbrev pub is_printed : ℕ → Bool
 is_printed b = (nat_le 32 b && nat_le b 126) || (b == 9)
 
+-- the line has printable ASCII and tabs alone
 abbrev pub is_text : Text → Bool
 is_text line = list_all is_printed line
 
@@ -49,6 +52,7 @@ abbrev pub kind_of_dollar : Option Section → Kind
 kind_of_dollar None = Passed
 kind_of_dollar (Some s) = Begins s
 
+-- the kind of a line with this word first
 abbrev pub kind_of_word : Text → Kind
 kind_of_word [] = Row
 kind_of_word (b ∷ bs) = if b == 36 then kind_of_dollar (section_named bs) else Row
@@ -69,15 +73,17 @@ may_follow section.Interstage section.Interstage = true
 may_follow section.Interstage section.End = true
 may_follow _ _ = false
 
--- a number with `-` before it, where it isn't 0, or without
+-- the number with a minus before it, where it is not 0
 abbrev pub negative : Option ℕ → Option ℤ
 negative None = None
 negative (Some n) = if n == 0 then None else Some (negsuc (n - 1))
 
+-- the number as it is
 abbrev pub positive : Option ℕ → Option ℤ
 positive None = None
 positive (Some n) = Some (pos n)
 
+-- a decimal number that may have a minus before a number that is not 0
 abbrev pub signed_of : Text → Option ℤ
 signed_of [] = None
 signed_of (b ∷ bs) = if b == 45 then negative (number_of bs) else positive (number_of (b ∷ bs))

@@ -6,9 +6,11 @@ use Rattle.sig_types.specs.Turns.{is_red, is_green, is_on, ends_at}
 use Rattle.sig_types.specs.Words.{last_below}
 use Rattle.sig_guard.specs.declared.ages.GroupAge.{GroupAge}
 
+-- what is kept of a group in second 0: it shows red for one second, and its last end is taken to be second 0
 abbrev pub first_age : GroupAge
 first_age = record { age = 1; last_end = 0 }
 
+-- what is kept of group g
 abbrev pub age_at : List GroupAge → ℕ → GroupAge
 age_at ages g = slice_index_or ages g first_age
 
@@ -19,6 +21,7 @@ same_aspect RedAmber x = is_on x && not (is_green x)
 same_aspect Green x = is_green x
 same_aspect Amber x = not (is_on x) && not (is_red x)
 
+-- what is kept of a group that showed `before` in the last second and shows `after` in second `now`
 abbrev pub next_age : GroupAge → Aspect → Aspect → ℕ → GroupAge
 next_age x before after now = record {
   age = if same_aspect before after then x.age + 1 else 1;

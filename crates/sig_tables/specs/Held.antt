@@ -14,6 +14,7 @@ empties [] = 0
 empties (None ∷ xs) = empties xs + 1
 empties (Some x ∷ xs) = empties xs
 
+-- times that are there are in range
 abbrev pub IsRowOrNone : Option TimesRow → Type 0
 IsRowOrNone None = Unit {0}
 IsRowOrNone (Some row) = IsRow row
@@ -24,6 +25,7 @@ pub record HoldsTimes (plan : PlanOf) (rows : List Row) (held : List (Option Tim
   pub times : (g : ℕ) → g < groups_in plan → slice_index_or held g None ≡ listed_times plan rows g
   pub range : (g : ℕ) → g < groups_in plan → IsRowOrNone (slice_index_or held g None)
 
+-- stands for the pair at a place where there is none
 abbrev pub no_pair : GroupNo × GroupNo
 no_pair = (record { 0 = 0 }, record { 0 = 0 })
 

@@ -15,6 +15,7 @@ use Rattle.sig_tables.specs.Groups.{group_at}
 unfoldable pub seconds_in : Row → Option ℕ
 seconds_in row = within 0 99 (number_of (field row 2))
 
+-- two groups as a pair, where both are there
 abbrev pub pair_with : Option ℕ → Option ℕ → Option (ℕ × ℕ)
 pair_with None to = None
 pair_with (Some from) None = None
@@ -24,6 +25,7 @@ pair_with (Some from) (Some to) = Some (from, to)
 unfoldable pub pair_in : PlanOf → Row → Option (ℕ × ℕ)
 pair_in plan row = pair_with (group_at plan row 0) (group_at plan row 1)
 
+-- a pair that is named is that of i and g, in this order
 abbrev pub is_pair : Option (ℕ × ℕ) → ℕ → ℕ → Bool
 is_pair None i g = false
 is_pair (Some p) i g = (p.0 == i) && (p.1 == g)
@@ -46,6 +48,7 @@ abbrev pub has_pair : PlanOf → List Row → Option (ℕ × ℕ) → Bool
 has_pair plan rows None = false
 has_pair plan rows (Some p) = is_some (listed_seconds plan rows p.0 p.1)
 
+-- a pair that is named is of a group with itself
 abbrev pub is_self : Option (ℕ × ℕ) → Bool
 is_self None = false
 is_self (Some p) = p.0 == p.1
@@ -63,6 +66,7 @@ abbrev pub one_way : PlanOf → List Row → Option (ℕ × ℕ) → Option Tabl
 one_way plan all None = None
 one_way plan all (Some p) = when (is_none (listed_seconds plan all p.1 p.0)) (why.OneWay (record { 0 = p.0 }) (record { 0 = p.1 }))
 
+-- why a record is refused after all were read: its pair is not listed the other way
 unfoldable pub one_way_reason : PlanOf → List Row → List Row → Row → Option TableWhy
 one_way_reason plan all before row = one_way plan all (pair_in plan row)
 
@@ -74,6 +78,7 @@ intergreens_refused plan rows = first_reason (
     ∷ first_refused (numbered (one_way_reason plan (drop 1 rows))) (drop 1 rows) []
     ∷ [])
 
+-- why and where a text is refused as a table of intergreens of the plan
 abbrev pub intergreens_refusal : PlanOf → List ℕ → Option Refusal
 intergreens_refusal plan text = intergreens_refused plan (table_rows text)
 

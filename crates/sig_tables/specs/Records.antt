@@ -17,6 +17,7 @@ Row = List (List ℕ)
 unfoldable pub table_rows : List ℕ → List Row
 table_rows text = records default_config (strip_bom text)
 
+-- the field at a place of a record, which counts from 0; empty where there is none
 abbrev pub field : Row → ℕ → List ℕ
 field row k = slice_index_or row k []
 

@@ -10,9 +10,11 @@ use Rattle.sig_tables.specs.Records.{Row, is_header}
 abbrev pub Refusal : Type 0
 Refusal = ℕ × TableWhy
 
+-- a reason that applies where b holds
 abbrev pub when : Bool → TableWhy → Option TableWhy
 when b why = if b then Some why else None
 
+-- a reason with the line that it names
 abbrev pub at : ℕ → Option TableWhy → Option Refusal
 at line None = None
 at line (Some why) = Some (line, why)

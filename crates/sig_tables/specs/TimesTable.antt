@@ -26,6 +26,7 @@ pub record AreTimes (rows : List TimesRow) : Type 0 where
   pub at_most : length rows ≤ 64
   pub range : All IsRow rows
 
+-- stands for the times of a group that has none
 abbrev pub no_times : TimesRow
 no_times = record { min = 1; red_amber = 0; amber = 0 }
 
@@ -33,6 +34,7 @@ no_times = record { min = 1; red_amber = 0; amber = 0 }
 abbrev pub row_of : List TimesRow → ℕ → TimesRow
 row_of rows g = slice_index_or rows g no_times
 
+-- three numbers as times, where all are there
 abbrev pub times_with : Option ℕ → Option ℕ → Option ℕ → Option TimesRow
 times_with None red_amber amber = None
 times_with (Some min) None amber = None
@@ -43,6 +45,7 @@ times_with (Some min) (Some red_amber) (Some amber) = Some (record { min = min; 
 unfoldable pub times_in : Row → Option TimesRow
 times_in row = times_with (within 1 255 (number_of (field row 1))) (within 0 9 (number_of (field row 2))) (within 0 9 (number_of (field row 3)))
 
+-- times that are there, or those that stand for none
 abbrev pub times_or : Option TimesRow → TimesRow
 times_or None = no_times
 times_or (Some row) = row
@@ -69,6 +72,7 @@ has_times plan rows (Some g) = is_some (listed_times plan rows g)
 unfoldable pub times_reason : PlanOf → List Row → Row → Option TableWhy
 times_reason plan rows row = or_next (times_form plan row) (when (has_times plan rows (group_at plan row 0)) why.Twice)
 
+-- the whole table is refused for a group without a record, where there is one
 abbrev pub missing_group : Option ℕ → Option Refusal
 missing_group None = None
 missing_group (Some g) = Some (0, why.Missing (record { 0 = g }))
@@ -85,6 +89,7 @@ times_refused plan rows = first_reason (
     ∷ missing_times plan (drop 1 rows)
     ∷ [])
 
+-- why and where a text is refused as a table of times of the plan
 abbrev pub times_refusal : PlanOf → List ℕ → Option Refusal
 times_refusal plan text = times_refused plan (table_rows text)
 

@@ -13,9 +13,11 @@ pub record Order : Type 0 where
   pub from : ℕ
   pub to : ℕ
 
+-- the stage with this number
 abbrev pub stage : ℕ → StageNo
 stage s = record { 0 = s }
 
+-- how many seconds an order's interstage takes
 abbrev pub length_of : PlanOf → Order → ℕ
 length_of plan o = unwrap_or (length_between plan o.from o.to) 0
 
@@ -39,6 +41,7 @@ unfoldable pub since_at : PlanOf → List Order → ℕ → ℕ
 since_at plan [] k = 0
 since_at plan (o ∷ os) k = if nat_lt k (over plan o) then since_after plan os else over plan o
 
+-- the rule that refuses a command for which the plan has no interstage
 abbrev pub refused_without : Option ℕ → Option Rule
 refused_without None = Some NoInterstage
 refused_without (Some i) = None
@@ -49,6 +52,7 @@ refused_order plan NoPlan a b = Some WrongStage
 refused_order plan (Inter from to t) a b = Some Running
 refused_order plan (Stage s) a b = if s.0 == a then refused_without (interstage_between plan a b) else Some WrongStage
 
+-- what an interstage wishes of group g in its second t; red where there is none
 abbrev pub wish_by : PlanOf → Option ℕ → ℕ → ℕ → Bool
 wish_by plan None t g = false
 wish_by plan (Some i) t g = wish_in plan i t g

@@ -50,11 +50,12 @@ abbrev pub array_number : Option Meaning → ℕ
 array_number (Some (Array a)) = a
 array_number _ = 0
 
--- the first and the second argument of a reading or a command; 0 where there is none
+-- the first argument of a reading or a command; 0 where there is none
 abbrev pub first_of : List ℤ → ℤ
 first_of [] = pos 0
 first_of (x ∷ xs) = x
 
+-- the second argument of a reading or a command; 0 where there is none
 abbrev pub second_of : List ℤ → ℤ
 second_of [] = pos 0
 second_of (x ∷ xs) = first_of xs

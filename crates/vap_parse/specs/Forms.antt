@@ -61,11 +61,12 @@ pub data Inside : ℕ → List Marked → Type 0 where
 pub data Balanced : ℕ → List Marked → Unit {0} → ℕ → Type 0 where
   balanced : (o : ℕ) (ms : List Marked) → Inside zero ms → Balanced o ms tt o
 
--- `do` writes forms one after another
 infixl 10 ◌>>=◌
+-- one form, and then one that may depend on its value; `do` writes it
 abbrev pub ◌>>=◌ : {A B : Type 0} → Form A → (A → Form B) → Form B
 P >>= Q = Then P Q
 
 infixl 10 ◌>>◌
+-- one form, and then another
 abbrev pub ◌>>◌ : {A B : Type 0} → Form A → Form B → Form B
 P >> Q = Then P (λ _. Q)

@@ -97,13 +97,13 @@ abbrev pub and_then : {A B : Type 0} → Outcome A → (A → Parser B) → Outc
 and_then (Ok p) f = f p.0 p.1
 and_then (Err e) f = Err e
 
--- one parser, and then one that may depend on its value
 infixl 10 ◌>>=◌
+-- one parser, and then one that may depend on its value
 abbrev pub ◌>>=◌ : {A B : Type 0} → Parser A → (A → Parser B) → Parser B
 p >>= f = λ i. and_then (p i) f
 
--- one parser, and then another
 infixl 10 ◌>>◌
+-- one parser, and then another
 abbrev pub ◌>>◌ : {A B : Type 0} → Parser A → Parser B → Parser B
 p >> q = p >>= (λ _. q)
 
@@ -195,6 +195,7 @@ is_one (Some (pos n)) = n == 1
 is_one (Some (negsuc n)) = false
 is_one None = false
 
+-- the number of a frequency is wrong where it is not 1
 abbrev pub frequency_mark : ℕ → Token → Mark
 frequency_mark n t = if is_one (number_in t.kind) then fine else wrong
 
@@ -248,6 +249,7 @@ abbrev pub ended_at : List Token → ℕ → Outcome (Unit {0})
 ended_at [] n = Ok (tt, input [] n)
 ended_at (t ∷ s) n = Err (Unexpected, t ∷ s)
 
+-- the end of the tokens, where nothing is left
 unfoldable pub ended : Parser (Unit {0})
 ended = λ i. ended_at i.rest i.operators
 
