@@ -13,7 +13,8 @@ RefusedBy code (At place why) = FirstBroken code why place
 
 -- a code breaks at most one check first, at one least place
 abbrev pub OneIsFirst : Type 0
-OneIsFirst = (code : CodeOf) (why why' : VerifyWhy) (place place' : ℕ) → FirstBroken code why place → FirstBroken code why' place' → (why ≡ why') × (place ≡ place')
+OneIsFirst = (code : CodeOf) (why why' : VerifyWhy) (place place' : ℕ) →
+    FirstBroken code why place → FirstBroken code why' place' → (why ≡ why') × (place ≡ place')
 
 -- a valid code breaks none
 abbrev pub ValidBreaksNone : Type 0

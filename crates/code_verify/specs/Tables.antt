@@ -40,7 +40,8 @@ numbers number instrs starts = from_last (number_before number instrs starts) (l
 
 -- each jump leads to a place of the code, and further on or to a tick
 abbrev pub JumpsAhead : List Instr → Type 0
-JumpsAhead instrs = (p : ℕ) → p < length instrs → IfSome (target (instr_at instrs p)) (λ t. (t < length instrs) × (t ≤ p → IsTrue (is_tick (instr_at instrs t))))
+JumpsAhead instrs = (p : ℕ) → p < length instrs →
+    IfSome (target (instr_at instrs p)) (λ t. (t < length instrs) × (t ≤ p → IsTrue (is_tick (instr_at instrs t))))
 
 -- the tables have the heights, stretches and command counts of the code
 pub record IsTables (code : CodeOf) (t : Tables) : Type 0 where

@@ -55,7 +55,9 @@ pub record IsTicking (id : TableId) (me : Me (Unit {0}) View) (totals : Counts) 
   pub owned_count : 2 * length (owned_of me.0) ≡ id.words
   pub size : length totals ≡ 64
   pub read : (d : ℕ) → d < 64 → slice_index_or totals d (0, 0) ≡ (last_read (loads_of me.0) (fronts_word d), last_read (loads_of me.0) (rears_word d))
-  pub ordered : (d : ℕ) → d < 64 → (last_read (loads_of me.0) (rears_word d) ≤ last_read (loads_of me.0) (fronts_word d)) × (last_read (loads_of me.0) (fronts_word d) ≤ most_fronts)
+  pub ordered : (d : ℕ) → d < 64 →
+      (last_read (loads_of me.0) (rears_word d) ≤ last_read (loads_of me.0) (fronts_word d))
+      × (last_read (loads_of me.0) (fronts_word d) ≤ most_fronts)
 
 -- one value more of each word of the detector at place d: first of its rears, then of its fronts; g is what they gained
 pub record ReadsOne (d : ℕ) (old new : Ticking) (g : ℕ × ℕ) : Type 0 where
@@ -71,7 +73,9 @@ pub record Takes (detectors : ℕ) (old new : Ticking) (frame : Counts) : Type 0
   pub fronts : (d : ℕ) → d < detectors → fronts_loads new d ≡ fronts_loads old d ++ fronts_read new d ∷ []
   pub rears : (d : ℕ) → d < detectors → rears_loads new d ≡ rears_loads old d ++ rears_read new d ∷ []
   pub size : length frame ≡ 64
-  pub gains : (d : ℕ) → d < detectors → ((slice_index_or frame d (0, 0)).0 + fronts_read old d ≡ fronts_read new d) × ((slice_index_or frame d (0, 0)).1 + rears_read old d ≡ rears_read new d)
+  pub gains : (d : ℕ) → d < detectors →
+      ((slice_index_or frame d (0, 0)).0 + fronts_read old d ≡ fronts_read new d)
+      × ((slice_index_or frame d (0, 0)).1 + rears_read old d ≡ rears_read new d)
   pub absent : (d : ℕ) → detectors ≤ d → slice_index_or frame d (0, 0) ≡ (0, 0)
   pub ordered : (d : ℕ) → d < detectors → (rears_read new d ≤ fronts_read new d) × (fronts_read new d ≤ most_fronts)
 
@@ -92,7 +96,9 @@ pub record AreAll (board : Boarded) (feeders : List Feeding) (tick : Ticking) : 
 -- the frame that is left: with what was read it makes each feeder's own counts
 pub record Closes (board : Boarded) (feeders : List Feeding) (tick : Ticking) (frame : Counts) : Type 0 where
   pub size : length frame ≡ 64
-  pub rest : (d : ℕ) (p : Feeding) → slice_get feeders d ≡ Some p → ((slice_index_or frame d (0, 0)).0 + fronts_read tick d ≡ p.fronts) × ((slice_index_or frame d (0, 0)).1 + rears_read tick d ≡ p.rears)
+  pub rest : (d : ℕ) (p : Feeding) → slice_get feeders d ≡ Some p →
+      ((slice_index_or frame d (0, 0)).0 + fronts_read tick d ≡ p.fronts)
+      × ((slice_index_or frame d (0, 0)).1 + rears_read tick d ≡ p.rears)
   pub absent : (d : ℕ) → board.detectors ≤ d → slice_index_or frame d (0, 0) ≡ (0, 0)
   pub ordered : (d : ℕ) (p : Feeding) → slice_get feeders d ≡ Some p → (p.rears ≤ p.fronts) × (p.fronts ≤ most_fronts)
 
@@ -110,4 +116,7 @@ pub record GivenBack (n detectors : ℕ) (feeders : List Feeding) (loads : List 
 
 -- what the tick has read of the detectors that it owns is at most their counts
 abbrev pub WithinCounts : ℕ → View → Type 0
-WithinCounts detectors v = IsTick v → (d f r : ℕ) → d < detectors → owned_by v d ≡ Some (f, r) → (last_read (loads_of v) (fronts_word d) ≤ f) × (last_read (loads_of v) (rears_word d) ≤ r) × (r ≤ f) × (f ≤ most_fronts)
+WithinCounts detectors v =
+    IsTick v → (d f r : ℕ) → d < detectors → owned_by v d ≡ Some (f, r) →
+    (last_read (loads_of v) (fronts_word d) ≤ f) × (last_read (loads_of v) (rears_word d) ≤ r)
+    × (r ≤ f) × (f ≤ most_fronts)

@@ -34,7 +34,9 @@ fn give_back(board: &Board, seat: &mut Seat<(), View>, feeder: FeederPass) -> (u
     requires tick { seat.old.me ≡ (Tick (dealt_of seat.old.me.0) (loads_of seat.old.me.0) (owned_of seat.old.me.0), []) }
     requires room { length (owned_of seat.old.me.0) ≡ board.now.detectors }
     ensures counts { result ≡ (feeder.fronts, feeder.rears) }
-    ensures seat { (seat.new.table_id ≡ seat.old.table_id) × (seat.new.me ≡ (Tick (dealt_of seat.old.me.0) (loads_of seat.old.me.0) (slice_set (owned_of seat.old.me.0) feeder.place (Some (feeder.fronts, feeder.rears))), [])) }
+    ensures seat { (seat.new.table_id ≡ seat.old.table_id)
+        × (seat.new.me ≡ (Tick (dealt_of seat.old.me.0) (loads_of seat.old.me.0)
+        (slice_set (owned_of seat.old.me.0) feeder.place (Some (feeder.fronts, feeder.rears))), [])) }
 {
     let FeederPass {
         seat: other,
@@ -61,9 +63,13 @@ fn close(board: Board, seat: Seat<(), View>)
 // The counts that have not been read.
 fn rest(detectors: u8, totals: &Frame, counts: &Frame) -> Frame
     requires room { detectors ≤ 64 }
-    requires read { (d : ℕ) → d < detectors → ((slice_index_or totals.now d (0, 0)).0 ≤ (slice_index_or counts.now d (0, 0)).0) × ((slice_index_or totals.now d (0, 0)).1 ≤ (slice_index_or counts.now d (0, 0)).1) }
+    requires read { (d : ℕ) → d < detectors →
+        ((slice_index_or totals.now d (0, 0)).0 ≤ (slice_index_or counts.now d (0, 0)).0)
+        × ((slice_index_or totals.now d (0, 0)).1 ≤ (slice_index_or counts.now d (0, 0)).1) }
     ensures size { length result ≡ 64 }
-    ensures rest { (d : ℕ) → d < detectors → ((slice_index_or result d (0, 0)).0 + (slice_index_or totals.now d (0, 0)).0 ≡ (slice_index_or counts.now d (0, 0)).0) × ((slice_index_or result d (0, 0)).1 + (slice_index_or totals.now d (0, 0)).1 ≡ (slice_index_or counts.now d (0, 0)).1) }
+    ensures rest { (d : ℕ) → d < detectors →
+        ((slice_index_or result d (0, 0)).0 + (slice_index_or totals.now d (0, 0)).0 ≡ (slice_index_or counts.now d (0, 0)).0)
+        × ((slice_index_or result d (0, 0)).1 + (slice_index_or totals.now d (0, 0)).1 ≡ (slice_index_or counts.now d (0, 0)).1) }
     ensures absent { (d : ℕ) → detectors ≤ d → slice_index_or result d (0, 0) ≡ (0, 0) }
 {
     let mut frame = Frame::empty();

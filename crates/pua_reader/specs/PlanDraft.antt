@@ -31,7 +31,16 @@ pub record PlanDraftOf : Type 0 where
 
 -- before the first line
 abbrev pub empty_draft : PlanDraftOf
-empty_draft = record { section = section.Before; lines = 0; groups = []; stages = []; after_stage = false; start = None; interstages = []; current = open_at 0 0 }
+empty_draft = record {
+  section = section.Before;
+  lines = 0;
+  groups = [];
+  stages = [];
+  after_stage = false;
+  start = None;
+  interstages = [];
+  current = open_at 0 0;
+}
 
 -- why a row of this section is refused
 abbrev pub row_why_in : Section → PlanDraftOf → Text → Option PuaWhy
@@ -72,7 +81,9 @@ interstage_end_why g =
 
 -- the draft after the end of its section: that of an interstage adds it
 unfoldable pub after_section_end : PlanDraftOf → PlanDraftOf
-after_section_end g = if is_interstage g.section then record g { interstages = interstages_with g.interstages (interstage_of g.current); current = open_at 0 0 } else g
+after_section_end g =
+    if is_interstage g.section then record g { interstages = interstages_with g.interstages (interstage_of g.current); current = open_at 0 0 }
+    else g
 
 -- why the section line that begins section s is refused
 unfoldable pub section_why : PlanDraftOf → Section → Text → Option PuaWhy

@@ -53,7 +53,9 @@ impl PlanDraft {
     // Takes a row by the section in which it stands.
     fn take_words(&mut self, alloc: Global, line: &[u8]) -> Result<(), RowStop>
         requires { Legal (draft_value self.old) }
-        ensures { MatchResult result (λ _. (row_why_in self.old.section (draft_value self.old) line.now ≡ None) × (draft_value self.new ≡ after_row_in self.old.section (draft_value self.old) line.now))
+        ensures { MatchResult result
+            (λ _. (row_why_in self.old.section (draft_value self.old) line.now ≡ None)
+            × (draft_value self.new ≡ after_row_in self.old.section (draft_value self.old) line.now))
             (λ stop. RowStopIs stop (row_why_in self.old.section (draft_value self.old) line.now)) }
     {
         let Ok(words) = words(alloc, self.section == Section::Interstage, line) else {
@@ -88,7 +90,9 @@ impl PlanDraft {
     #[tactic(auto, unfolding(crate::specs::PlanDraft::row_why, crate::specs::PlanDraft::after_row))]
     fn take_row(&mut self, alloc: Global, line: &[u8]) -> Result<(), RowStop>
         requires { Legal (draft_value self.old) }
-        ensures { MatchResult result (λ _. (row_why (draft_value self.old) line.now ≡ None) × (draft_value self.new ≡ after_row (draft_value self.old) line.now))
+        ensures { MatchResult result
+            (λ _. (row_why (draft_value self.old) line.now ≡ None)
+            × (draft_value self.new ≡ after_row (draft_value self.old) line.now))
             (λ stop. RowStopIs stop (row_why (draft_value self.old) line.now)) }
     {
         if !is_text(line) {
@@ -101,7 +105,9 @@ impl PlanDraft {
     #[tactic(auto, unfolding(crate::specs::PlanDraft::interstage_end_why, crate::specs::PlanDraft::after_section_end, crate::specs::Interstages::interstage_reasons))]
     fn close(&mut self, alloc: Global) -> Result<(), PuaRefusal>
         requires { Legal (draft_value self.old) }
-        ensures { MatchResult result (λ _. (interstage_end_why (draft_value self.old) ≡ None) × (draft_value self.new ≡ after_section_end (draft_value self.old)))
+        ensures { MatchResult result
+            (λ _. (interstage_end_why (draft_value self.old) ≡ None)
+            × (draft_value self.new ≡ after_section_end (draft_value self.old)))
             (λ refusal. RefusedAs refusal (interstage_end_why (draft_value self.old))) }
     {
         if self.section != Section::Interstage {
@@ -187,7 +193,9 @@ impl PlanDraft {
     pub(crate) fn take_line(&mut self, alloc: Global, line: &[u8]) -> Result<(), PuaRefusal>
         requires legal { Legal (draft_value self.old) }
         requires lines { self.old.lines < 2 ^ 32 - 1 }
-        ensures { MatchResult result (λ _. (line_why (draft_value self.old) line.now ≡ None) × (draft_value self.new ≡ after_line (draft_value self.old) line.now))
+        ensures { MatchResult result
+            (λ _. (line_why (draft_value self.old) line.now ≡ None)
+            × (draft_value self.new ≡ after_line (draft_value self.old) line.now))
             (λ refusal. RefusedAs refusal (line_why (draft_value self.old) line.now)) }
     {
         let number = self.lines + 1;
@@ -249,7 +257,9 @@ impl PlanDraft {
     #[tactic(auto, unfolding(crate::specs::PlanDraft::end_why))]
     pub(crate) fn finish(mut self, alloc: Global) -> Result<Plan, PuaRefusal>
         requires { Legal (draft_value self) }
-        ensures { MatchResult result (λ plan. (end_why (draft_value self) ≡ None) × (plan ≡ plan_in (after_section_end (draft_value self)))) (λ refusal. RefusedAs refusal (end_why (draft_value self))) }
+        ensures { MatchResult result
+            (λ plan. (end_why (draft_value self) ≡ None) × (plan ≡ plan_in (after_section_end (draft_value self))))
+            (λ refusal. RefusedAs refusal (end_why (draft_value self))) }
     {
         self.close(alloc)?;
         if let Some(why) = self.lacks() {

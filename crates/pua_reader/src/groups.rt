@@ -108,7 +108,9 @@ fn put(groups: &mut Vec<Group>, group: Group) -> Result<(), AllocError>
 pub(crate) fn read_group(groups: &mut Vec<Group>, words: &[&[u8]]) -> Result<(), RowStop>
     requires at_most { length groups.old.items ≤ 64 }
     requires rising { is_above 0 (map (λ g. g.number) groups.old.items) ≡ true }
-    ensures { MatchResult result (λ _. (group_why groups.old.items (map (λ w. w.now) words.now) ≡ None) × (groups.new.items ≡ groups_with groups.old.items (map (λ w. w.now) words.now)))
+    ensures { MatchResult result
+        (λ _. (group_why groups.old.items (map (λ w. w.now) words.now) ≡ None)
+        × (groups.new.items ≡ groups_with groups.old.items (map (λ w. w.now) words.now)))
         (λ stop. RowStopIs stop (group_why groups.old.items (map (λ w. w.now) words.now))) }
 {
     let Some((name, number)) = row_parts(groups.len() as u8 + 1, words) else {

@@ -185,7 +185,8 @@ impl OpenInterstage {
 
 /// The interstage of a section in which nothing is missing.
 pub(crate) fn interstage_of(ended: OpenInterstage) -> Option<Interstage>
-    ensures { MatchOption result (interstage_by_keys ended.length ended.from ended.to ended.rows.items ≡ None) (λ interstage. interstage_by_keys ended.length ended.from ended.to ended.rows.items ≡ Some interstage) }
+    ensures { MatchOption result (interstage_by_keys ended.length ended.from ended.to ended.rows.items ≡ None)
+        (λ interstage. interstage_by_keys ended.length ended.from ended.to ended.rows.items ≡ Some interstage) }
 {
     let OpenInterstage {
         line: _,
@@ -223,7 +224,8 @@ fn leads_group(stages: &[Stage], interstage: &Interstage, group: u8) -> bool
     requires from { (1 ≤ interstage.now.from) × (interstage.now.from ≤ length stages.now) }
     requires to { (1 ≤ interstage.now.to) × (interstage.now.to ≤ length stages.now) }
     requires greens { (s : ℕ) → s < length stages.now → group < length (slice_index_or stages.now s (record { name = []; greens = [] })).greens }
-    ensures { result ≡ leads (slice_index_or interstage.now.rows group None) (greens_in stages.now interstage.now.from group) (greens_in stages.now interstage.now.to group) interstage.now.length }
+    ensures { result ≡ leads (slice_index_or interstage.now.rows group None)
+        (greens_in stages.now interstage.now.from group) (greens_in stages.now interstage.now.to group) interstage.now.length }
 {
     let from = is_green(stages, interstage.from_stage(), group);
     let to = is_green(stages, interstage.to_stage(), group);

@@ -171,7 +171,8 @@ impl Guard {
     /// What the group shows in the next second by nature.
     fn natural_aspect(&self, g: u8) -> Aspect
         requires { g < (kept_rules self.now).count }
-        ensures { (h : History) → HasPast self.now h → result ≡ natural_after ((kept_rules self.now).red_amber g) ((kept_rules self.now).amber g) (trace h g) (length h - 1) }
+        ensures { (h : History) → HasPast self.now h →
+            result ≡ natural_after ((kept_rules self.now).red_amber g) ((kept_rules self.now).amber g) (trace h g) (length h - 1) }
     {
         match self.aspect(g) {
             Aspect::RedAmber => {
@@ -233,7 +234,9 @@ impl Guard {
         requires first { i < (kept_rules self.now).count }
         requires second { g < (kept_rules self.now).count }
         requires size { length picture.now ≡ (kept_rules self.now).count }
-        ensures { (h : History) → HasPast self.now h → result ≡ is_uncleared ((kept_rules self.now).between i g) ((kept_rules self.now).red_amber g) (suc (length h - 1)) (trace (h ++ picture.now ∷ []) i) }
+        ensures { (h : History) → HasPast self.now h →
+            result ≡ is_uncleared ((kept_rules self.now).between i g) ((kept_rules self.now).red_amber g) (suc (length h - 1))
+            (trace (h ++ picture.now ∷ []) i) }
     {
         match self.intergreens.between(GroupNo(i), GroupNo(g)) {
             Some(z) => {
@@ -263,7 +266,10 @@ impl Guard {
     fn uncleared_by(&self, picture: &Picture, g: u8) -> Option<u8>
         requires group { g < (kept_rules self.now).count }
         requires size { length picture.now ≡ (kept_rules self.now).count }
-        ensures uncleared { (h : History) → HasPast self.now h → result ≡ least_below (λ i. is_uncleared ((kept_rules self.now).between i g) ((kept_rules self.now).red_amber g) (suc (length h - 1)) (trace (h ++ picture.now ∷ []) i)) (kept_rules self.now).count }
+        ensures uncleared { (h : History) → HasPast self.now h →
+            result ≡ least_below (λ i. is_uncleared ((kept_rules self.now).between i g) ((kept_rules self.now).red_amber g)
+            (suc (length h - 1)) (trace (h ++ picture.now ∷ []) i))
+            (kept_rules self.now).count }
         ensures inside { IfSome result (λ i. i < (kept_rules self.now).count) }
     {
         for i in 0..self.times.groups() {
@@ -388,9 +394,11 @@ impl Guard {
         requires size { length natural.now ≡ (kept_rules self.now).count }
         requires start { picture.old ≡ natural.now }
         requires none { out.old ≡ [] }
-        ensures picture { (h : History) → HasPast self.now h → picture.new ≡ ends_to (kept_rules self.now) h (length h - 1) wishes.now (kept_rules self.now).count }
+        ensures picture { (h : History) → HasPast self.now h →
+            picture.new ≡ ends_to (kept_rules self.now) h (length h - 1) wishes.now (kept_rules self.now).count }
         ensures size { length picture.new ≡ (kept_rules self.now).count }
-        ensures refused { (h : History) → HasPast self.now h → out.new ≡ refused_ends_to (kept_rules self.now) h (length h - 1) wishes.now (kept_rules self.now).count }
+        ensures refused { (h : History) → HasPast self.now h →
+            out.new ≡ refused_ends_to (kept_rules self.now) h (length h - 1) wishes.now (kept_rules self.now).count }
         ensures turns { All (IsTurn (kept_rules self.now).count) out.new }
         ensures count { length out.new ≤ many (wants_end natural.now wishes.now) (kept_rules self.now).count }
     {
@@ -411,13 +419,17 @@ impl Guard {
         requires natural { (h : History) → HasPast self.now h → natural.now ≡ natural_spec (kept_rules self.now) h (length h - 1) }
         requires size { length natural.now ≡ (kept_rules self.now).count }
         requires start_size { length picture.old ≡ (kept_rules self.now).count }
-        requires start { (h : History) → HasPast self.now h → picture.old ≡ ends_to (kept_rules self.now) h (length h - 1) wishes.now (kept_rules self.now).count }
-        requires ends { (h : History) → HasPast self.now h → out.old ≡ refused_ends_to (kept_rules self.now) h (length h - 1) wishes.now (kept_rules self.now).count }
+        requires start { (h : History) → HasPast self.now h →
+            picture.old ≡ ends_to (kept_rules self.now) h (length h - 1) wishes.now (kept_rules self.now).count }
+        requires ends { (h : History) → HasPast self.now h →
+            out.old ≡ refused_ends_to (kept_rules self.now) h (length h - 1) wishes.now (kept_rules self.now).count }
         requires turns { All (IsTurn (kept_rules self.now).count) out.old }
         requires count { length out.old ≤ many (wants_end natural.now wishes.now) (kept_rules self.now).count }
-        ensures picture { (h : History) → HasPast self.now h → picture.new ≡ starts_to (kept_rules self.now) h (length h - 1) wishes.now (kept_rules self.now).count }
+        ensures picture { (h : History) → HasPast self.now h →
+            picture.new ≡ starts_to (kept_rules self.now) h (length h - 1) wishes.now (kept_rules self.now).count }
         ensures size { length picture.new ≡ (kept_rules self.now).count }
-        ensures refused { (h : History) → HasPast self.now h → out.new ≡ refused_to (kept_rules self.now) h (length h - 1) wishes.now (kept_rules self.now).count }
+        ensures refused { (h : History) → HasPast self.now h →
+            out.new ≡ refused_to (kept_rules self.now) h (length h - 1) wishes.now (kept_rules self.now).count }
         ensures turns { All (IsTurn (kept_rules self.now).count) out.new }
     {
         for g in 0..self.times.groups() {

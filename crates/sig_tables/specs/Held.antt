@@ -38,7 +38,8 @@ pub record HoldsPairs (plan : PlanOf) (rows : List Row) (cells : List (Option �
   pub size : length cells ≡ 4096
   pub seconds : (i g : ℕ) → cell_of cells i g ≡ listed_seconds plan rows i g
   pub count : length pairs ≡ length rows
-  pub named : (k : ℕ) → k < length rows → pair_in plan (slice_index_or rows k []) ≡ Some ((slice_index_or pairs k no_pair).0.0, (slice_index_or pairs k no_pair).1.0)
+  pub named : (k : ℕ) → k < length rows →
+      pair_in plan (slice_index_or rows k []) ≡ Some ((slice_index_or pairs k no_pair).0.0, (slice_index_or pairs k no_pair).1.0)
   pub inside : (i g z : ℕ) → cell_of cells i g ≡ Some z → (i < groups_in plan) × (g < groups_in plan)
   pub range : (i g z : ℕ) → cell_of cells i g ≡ Some z → z ≤ 99
   pub other : (g : ℕ) → cell_of cells g g ≡ None

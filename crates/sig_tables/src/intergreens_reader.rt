@@ -69,8 +69,10 @@ fn entry_of(row: &ByteRecord, plan: &Plan) -> Result<Entry, TableWhy>
 fn accepted(cells: &[Option<u8>], row: &ByteRecord, plan: &Plan) -> Result<Entry, TableWhy>
     requires size { length cells.now ≡ 4096 }
     requires at_most { groups_in plan.now ≤ 64 }
-    ensures refused { IfErr result (λ why. (rows : List Row) (pairs : List (GroupNo × GroupNo)) → HoldsPairs plan.now rows cells.now pairs → intergreen_reason plan.now rows (fields_of row.now) ≡ Some why) }
-    ensures accepted { IfOk result (λ e. (rows : List Row) (pairs : List (GroupNo × GroupNo)) → HoldsPairs plan.now rows cells.now pairs → intergreen_reason plan.now rows (fields_of row.now) ≡ None) }
+    ensures refused { IfErr result (λ why. (rows : List Row) (pairs : List (GroupNo × GroupNo)) →
+        HoldsPairs plan.now rows cells.now pairs → intergreen_reason plan.now rows (fields_of row.now) ≡ Some why) }
+    ensures accepted { IfOk result (λ e. (rows : List Row) (pairs : List (GroupNo × GroupNo)) →
+        HoldsPairs plan.now rows cells.now pairs → intergreen_reason plan.now rows (fields_of row.now) ≡ None) }
     ensures pair { IfOk result (λ e. pair_in plan.now (fields_of row.now) ≡ Some (e.from.0, e.to.0)) }
     ensures from { IfOk result (λ e. e.from.0 < groups_in plan.now) }
     ensures to { IfOk result (λ e. e.to.0 < groups_in plan.now) }
@@ -132,9 +134,15 @@ impl Listed {
         requires size { length self.now.cells.items ≡ 4096 }
         requires at_most { length self.now.pairs.items ≤ 4096 }
         requires inside { (k : ℕ) → k < length self.now.pairs.items → IsPairOf 64 (slice_index_or self.now.pairs.items k no_pair) }
-        ensures refused { IfErr result (λ e. (plan : PlanOf) (rows : List Row) → HoldsPairs plan rows self.now.cells.items self.now.pairs.items → IsRefusal (first_refused (numbered (one_way_reason plan rows)) rows []) e) }
-        ensures none { IfOk result (λ _. (plan : PlanOf) (rows : List Row) → HoldsPairs plan rows self.now.cells.items self.now.pairs.items → first_refused (numbered (one_way_reason plan rows)) rows [] ≡ None) }
-        ensures both { IfOk result (λ _. (plan : PlanOf) (rows : List Row) → HoldsPairs plan rows self.now.cells.items self.now.pairs.items → (i g z : ℕ) → cell_of self.now.cells.items i g ≡ Some z → is_some (cell_of self.now.cells.items g i) ≡ true) }
+        ensures refused { IfErr result (λ e. (plan : PlanOf) (rows : List Row) →
+            HoldsPairs plan rows self.now.cells.items self.now.pairs.items →
+            IsRefusal (first_refused (numbered (one_way_reason plan rows)) rows []) e) }
+        ensures none { IfOk result (λ _. (plan : PlanOf) (rows : List Row) →
+            HoldsPairs plan rows self.now.cells.items self.now.pairs.items →
+            first_refused (numbered (one_way_reason plan rows)) rows [] ≡ None) }
+        ensures both { IfOk result (λ _. (plan : PlanOf) (rows : List Row) →
+            HoldsPairs plan rows self.now.cells.items self.now.pairs.items →
+            (i g z : ℕ) → cell_of self.now.cells.items i g ≡ Some z → is_some (cell_of self.now.cells.items g i) ≡ true) }
     {
         for (k, pair) in self.pairs.iter().enumerate() {
             let (from, to) = *pair;

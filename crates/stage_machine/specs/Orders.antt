@@ -66,4 +66,6 @@ stage_wish plan (Inter from to t) g = wish_by plan (interstage_between plan from
 -- the last order's second is not past k, it was of stages of the plan, and its interstage has a length
 abbrev pub Until : PlanOf → List Order → ℕ → Type 0
 Until plan [] k = Unit {0}
-Until plan (o ∷ os) k = (o.second ≤ k) × HasStage plan o.from × HasStage plan o.to × (1 ≤ length_of plan o) × (since_after plan os ≤ o.second) × Until plan os o.second
+Until plan (o ∷ os) k =
+    (o.second ≤ k) × HasStage plan o.from × HasStage plan o.to × (1 ≤ length_of plan o)
+    × (since_after plan os ≤ o.second) × Until plan os o.second

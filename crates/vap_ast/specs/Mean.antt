@@ -61,7 +61,9 @@ module _ (source : Source) (world : World) where
       or_fault line (value source.names world s e) (λ v. next routine rest (set_variable s (variable_number (meaning_in source.names name)) v) units)
   step next routine line (Stmt.Cell name index e) rest s units =
       or_fault line
-      (and_then (value source.names world s index) (λ i. and_then (value source.names world s e) (λ v. set_cell s (array_number (meaning_in source.names name)) i v)))
+      (and_then (value source.names world s index) (λ i.
+      and_then (value source.names world s e) (λ v.
+      set_cell s (array_number (meaning_in source.names name)) i v)))
       (λ s'. next routine rest s' units)
   step next routine line (Stmt.If test first second) rest s units =
       or_fault line (value source.names world s test) (λ v. next routine ((if holds v then first else second) before rest) s units)

@@ -132,7 +132,8 @@ fn judge_subs(
     first: &mut Option<Finding>,
 ) -> Result<(), Memory>
     ensures above { OnOk result (above.new.keys ≡ with_names above.old.keys (map (λ r. r.name) (map routine_of subs.now))) }
-    ensures found { OnOk result (first.new ≡ first_of_all first.old (wrong.subs_findings (kind_in known.now) (taken_in known.now) above.old.keys (map routine_of subs.now))) }
+    ensures found { OnOk result (first.new ≡ first_of_all first.old
+        (wrong.subs_findings (kind_in known.now) (taken_in known.now) above.old.keys (map routine_of subs.now))) }
 {
     for sub in subs {
         note_finding_if(first, has(above, &sub.name), sub.line, CheckWhy::SubTwice);

@@ -263,7 +263,8 @@ fn note_subs_uses(
     subs: &[Routine],
     names: &mut IndexSet<Name>,
 ) -> Result<(), Memory>
-    ensures { OnOk result (names.new.keys ≡ with_names names.old.keys (of_kind known.now wanted (flat_map names_of.items_uses (map (λ r. r.body) (map routine_of subs.now))))) }
+    ensures { OnOk result (names.new.keys ≡ with_names names.old.keys
+        (of_kind known.now wanted (flat_map names_of.items_uses (map (λ r. r.body) (map routine_of subs.now))))) }
 {
     for sub in subs {
         note_items_uses(alloc, known, wanted, &sub.body.0, names)?;

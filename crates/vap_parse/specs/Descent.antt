@@ -166,7 +166,9 @@ module _ (levels : ℕ) (inner : Rank → Parser Expr) where
 
   -- what has no operator before or behind it
   unfoldable pub atom : Parser Expr
-  atom = either (is k.Number) literal (either (is k.Name) named (either (is k.Open) brackets (either (is k.CurrentState) state (either (is k.AnyInterstageActive) active a_reading))))
+  atom =
+      either (is k.Number) literal (either (is k.Name) named (either (is k.Open) brackets
+      (either (is k.CurrentState) state (either (is k.AnyInterstageActive) active a_reading))))
 
   -- `-` before a sign, which opens a level
   unfoldable pub negative : Parser Expr

@@ -55,7 +55,8 @@ pub data Inside : ℕ → List Marked → Type 0 where
   last : (t : Token) → kind_of t.kind ≡ k.Close → Inside zero ((t, fine) ∷ [])
   shut : (depth : ℕ) (t : Token) (ms : List Marked) → kind_of t.kind ≡ k.Close → Inside depth ms → Inside (suc depth) ((t, fine) ∷ ms)
   opened : (depth : ℕ) (t : Token) (ms : List Marked) → kind_of t.kind ≡ k.Open → Inside (depth + 1) ms → Inside depth ((t, fine) ∷ ms)
-  other : (depth : ℕ) (t : Token) (ms : List Marked) → (kind_of t.kind ≡ k.Open → ⊥) → (kind_of t.kind ≡ k.Close → ⊥) → Inside depth ms → Inside depth ((t, fine) ∷ ms)
+  other : (depth : ℕ) (t : Token) (ms : List Marked) → (kind_of t.kind ≡ k.Open → ⊥) → (kind_of t.kind ≡ k.Close → ⊥) →
+      Inside depth ms → Inside depth ((t, fine) ∷ ms)
 
 -- tokens in which round brackets are balanced, and the bracket behind them
 pub data Balanced : ℕ → List Marked → Unit {0} → ℕ → Type 0 where

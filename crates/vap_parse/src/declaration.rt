@@ -50,7 +50,8 @@ fn more_constants(
     tokens: &mut Cursor<'_>,
     consts: &mut Vec<ConstDecl>,
 ) -> Result<(), Stop>
-    ensures { Leaves (spec.many (rule.is kind.Comma) rule.next_constant (map constant_of consts.old.items) tokens.old) result (map constant_of consts.new.items) tokens.new }
+    ensures { Leaves (spec.many (rule.is kind.Comma) rule.next_constant (map constant_of consts.old.items) tokens.old)
+        result (map constant_of consts.new.items) tokens.new }
 {
     while tokens.sees(Kind::Comma) {
         tokens.expect(Kind::Comma)?;
@@ -123,7 +124,8 @@ fn more_arrays(
     tokens: &mut Cursor<'_>,
     arrays: &mut Vec<ArrayDecl>,
 ) -> Result<(), Stop>
-    ensures { Leaves (spec.many (rule.is kind.Comma) rule.next_array (map array_of arrays.old.items) tokens.old) result (map array_of arrays.new.items) tokens.new }
+    ensures { Leaves (spec.many (rule.is kind.Comma) rule.next_array (map array_of arrays.old.items) tokens.old)
+        result (map array_of arrays.new.items) tokens.new }
 {
     while tokens.sees(Kind::Comma) {
         tokens.expect(Kind::Comma)?;
@@ -159,7 +161,8 @@ fn one_declaration(
     consts: &mut Vec<ConstDecl>,
     arrays_: &mut Vec<ArrayDecl>,
 ) -> Result<(), Stop>
-    ensures { Leaves (rule.one_declaration (map constant_of consts.old.items, map array_of arrays_.old.items) tokens.old) result (map constant_of consts.new.items, map array_of arrays_.new.items) tokens.new }
+    ensures { Leaves (rule.one_declaration (map constant_of consts.old.items, map array_of arrays_.old.items) tokens.old)
+        result (map constant_of consts.new.items, map array_of arrays_.new.items) tokens.new }
 {
     if tokens.sees(Kind::VapFrequency) {
         frequency(tokens)
@@ -177,7 +180,8 @@ fn declaration(
     consts: &mut Vec<ConstDecl>,
     arrays: &mut Vec<ArrayDecl>,
 ) -> Result<(), Stop>
-    ensures { Leaves (rule.declaration (map constant_of consts.old.items, map array_of arrays.old.items) tokens.old) result (map constant_of consts.new.items, map array_of arrays.new.items) tokens.new }
+    ensures { Leaves (rule.declaration (map constant_of consts.old.items, map array_of arrays.old.items) tokens.old)
+        result (map constant_of consts.new.items, map array_of arrays.new.items) tokens.new }
 {
     one_declaration(alloc, tokens, consts, arrays)?;
     semis(tokens)
@@ -199,7 +203,8 @@ pub fn declarations(
     consts: &mut Vec<ConstDecl>,
     arrays: &mut Vec<ArrayDecl>,
 ) -> Result<(), Stop>
-    ensures { Leaves (spec.many rule.declares rule.declaration (map constant_of consts.old.items, map array_of arrays.old.items) tokens.old) result (map constant_of consts.new.items, map array_of arrays.new.items) tokens.new }
+    ensures { Leaves (spec.many rule.declares rule.declaration (map constant_of consts.old.items, map array_of arrays.old.items) tokens.old)
+        result (map constant_of consts.new.items, map array_of arrays.new.items) tokens.new }
 {
     while declares(tokens.peek()) {
         declaration(alloc, tokens, consts, arrays)?;
