@@ -53,7 +53,7 @@ abbrev pub ReadFrontsIsEvent : Type 0
 ReadFrontsIsEvent = (detectors id d dealt : ℕ) (loads : List (List ℕ)) (owned : List (Option (ℕ × ℕ))) (s : State (Unit {0}) View)
     → Sits s id (Tick dealt loads owned) → d < detectors
     → Steps detectors (read_fronts d) s
-        (loaded s (fronts_word d) id (Tick dealt (loads_after loads (fronts_word d) (slice_index s.words (fronts_word d))) owned))
+    (loaded s (fronts_word d) id (Tick dealt (loads_after loads (fronts_word d) (slice_index s.words (fronts_word d))) owned))
 
 -- a detector dealt to a feeder is no event
 abbrev pub DealMoves : Type 0

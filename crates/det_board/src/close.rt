@@ -35,8 +35,11 @@ fn give_back(board: &Board, seat: &mut Seat<(), View>, feeder: FeederPass) -> (u
     requires room { length (owned_of seat.old.me.0) ≡ board.now.detectors }
     ensures counts { result ≡ (feeder.fronts, feeder.rears) }
     ensures seat { (seat.new.table_id ≡ seat.old.table_id)
-        × (seat.new.me ≡ (Tick (dealt_of seat.old.me.0) (loads_of seat.old.me.0)
-        (slice_set (owned_of seat.old.me.0) feeder.place (Some (feeder.fronts, feeder.rears))), [])) }
+        × (seat.new.me ≡ (
+          Tick (dealt_of seat.old.me.0) (loads_of seat.old.me.0)
+              (slice_set (owned_of seat.old.me.0) feeder.place (Some (feeder.fronts, feeder.rears))),
+          [],
+        )) }
 {
     let FeederPass {
         seat: other,
