@@ -13,7 +13,7 @@ use vap_code::{Code, Instr, VerifyWhy};
 
 /// Whether a place fits one of the checks that are made with the tables.
 pub fn fits(code: &Code, tables: &Tables, why: VerifyWhy, p: usize) -> bool
-    requires p { p < length code.now.instrs.items }
+    requires place { p < length code.now.instrs.items }
     requires shape { HasShape (code_in code.now) }
     requires tables { IsTables (code_in code.now) tables.now }
     requires later { 3 ≤ check_rank why }
@@ -55,7 +55,7 @@ pub fn jump_inside(code: &Code, p: usize) -> bool
 
 /// Whether a jump back leads to a tick.
 pub fn jumps_back_to_tick(code: &Code, p: usize) -> bool
-    requires p { p < length code.now.instrs.items }
+    requires place { p < length code.now.instrs.items }
     requires inside { FitsCheck (code_in code.now) JumpOut p }
     ensures { IsTrue result ↔ FitsCheck (code_in code.now) BackToNoTick p }
 {
@@ -67,7 +67,7 @@ pub fn jumps_back_to_tick(code: &Code, p: usize) -> bool
 
 // Whether the operands that stand at a place are enough, and those that it leaves stand where it leads.
 fn height_fits(code: &Code, heights: &[usize], p: usize) -> bool
-    requires p { p < length code.now.instrs.items }
+    requires place { p < length code.now.instrs.items }
     requires at_most { length code.now.instrs.items ≤ 65535 }
     requires table { heights.now ≡ heights_of (code_in code.now) }
     requires low { (k : ℕ) → k < length heights.now → slice_index heights.now k ≤ k }
@@ -124,7 +124,7 @@ fn call_fits(starts: &[u16], p: usize, instr: Instr) -> bool
 
 // Whether a tick stands after a call, and where a routine begins that isn't empty.
 fn edge_fits(code: &Code, p: usize) -> bool
-    requires p { p < length code.now.instrs.items }
+    requires place { p < length code.now.instrs.items }
     requires starts { (k : ℕ) → k < length code.now.starts.items →
         slice_index code.now.starts.items k < length code.now.instrs.items }
     ensures { IsTrue result ↔ EdgeFits (code_in code.now) p }

@@ -6,7 +6,7 @@ ghost use Rattle.vap_code.specs.Valid.{end_above as end_of, starts_upto as upto,
 // The end of the routine in which a place lies.
 fn end_above(starts: &[u16], all: usize, p: usize) -> usize
     requires { (k : ℕ) → k < length starts.now → slice_index starts.now k < all }
-    ensures same { result ≡ end_of starts.now all p }
+    ensures exact { result ≡ end_of starts.now all p }
     ensures within { result ≤ all }
 {
     for start in starts {
@@ -51,9 +51,9 @@ pub fn begins(starts: &[u16], p: usize) -> bool
 
 /// Whether the next place lies in the same routine.
 pub fn has_next(starts: &[u16], all: usize, p: usize) -> bool
-    requires p { p < all }
+    requires place { p < all }
     requires starts { (k : ℕ) → k < length starts.now → slice_index starts.now k < all }
-    ensures same { result ≡ next_there starts.now all p }
+    ensures exact { result ≡ next_there starts.now all p }
     ensures inside { IsTrue result → p + 1 < all }
 {
     p + 1 < end_above(starts, all, p)

@@ -79,7 +79,7 @@ fn height_after(
     requires first { begins_at starts.now 0 ≡ true }
     requires low { (k : ℕ) → k < length heights.now → slice_index heights.now k ≤ k }
     requires brought { brought ≡ first_jump instrs.now heights.now (length heights.now) }
-    ensures same { result ≡ height_after_of instrs.now starts.now heights.now }
+    ensures exact { result ≡ height_after_of instrs.now starts.now heights.now }
     ensures low { result ≤ length heights.now }
 {
     let p = heights.len();
@@ -143,7 +143,7 @@ fn numbers(
 // The number of an instruction, from the greatest among its successors.
 fn with_instr(number: Number, instr: Instr, later: usize) -> usize
     requires { later ≤ 65535 }
-    ensures same { result ≡ number_of number instr later }
+    ensures exact { result ≡ number_of number instr later }
     ensures low { result ≤ later + 1 }
 {
     match (number, instr) {
@@ -158,13 +158,13 @@ fn with_instr(number: Number, instr: Instr, later: usize) -> usize
 
 // The greatest number among the successors of a place, where a tick has none.
 fn greatest(instrs: &[Instr], starts: &[u16], table: &[usize], p: usize) -> usize
-    requires p { p < length instrs.now }
+    requires place { p < length instrs.now }
     requires long { length table.now ≡ length instrs.now }
     requires at_most { length instrs.now ≤ 65535 }
     requires starts { (k : ℕ) → k < length starts.now →
         slice_index starts.now k < length instrs.now }
     requires ahead { JumpsAhead instrs.now }
-    ensures same { result ≡
+    ensures exact { result ≡
         greatest_of instrs.now starts.now p (later_at instrs.now p (drop (p + 1) table.now)) }
     ensures low { (most : ℕ) → ((k : ℕ) → slice_index_or table.now k 0 ≤ most) → result ≤ most }
 {

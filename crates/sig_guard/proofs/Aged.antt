@@ -19,25 +19,25 @@ use Rattle.sig_types.proofs.Runs.{run_broken, run_whole}
 not_from_zero : (x : GroupAge) (a : ℕ → Aspect) (m : ℕ) → HasAge x a m → a 0 ≡ Red → (a m ≡ Red → ⊥) → x.age < suc m
 not_from_zero x a m has first other = elim (cases_eq x.age (suc m)) [
   | inl same ↦ absurd (other (sym (has.stays 0 (omega arith) (omega arith)) ∙ first))
-  | inr ne ↦ omega (arith, has.most)
+  | inr ne ↦ omega (arith, has.at_most)
 ]
 
 pub red_amber_since : (x : GroupAge) (a : ℕ → Aspect) (m ra am : ℕ) → HasAge x a m → Sequence ra am a (suc m) → a m ≡ RedAmber →
     last_below (starts_at a) (suc m) ≡ Some (suc m - x.age)
 red_amber_since x a m ra am has kept is =
-    last_start_at a m (suc m - x.age) starts (omega (arith, has.some)) (λ t lo hi. has.stays t (omega arith) hi ∙ is)
+    last_start_at a m (suc m - x.age) starts (omega (arith, has.at_least)) (λ t lo hi. has.stays t (omega arith) hi ∙ is)
   where
     later : x.age < suc m
     later = not_from_zero x a m has kept.first (λ e. (let bad : RedAmber ≡ Red = sym is ∙ e in cc))
 
     begins : suc m - x.age ≡ suc (m - x.age)
-    begins = omega (arith, later, has.some)
+    begins = omega (arith, later, has.at_least)
 
     here : a (suc (m - x.age)) ≡ RedAmber
-    here = has.stays (suc (m - x.age)) (omega (arith, later)) (omega (arith, later, has.some)) ∙ is
+    here = has.stays (suc (m - x.age)) (omega (arith, later)) (omega (arith, later, has.at_least)) ∙ is
 
     step : IsStep ra am (a (m - x.age)) RedAmber
-    step = rw here at (kept.steps (m - x.age) (omega (arith, later, has.some)))
+    step = rw here at (kept.steps (m - x.age) (omega (arith, later, has.at_least)))
 
     was : a (m - x.age) ≡ Red
     was = elim (before_red_amber ra am (a (m - x.age)) step) [
@@ -57,7 +57,7 @@ not_green Amber h = refl
 pub green_since : (x : GroupAge) (a : ℕ → Aspect) (m ra am : ℕ) → HasAge x a m → Sequence ra am a (suc m) → a m ≡ Green →
     last_below (turns_green_at a) (suc m) ≡ Some (suc m - x.age)
 green_since x a m ra am has kept is =
-    last_below-at (turns_green_at a) (suc m) (suc m - x.age) turns (omega (arith, has.some)) (quiet a m (suc m - x.age) (λ t lo hi. has.stays t (omega arith) hi ∙ is))
+    last_below-at (turns_green_at a) (suc m) (suc m - x.age) turns (omega (arith, has.at_least)) (quiet a m (suc m - x.age) (λ t lo hi. has.stays t (omega arith) hi ∙ is))
   where
     quiet : (a : ℕ → Aspect) (m u : ℕ) → ((t : ℕ) → u ≤ t → t ≤ m → a t ≡ Green) → (j : ℕ) → u < j → j < suc m → turns_green_at a j ≡ false
     quiet a m u stays zero lo hi = absurd (omega arith)
@@ -67,10 +67,10 @@ green_since x a m ra am has kept is =
     later = not_from_zero x a m has kept.first (λ e. (let bad : Green ≡ Red = sym is ∙ e in cc))
 
     begins : suc m - x.age ≡ suc (m - x.age)
-    begins = omega (arith, later, has.some)
+    begins = omega (arith, later, has.at_least)
 
     here : a (suc (m - x.age)) ≡ Green
-    here = has.stays (suc (m - x.age)) (omega (arith, later)) (omega (arith, later, has.some)) ∙ is
+    here = has.stays (suc (m - x.age)) (omega (arith, later)) (omega (arith, later, has.at_least)) ∙ is
 
     was : a (m - x.age) ≡ Green → ⊥
     was = λ e. has.began (m - x.age) (omega (arith, later)) (e ∙ sym is)
@@ -128,20 +128,20 @@ has_age_next x a c m has agree = go (same_aspect (a m) (c (suc m))) refl
         let y_is : a m ≡ c (suc m) = same_is _ _ same in
         let grown : (next_age x (a m) (c (suc m)) (suc m)).age ≡ x.age + 1 = rw same refl in
         record {
-          some = omega (arith, grown);
-          most = omega (arith, grown, has.most);
+          at_least = omega (arith, grown);
+          at_most = omega (arith, grown, has.at_most);
           stays = λ t lo hi. elim (cases_eq t (suc m)) [
             | inl now ↦ ap c now
             | inr before ↦ sym (agree.at t (omega arith)) ∙ has.stays t (omega (arith, grown)) (omega arith) ∙ y_is
           ];
-          began = λ t e is. has.began t (omega (arith, grown)) (agree.at t (omega (arith, grown, has.some)) ∙ is ∙ sym y_is);
+          began = λ t e is. has.began t (omega (arith, grown)) (agree.at t (omega (arith, grown, has.at_least)) ∙ is ∙ sym y_is);
           ended_last = last_new _ ends_now;
         }
     go false other =
         let young : (next_age x (a m) (c (suc m)) (suc m)).age ≡ 1 = rw other refl in
         record {
-          some = omega (arith, young);
-          most = omega (arith, young);
+          at_least = omega (arith, young);
+          at_most = omega (arith, young);
           stays = λ t lo hi. (let now : t ≡ suc m = omega (arith, young) in ap c now);
           began = λ t e is. (let before : t ≡ m = omega (arith, young) in
               differs (a m) (c (suc m)) other (at_m ∙ ap c (sym before) ∙ is));
@@ -161,8 +161,8 @@ aged_after x y h p q g m now len has last at is =
 pub first_has_age : (a : ℕ → Aspect) → HasAge first_age a 0
 unfolding last_below
 first_has_age a = record {
-  some = omega arith;
-  most = omega arith;
+  at_least = omega arith;
+  at_most = omega arith;
   stays = λ t lo hi. (let now : t ≡ 0 = omega arith in ap a now);
   began = λ t e is. absurd (omega arith);
   ended_last = refl;
@@ -190,14 +190,14 @@ run_kept p x a m has here other = elim (cases_lt x.age (suc m)) [
   | inl lt ↦ (
       let back : suc m - 1 ≡ m = omega arith in
       let first : suc m - x.age - 1 ≡ m - x.age = omega (arith, lt) in
-      let age : x.age ≡ suc m - (suc m - x.age) = omega (arith, lt, has.some) in
+      let age : x.age ≡ suc m - (suc m - x.age) = omega (arith, lt, has.at_least) in
       let broken : p (a (suc m - x.age - 1)) ≡ false = subst (λ (t : ℕ). p (a t) ≡ false) (sym first) (other (a (m - x.age)) (has.began (m - x.age) (omega (arith, lt)))) in
       age ∙ run_broken (λ t. p (a t)) (suc m) (suc m - x.age) (omega (arith, lt)) (omega arith) broken
       (λ j lo hi. ap p (has.stays j (omega (arith, lo)) (omega (arith, hi))) ∙ here)
       ∙ ap (λ (n : ℕ). run_to (λ t. p (a t)) n) back)
   | inr ge ↦ (
       let back : suc m - 1 ≡ m = omega arith in
-      let age : x.age ≡ suc m = omega (arith, ge, has.most) in
+      let age : x.age ≡ suc m = omega (arith, ge, has.at_most) in
       age ∙ run_whole (λ t. p (a t)) (suc m) (omega arith) (λ j lt. ap p (has.stays j (omega (arith, age)) (omega (arith, lt))) ∙ here)
       ∙ ap (λ (n : ℕ). run_to (λ t. p (a t)) n) back)
 ]

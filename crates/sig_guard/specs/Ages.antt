@@ -30,8 +30,8 @@ next_age x before after now = record {
 
 -- Of a trace in seconds 0 to m: it shows its last aspect for `age` seconds and no longer, and `last_end` is its last end.
 pub record HasAge (x : GroupAge) (a : ℕ → Aspect) (m : ℕ) : Type 0 where
-  pub some : 1 ≤ x.age
-  pub most : x.age ≤ suc m
+  pub at_least : 1 ≤ x.age
+  pub at_most : x.age ≤ suc m
   pub stays : (t : ℕ) → suc m ≤ t + x.age → t ≤ m → a t ≡ a m
   pub began : (t : ℕ) → suc t + x.age ≡ suc m → a t ≡ a m → ⊥
   pub ended_last : last_below (ends_at a) (suc m) ≡ Some x.last_end

@@ -24,10 +24,10 @@ pub struct Guard {
     seconds: u32,
     ghost pairs: { ArePairs intergreens },
     ghost one_plan: { intergreens.count ≡ length times },
-    ghost few_groups: { length times ≤ 64 },
+    ghost groups_at_most: { length times ≤ 64 },
     ghost pictured: { length picture ≡ length times },
     ghost aged: { length ages.items ≡ length times },
-    ghost few: { seconds ≤ 604801 },
+    ghost at_most: { seconds ≤ 604801 },
     ghost ages_fit: { (g : ℕ) → g < length ages.items → (age_at ages.items g).age ≤ seconds + 1 },
     ghost ends_fit: { (g : ℕ) → g < length ages.items → (age_at ages.items g).last_end ≤ seconds },
 }
@@ -59,7 +59,7 @@ impl Guard {
     #[tactic(auto, unfolding(crate::specs::Stands::StandsFor, crate::specs::Stands::rules, crate::specs::Stands::tables, crate::specs::Stands::seconds_made, crate::specs::Step::guard_picture, crate::specs::Step::guard_refused))]
     pub fn step(&mut self, wishes: &Wishes, out: &mut TurnRefusals)
         requires wished { length wishes.now ≡ (rules self.old).count }
-        requires few { seconds_made self.old < 604801 }
+        requires at_most { seconds_made self.old < 604801 }
         ensures tables { tables self.new ≡ tables self.old }
         ensures rules { rules self.new ≡ rules self.old }
         ensures seconds { seconds_made self.new ≡ seconds_made self.old + 1 }
@@ -92,7 +92,7 @@ impl Guard {
     pub fn t_green(&self, g: GroupNo) -> u32
         requires { g.0 < (rules self.now).count }
         ensures history { (h : History) → StandsFor self.now h → result ≡ run_to (λ t. is_green (trace h g.0 t)) (length h - 1) }
-        ensures few { result ≤ 604802 }
+        ensures at_most { result ≤ 604802 }
     {
         if self.aspect(g.0) == Aspect::Green {
             self.age(g.0)
@@ -107,7 +107,7 @@ impl Guard {
     pub fn t_red(&self, g: GroupNo) -> u32
         requires { g.0 < (rules self.now).count }
         ensures history { (h : History) → StandsFor self.now h → result ≡ run_to (λ t. is_red (trace h g.0 t)) (length h - 1) }
-        ensures few { result ≤ 604802 }
+        ensures at_most { result ≤ 604802 }
     {
         if self.aspect(g.0) == Aspect::Red {
             self.age(g.0)
@@ -127,7 +127,7 @@ impl Guard {
     /// The second that comes next.
     fn now(&self) -> u32
         ensures now { result ≡ self.now.seconds + 1 }
-        ensures few { result ≤ 604802 }
+        ensures at_most { result ≤ 604802 }
     {
         self.seconds + 1
     }
@@ -144,7 +144,7 @@ impl Guard {
     fn age(&self, g: u8) -> u32
         requires { g < (kept_rules self.now).count }
         ensures age { result ≡ (age_at self.now.ages.items g).age }
-        ensures few { result ≤ self.now.seconds + 1 }
+        ensures at_most { result ≤ self.now.seconds + 1 }
         ensures limit { result ≤ 604802 }
     {
         self.ages[g as usize].age
@@ -154,7 +154,7 @@ impl Guard {
     fn since(&self, g: u8) -> u32
         requires { g < (kept_rules self.now).count }
         ensures since { result ≡ self.now.seconds + 1 - (age_at self.now.ages.items g).age }
-        ensures few { result ≤ 604802 }
+        ensures at_most { result ≤ 604802 }
     {
         self.now() - self.age(g)
     }
@@ -163,7 +163,7 @@ impl Guard {
     fn last_ended(&self, g: u8) -> u32
         requires { g < (kept_rules self.now).count }
         ensures last { result ≡ (age_at self.now.ages.items g).last_end }
-        ensures few { result ≤ 604801 }
+        ensures at_most { result ≤ 604801 }
     {
         self.ages[g as usize].last_end
     }
@@ -221,7 +221,7 @@ impl Guard {
         requires group { i < (kept_rules self.now).count }
         requires size { length picture.now ≡ (kept_rules self.now).count }
         ensures last { (h : History) → HasPast self.now h → last_below (ends_at (trace (h ++ picture.now ∷ []) i)) (suc (suc (length h - 1))) ≡ Some result }
-        ensures few { result ≤ 604802 }
+        ensures at_most { result ≤ 604802 }
     {
         if ends(self.aspect(i), picture.get(i)) {
             return self.now();

@@ -23,7 +23,7 @@ loop-p-preserved c =
     let pushed = c.in_ok-push.ensures.items in
     let h = c.height_after-height.result in
     record {
-      table = pushed ∙ from_first_more (height_after c.args.instrs.now c.args.starts.now) c.loop-p.heights.items c.loop-p.p h i.table (c.height_after-height.ensures.same ∙ ap (height_after c.args.instrs.now c.args.starts.now) c.deref.ensures.value);
+      table = pushed ∙ from_first_more (height_after c.args.instrs.now c.args.starts.now) c.loop-p.heights.items c.loop-p.p h i.table (c.height_after-height.ensures.exact ∙ ap (height_after c.args.instrs.now c.args.starts.now) c.deref.ensures.value);
       long = omega (arith, ap length pushed, length-append c.loop-p.heights.items (h ∷ []), i.long);
       low = subst (λ hs. (k : ℕ) → k < length hs → get_or hs k 0 ≤ k) (sym pushed) (low_push c.loop-p.heights.items h i.low (omega (arith, c.height_after-height.ensures.low, ap length c.deref.ensures.value)));
       wide = c.keep_jump.ensures.long ∙ i.wide;

@@ -5,5 +5,5 @@ use Rattle.sig_guard.proofs.guard.Guard.show_ends.Goals as goal
 
 pub end_one-requires-clause-room : goal.end_one-requires-clause-room
 end_one-requires-clause-room c =
-    let few = many_le (wants_end c.args.natural.now c.args.wishes.now) c.loop-g.g in
-    omega (arith, c.loop-g.invariant.count, few, c.loop-g-test.true, c.groups-g-end.ensures.count, c.args.self.now.few_groups)
+    let at_most = many_le (wants_end c.args.natural.now c.args.wishes.now) c.loop-g.g in
+    omega (arith, c.loop-g.invariant.count, at_most, c.loop-g-test.true, c.groups-g-end.ensures.count, c.args.self.now.groups_at_most)

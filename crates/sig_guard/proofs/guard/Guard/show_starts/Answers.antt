@@ -13,4 +13,4 @@ start_one-requires-clause-room c = λ wants.
     let lt : c.loop-g.g < count = omega (arith, c.loop-g-test.true, c.groups-g-end.ensures.count) in
     let more = many_more (wants_start n w) c.loop-g.g count lt wants in
     let apart = many_apart (wants_end n w) (wants_start n w) (λ j. not_both (is_on (shown n j)) (slice_index_or w j false)) count in
-    omega (arith, c.loop-g.invariant.count, more, apart, c.args.self.now.few_groups)
+    omega (arith, c.loop-g.invariant.count, more, apart, c.args.self.now.groups_at_most)
