@@ -58,7 +58,7 @@ abbrev pub find_word : {A : Type 0} → List (List ℕ × A) → List ℕ → Op
 find_word [] w = None
 find_word (e ∷ es) w = if bytes_eq w e.0 then Some e.1 else find_word es w
 
--- a number from least to most, made to something
+-- what is made of a number from `least` to `most`, or what is wrong with another
 abbrev pub within_range : {A : Type 0} → (ℕ → A) → ℕ → ℕ → CodeWhy → Option ℕ → Result A CodeWhy
 within_range make least most past None = Err Line
 within_range make least most past (Some n) = if nat_le least n && nat_le n most then Ok (make n) else Err past
@@ -182,7 +182,7 @@ abbrev pub all_signed : List (List ℕ) → Option (List ℤ)
 all_signed [] = Some []
 all_signed (p ∷ ps) = both (signed_of p) (all_signed ps)
 
--- the numbers of an array, of at most 1,024 and at most so many
+-- the numbers of an array, of which there are at most 1,024 and at most `room`
 abbrev pub as_array : ℕ → Option (List ℤ) → Result (List ℤ) CodeWhy
 as_array room None = Err Line
 as_array room (Some vs) =
@@ -201,7 +201,7 @@ judged_at unended judge p = do
   x ← at_line p.number (judge l.0)
   Ok (x, l.1)
 
--- so many lines, each judged after those before it
+-- n lines, each judged after those before it
 unfoldable pub many_at : {S A : Type 0} → (S → List ℕ → Result A CodeWhy) → (S → A → S) → ℕ → S → Place → Result (List A × Place) Refusal
 many_at judge after zero s p = Ok ([], p)
 many_at judge after (suc n) s p = do

@@ -9,7 +9,8 @@ abbrev pub after_front : List ℤ → Option (List ℤ) → Option (List ℤ)
 after_front front None = None
 after_front front (Some vs) = Some (front ++ vs)
 
--- so many numbers were read (5,000 stand for more), whether all fit 32 bits, and where they do and are at most 1,024 these are they
+-- `count` numbers were read (5,000 stand for 5,000 or more); `fit` is whether all fit 32 bits; and where they do and are at
+-- most 1,024, they are kept
 pub record Surveys (count : ℕ) (fit : Bool) (kept : List ℤ) (front : List ℤ) : Type 0 where
   pub counted : count ≡ min (length front) 5000
   pub fitting : fit ≡ list_all fits front

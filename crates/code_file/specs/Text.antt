@@ -158,7 +158,7 @@ abbrev pub AllFit : {S A : Type 0} → (S → A → Type 0) → (S → A → S) 
 AllFit Fits after s [] = Unit {0}
 AllFit Fits after s (a ∷ items) = Fits s a × AllFit Fits after (after s a) items
 
--- an array has 1 to 1,024 numbers in their range, of at most so many that may still come
+-- an array has 1 to 1,024 numbers in their range, and at most the `room` that is left
 pub record ArrayFits (room : ℕ) (vs : List ℤ) : Type 0 where
   pub not_empty : 1 ≤ length vs
   pub at_most : length vs ≤ 1024

@@ -18,7 +18,7 @@ pub fn fixed(line: &[u8], text: &[u8], wrong: CodeWhy) -> Result<(), CodeWhy>
     if line == text { Ok(()) } else { Err(wrong) }
 }
 
-// A number from least to most, or what is wrong with it.
+// A number from `least` to `most`, or what is wrong with it.
 fn number_or(bytes: &[u8], least: u32, most: u32, past: CodeWhy) -> Result<u32, CodeWhy>
     ensures number { result ≡ within_range (λ n. n) least most past (number_of bytes.now) }
     ensures range { IfOk result (λ n. n ≤ most) }

@@ -93,7 +93,7 @@ fn start(cursor: Cursor<'_>, last: Option<u16>) -> Result<(u16, Cursor<'_>), Cod
     }
 }
 
-// So many starts.
+// `count` starts, each in a line of its own.
 fn starts(
     alloc: Global,
     count: u32,
@@ -148,7 +148,7 @@ fn instr(cursor: Cursor<'_>) -> Result<(Instr, Cursor<'_>), CodeRefusal>
     }
 }
 
-// So many instructions.
+// `count` instructions, each in a line of its own.
 fn instrs(
     alloc: Global,
     count: u32,
@@ -207,7 +207,7 @@ pub fn body(
     Ok((instrs, end))
 }
 
-// A line with the numbers of an array, of at most so many.
+// A line with the numbers of an array, of which there are at most `room`.
 #[tactic(auto, unfolding(crate::specs::Reading::judged_at, crate::specs::Reading::array_in))]
 fn array(
     alloc: Global,
@@ -240,7 +240,7 @@ fn array(
     })
 }
 
-// So many arrays, which have at most 4,096 cells together.
+// `count` arrays, which have at most 4,096 cells together.
 fn arrays(
     alloc: Global,
     count: u32,

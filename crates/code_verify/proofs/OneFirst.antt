@@ -23,7 +23,7 @@ module _ (code : CodeOf) where
       (cases_lt (check_rank b) (check_rank a)))
       (cases_lt (check_rank a) (check_rank b))
 
-  -- no lesser place breaks the check
+  -- no lower place breaks the check
   not_lower : (a : VerifyWhy) (p q : ℕ) → FirstBroken code a p → FirstBroken code a q → p < q → ⊥
   not_lower a p q x y lt = x.broken (y.least p lt)
 

@@ -6,12 +6,12 @@ use Rattle.vap_code.specs.Valid.{Valid, FirstBroken}
 use Rattle.code_verify.specs.declared.first.VerifyRefusal.{VerifyRefusal}
 use Rattle.code_verify.specs.declared.first.VerifyRefusal.TheVariants.{Memory, At}
 
--- the first broken check and its least place; nothing is said of want of memory
+-- the first broken check and the lowest place that breaks it; nothing is said of want of memory
 abbrev pub RefusedBy : CodeOf → VerifyRefusal → Type 0
 RefusedBy code Memory = Unit {0}
 RefusedBy code (At place why) = FirstBroken code why place
 
--- a code breaks at most one check first, at one least place
+-- a code breaks at most one check first, and at one lowest place
 abbrev pub OneIsFirst : Type 0
 OneIsFirst = (code : CodeOf) (why why' : VerifyWhy) (place place' : ℕ) →
     FirstBroken code why place → FirstBroken code why' place' → (why ≡ why') × (place ≡ place')

@@ -17,7 +17,7 @@ first_some (Some h) other = Some h
 abbrev pub brings : Instr → ℕ → ℕ → Option ℕ
 brings i h p = if jumps_to i p then Some (leaves h i) else None
 
--- what the least place that jumps to p brings there, of those whose heights are given
+-- what the lowest place that jumps to p brings there, of those whose heights are given
 abbrev pub first_jump : List Instr → List ℕ → ℕ → Option ℕ
 first_jump [] hs p = None
 first_jump (i ∷ is) [] p = None

@@ -89,7 +89,7 @@ fn height_fits(code: &Code, heights: &[usize], p: usize) -> bool
             || stands_at(heights, Some(p + 1), left))
 }
 
-// Whether so many operands stand at a place, if there is one.
+// Whether `height` operands stand at a place, if there is one.
 fn stands_at(heights: &[usize], place: Option<usize>, height: usize) -> bool
     requires { IfSome place (λ p. p < length heights.now) }
     ensures { IsTrue result ↔ IfSome place (λ p. slice_index heights.now p ≡ height) }

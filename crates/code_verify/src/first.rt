@@ -1,4 +1,4 @@
-// The first broken check, and its least place.
+// The first broken check, and the lowest place that breaks it.
 
 ghost use Rattle.std.specs.Prelude.{◌≡◌, ◌+◌, ◌≤◌, IfOk, IfErr};
 ghost use Rattle.vap_code.specs.Codes.{code_in};
@@ -20,13 +20,13 @@ pub enum VerifyRefusal {
     /// Memory for the tables could not be had.
     #[error("no memory")]
     Memory,
-    /// The first check that the code breaks, and the least place (counted from 0) that breaks it; 0 for the shape.
+    /// The first check that the code breaks, and the lowest place (counted from 0) that breaks it; 0 for the shape.
     #[error("the code is not valid")]
     At { place: u32, why: VerifyWhy },
 }
 
 /// Accepts exactly the valid codes. Any other is handed back, with the first check that it breaks: its shape
-/// first, then the checks 1 to 8 in order, then the commands, and the least place that breaks it.
+/// first, then the checks 1 to 8 in order, then the commands, and the lowest place that breaks it.
 pub fn verify(alloc: Global, code: Code) -> Result<Verified, (Code, VerifyRefusal)>
     ensures accepted { IfOk result (λ v. v ≡ code_in code) }
     ensures valid { IfOk result (λ v. Valid (code_in code)) }

@@ -77,7 +77,7 @@ pub fn pushes(i: Instr) -> usize
     }
 }
 
-/// What an instruction leaves of so many operands.
+/// How many operands an instruction leaves of `height`.
 pub fn leaves(height: usize, i: Instr) -> usize
     requires { height < 2 ^ 32 }
     ensures { result ≡ leaves_of height i }

@@ -1,5 +1,5 @@
-//! A verifier of code: it tells which codes are valid, and names the first broken check and its least place of
-//! all others. A pass of valid code always comes to an end, and never gets stuck.
+//! A verifier of code: it tells which codes are valid, and for all others it names the first broken check and the lowest
+//! place that breaks it. A pass of valid code always comes to an end, and never gets stuck.
 #![tactic(auto)]
 
 ghost use Rattle.code_verify.specs.Ends.{ValidCodeEnds, ValidCodeRunsWell};

@@ -66,8 +66,8 @@ fn nothing_brought(alloc: Global, all: usize) -> Result<Vec<Option<usize>>, Allo
     Ok(brought)
 }
 
-// The height of the place after those whose heights are given, where this is what the least of them that jumps
-// to it leaves.
+// The height of the place after those whose heights are given, where `brought` is what the lowest of them that jumps to it
+// leaves.
 fn height_after(
     instrs: &[Instr],
     starts: &[u16],
@@ -94,7 +94,7 @@ fn height_after(
     }
 }
 
-// Keeps what a jump brings to its target, unless a lesser place jumps there.
+// Keeps what a jump brings to its target, unless a lower place jumps there.
 fn keep_jump(brought: &mut Vec<Option<usize>>, instr: Instr, height: usize)
     requires { height ≤ 65535 }
     ensures long { length brought.new.items ≡ length brought.old.items }

@@ -155,7 +155,7 @@ interstage_of current = interstage_by_keys current.length current.from current.t
 abbrev pub greens_in : List Stage → ℕ → ℕ → Bool
 greens_in stages s g = slice_index_or (slice_index_or stages (s - 1) (record { name = []; greens = [] })).greens g false
 
--- the least group that an interstage does not lead from its place in the one stage to that in the other
+-- the lowest group that an interstage does not lead from its place in the one stage to that in the other
 abbrev pub first_inconsistent : ℕ → List Stage → InterstageOf → Option ℕ
 first_inconsistent groups stages w =
     least_below (λ g. not (leads (slice_index_or w.rows g None) (greens_in stages w.from g) (greens_in stages w.to g) w.length)) groups

@@ -237,7 +237,7 @@ fn leads_group(stages: &[Stage], interstage: &Interstage, group: u8) -> bool
     )
 }
 
-// The least group that it does not lead so.
+// The lowest group that it does not lead so.
 fn first_inconsistent(groups: usize, stages: &[Stage], interstage: &Interstage) -> Option<usize>
     requires at_most { groups ≤ 64 }
     requires rows { length interstage.now.rows ≡ groups }

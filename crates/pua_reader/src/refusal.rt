@@ -10,8 +10,8 @@ pub enum PuaWhy {
     NotText,
     /// A section line out of order, a row before the first section, or a file without groups or without stages.
     Section,
-    /// A row without a form of its section, a key that is given twice or misses, a second row of the start, or a `red` row
-    /// that names a green group or follows no stage row.
+    /// A row without a form of its section, a key that is given twice or is missing, a second row of the start, or a `red`
+    /// row that names a green group or follows no stage row.
     Row,
     /// The name or the number of a group, or the name of a stage, is given again; or a group stands twice.
     NameTwice,

@@ -247,7 +247,7 @@ impl Guard {
         }
     }
 
-    /// The least group in conflict with `g` that the picture shows red-amber or green.
+    /// The lowest group in conflict with `g` that the picture shows red-amber or green.
     fn conflict_with(&self, picture: &Picture, g: u8) -> Option<u8>
         requires group { g < (kept_rules self.now).count }
         requires size { length picture.now ≡ (kept_rules self.now).count }
@@ -262,7 +262,7 @@ impl Guard {
         None
     }
 
-    /// The least group in conflict with `g` of which an end lies too close before a start of `g`.
+    /// The lowest group in conflict with `g` of which an end lies too close before a start of `g`.
     fn uncleared_by(&self, picture: &Picture, g: u8) -> Option<u8>
         requires group { g < (kept_rules self.now).count }
         requires size { length picture.now ≡ (kept_rules self.now).count }

@@ -77,7 +77,7 @@ abbrev pub missing_group : Option ℕ → Option Refusal
 missing_group None = None
 missing_group (Some g) = Some (0, why.Missing (record { 0 = g }))
 
--- the least group without a record
+-- the lowest group without a record
 unfoldable pub missing_times : PlanOf → List Row → Option Refusal
 missing_times plan rows = missing_group (least_below (λ g. is_none (listed_times plan rows g)) (groups_in plan))
 

@@ -98,7 +98,7 @@ struct Listed {
     pairs: Vec<(GroupNo, GroupNo)>,
 }
 
-// So many cells, all empty.
+// `places` cells, all empty.
 fn no_cells(alloc: Global, places: usize) -> Result<Vec<Option<u8>>, TableRefusal>
     ensures size { IfOk result (λ v. length v.items ≡ places) }
     ensures empty { IfOk result (λ v. (k : ℕ) → slice_index_or v.items k None ≡ None) }

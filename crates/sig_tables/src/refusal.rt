@@ -16,7 +16,7 @@ pub enum TableWhy {
     UnknownName,
     /// The group, or the ordered pair of groups, stands in an earlier record.
     Twice,
-    /// The table of times has no record of this group, the least such.
+    /// The table of times has no record of this group, the lowest such.
     Missing(GroupNo),
     /// The pair of these groups is listed, and not the other way round.
     OneWay(GroupNo, GroupNo),

@@ -1,4 +1,4 @@
--- What a record of a site with so many groups keeps.
+-- What a record keeps, by the number of groups of its site.
 use Rattle.std.specs.Prelude.{◌≡◌, ℕ, ◌<◌, ◌⊎◌, true, length, is_some, All}
 use Rattle.std.specs.Option.{ForSome}
 use Rattle.sig_types.specs.declared.aspect.Rule.TheVariants.{Conflict, Intergreen}

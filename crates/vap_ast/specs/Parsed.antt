@@ -26,11 +26,12 @@ Fits e = room e ≤ 198
 abbrev pub FitAll : Exprs → Type 0
 FitAll args = room_of_all args ≤ 198
 
--- a line of a text of so many lines
+-- a line of a text of `most` lines, which count from 1
 abbrev pub IsLine : ℕ → ℕ → Type 0
 IsLine most line = (1 ≤ line) × (line ≤ most)
 
--- Statements, items and bodies of a text of so many lines, in which so many more IF may nest.
+-- Statements, items and bodies of a text of `most` lines; the number that each takes first is how many more IF may nest in
+-- it.
 module _ (most : ℕ) where
   abbrev mutual
     pub ParsedStmt : ℕ → Stmt → Type 0
@@ -51,12 +52,12 @@ module _ (most : ℕ) where
     ParsedItems ifs Items.none = Unit {0}
     ParsedItems ifs (Items.next item items) = ParsedItem ifs item × ParsedItems ifs items
 
-  -- a routine of a text of so many lines, in which 100 IF may nest
+  -- a routine of a text of `most` lines, in which 100 IF may nest
   pub record ParsedRoutine (r : Routine) : Type 0 where
     pub line : IsLine most r.line
     pub body : ParsedItems 100 r.body
 
--- the tree of a text of at most so many lines
+-- the tree of a text of at most `most` lines
 pub record Parsed (most : ℕ) (p : Program) : Type 0 where
   pub consts : All (λ c. IsLine most c.line) p.consts
   pub arrays : All (λ a. IsLine most a.line) p.arrays

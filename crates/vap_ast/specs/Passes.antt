@@ -19,7 +19,7 @@ ending (Faulted kind line) = pass.Faulted kind line
 abbrev pub program_logic : Source → Logic
 program_logic source world s = ending (mean source world source.main source.main s unit_limit)
 
--- a store with so many variables and timers and with the cells of these arrays, in which no command has been given
+-- a store with these numbers of variables and timers and with the cells of these arrays, in which no command has been given
 pub record FitsProgram (variable_count timer_count : ℕ) (declared : List Array) (s : Store) : Type 0 where
   pub variables : length s.variables ≡ variable_count
   pub timers : length s.timers ≡ timer_count

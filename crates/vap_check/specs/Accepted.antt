@@ -46,7 +46,7 @@ pub record Accepted (p : Program) : Type 0 where
   pub few : passed p ≡ None
   pub short : program_size p ≤ 65535
 
--- the first refusal of a program: what is wrong in the least line, and there for the least reason; where nothing is wrong
+-- the first refusal of a program: what is wrong in the first line, and there for the first reason; where nothing is wrong
 -- the first limit that is passed; where none is the size
 pub data Refuses (p : Program) : ℕ → CheckWhy → Type 0 where
   wrong : (line : ℕ) (why : CheckWhy) → IsFirst (findings p) (record { line = line; why = why }) → Refuses p line why

@@ -31,7 +31,7 @@ order ProgramTooLong = 17
 abbrev pub is_sooner : Finding → Finding → Bool
 is_sooner f g = nat_lt f.line g.line || (f.line == g.line && nat_lt (order f.why) (order g.why))
 
--- the finding that stands, since none is sooner
+-- the finding that stands: one of these, and none of them comes before it
 abbrev pub IsFirst : List Finding → Finding → Type 0
 IsFirst findings f = Contains findings f × All (λ g. is_sooner g f ≡ false) findings
 

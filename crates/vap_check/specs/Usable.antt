@@ -13,7 +13,7 @@ use Rattle.vap_ast.specs.Sizes.{own_size}
 use Rattle.vap_check.specs.Accepted.{cells, labels}
 use Rattle.vap_check.specs.Numbers.{names_of}
 
--- where names have these meanings, and there are so many variables, timers and arrays
+-- where names have these meanings, and these are the numbers of variables, timers and arrays
 module _ (names : List Entry) (variables timers arrays : ℕ) where
   -- a constant, or a timer or a variable that is there
   abbrev pub IsValue : Option Meaning → Type 0
@@ -65,7 +65,7 @@ module _ (names : List Entry) (variables timers arrays : ℕ) where
     UsableExprs Exprs.none = Unit {0}
     UsableExprs (Exprs.next arg args) = UsableExpr arg × UsableExprs args
 
-  -- in a routine that may call so many subroutines: the first ones
+  -- in a routine that may call the first `calls` subroutines
   module _ (calls : ℕ) where
     -- a subroutine that may be called
     abbrev pub IsSub : Option Meaning → Type 0

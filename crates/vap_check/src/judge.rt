@@ -38,7 +38,8 @@ fn gather_names(alloc: Global, program: &Program) -> Result<Names, Memory>
     })
 }
 
-// What a program is refused for, where this is the first of its findings, and it has so many variables and timers.
+// What a program is refused for, where this is the first of its findings, and these are the numbers of its variables and
+// its timers.
 fn refusal_of(
     program: &Program,
     first: Option<Finding>,

@@ -101,7 +101,8 @@ pub fn program_size(program: &Program) -> usize
     )
 }
 
-/// What a program has too many of, where it has so many variables and timers.
+/// What a program has too many of, where these are the numbers of its variables and its timers; `None` where it passes no
+/// limit.
 pub fn first_passed_limit(program: &Program, variables: usize, timers: usize) -> Option<Which>
     requires variables { variables ≡ length (names.variables (program_of program.now)) }
     requires timers { timers ≡ length (names.timers (program_of program.now)) }

@@ -62,7 +62,7 @@ fn judge_target(kind: Kind, line: u32, first: &mut Option<Finding>)
     }
 }
 
-// Whether there are more or fewer arguments than so many.
+// Whether there are more or fewer arguments than `arity`.
 #[tactic(auto, using(crate::proofs::Counted::counted))]
 fn is_other_count(args: &[Expr], arity: usize) -> bool
     ensures { result ≡ not (count_arguments (exprs_of args.now) == arity) }

@@ -19,6 +19,6 @@ IsUnsigned (kind.Sign s) = Unit {0}
 abbrev pub IsKept : Token → Type 0
 IsKept t = (t.place < 4294967294) × IsUnsigned t.kind
 
--- a line of a text of so many bytes
+-- the token has a line of a text of this many bytes
 abbrev pub HasLine : ℕ → Token → Type 0
 HasLine bytes t = (1 ≤ t.line) × (t.line ≤ bytes + 1)

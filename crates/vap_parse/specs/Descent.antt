@@ -228,7 +228,7 @@ abbrev pub inner : ℕ → Rank → Parser Expr
 inner zero r = literal
 inner (suc l) r = ranked l (inner l) r
 
--- an expression of this rank, where so many levels are left
+-- an expression of this rank, where l more levels may open
 abbrev pub expr : ℕ → Rank → Parser Expr
 expr l = ranked l (inner l)
 
@@ -368,7 +368,7 @@ abbrev pub inside : ℕ → Parser (List Item)
 inside zero = semis >> pure []
 inside (suc n) = block n (inside n)
 
--- a body, in which IF may nest so deep
+-- a body, in which IF may nest n levels deep
 abbrev pub body : ℕ → Parser (List Item)
 body n = block n (inside n)
 

@@ -50,7 +50,7 @@ pub data Many {A : Type 0} (Q : A → Form A) : A → ℕ → List Marked → A 
 pub data Anew {A : Type 0} (P : Form A) : ℕ → List Marked → A → ℕ → Type 0 where
   counted : (o n : ℕ) (ms : List Marked) (x : A) → P max_operators ms x n → Anew P o ms x n
 
--- Any tokens up to the one that closes a round bracket, where so many more round brackets are open.
+-- Any tokens up to the one that closes a round bracket, where `depth` more round brackets are open.
 pub data Inside : ℕ → List Marked → Type 0 where
   last : (t : Token) → kind_of t.kind ≡ k.Close → Inside zero ((t, fine) ∷ [])
   shut : (depth : ℕ) (t : Token) (ms : List Marked) → kind_of t.kind ≡ k.Close → Inside depth ms → Inside (suc depth) ((t, fine) ∷ ms)

@@ -39,7 +39,7 @@ called = Picks name_at no_limit as_many
 abbrev pub number : Form ℤ
 number = Picks (λ t. number_in t.kind) no_limit as_many
 
--- a token that opens a level, of which so many are left; it is too deep where none is left
+-- a token that opens a level, of which `levels` more may open; it is too deep where none may
 abbrev pub enter : ℕ → Kind → Form ℕ
 enter levels kind = Picks (where_kind kind line_of) (λ n t. limit levels) as_many
 
@@ -228,7 +228,7 @@ abbrev pub inner : ℕ → Rank → Form Expr
 inner zero r = literal
 inner (suc l) r = ranked l (inner l) r
 
--- an expression of this rank, where so many levels are left
+-- an expression of this rank, where l more levels may open
 abbrev pub expr : ℕ → Rank → Form Expr
 expr l = ranked l (inner l)
 
@@ -368,7 +368,7 @@ abbrev pub inside : ℕ → Form (List Item)
 inside zero = semis >> Gives []
 inside (suc n) = block n (inside n)
 
--- a body, in which IF may nest so deep
+-- a body, in which IF may nest n levels deep
 abbrev pub body : ℕ → Form (List Item)
 body n = block n (inside n)
 

@@ -21,7 +21,7 @@ pub record Input : Type 0 where
   pub rest : List Token
   pub operators : ℕ
 
--- these tokens, and so many operators
+-- these tokens, and how many operators may still come
 abbrev pub input : List Token → ℕ → Input
 input rest operators = record { rest = rest; operators = operators }
 
@@ -143,7 +143,7 @@ no_limit n t = fine
 abbrev pub as_many : ℕ → ℕ
 as_many n = n
 
--- the mark of a token where so many are left, and how many are left behind it
+-- the mark of a token of which n more may come: it is too deep where none may
 abbrev pub limit : ℕ → Mark
 limit zero = deep
 limit (suc n) = fine
@@ -235,7 +235,7 @@ skip_on (Some depth) deeper done = deeper depth
 abbrev pub skip_by : Kind → ℕ → (ℕ → Outcome (Unit {0})) → Outcome (Unit {0}) → Outcome (Unit {0})
 skip_by kind depth deeper done = skip_on (depth_behind kind depth) deeper done
 
--- tokens up to the one that closes a bracket, and so many more round brackets
+-- tokens up to the one that closes a bracket in which `depth` more round brackets are open; n operators may still come
 abbrev pub skip : List Token → ℕ → ℕ → Outcome (Unit {0})
 skip [] depth n = Err (Unexpected, [])
 skip (t ∷ s) depth n = skip_by (kind_of t.kind) depth (λ m. skip s m n) (Ok (tt, input s n))
@@ -253,9 +253,9 @@ ended_at (t ∷ s) n = Err (Unexpected, t ∷ s)
 unfoldable pub ended : Parser (Unit {0})
 ended = λ i. ended_at i.rest i.operators
 
--- ---- turns, each of which takes a token, so that the count of tokens is enough
+-- ---- turns, each of which takes a token, so that one more than there are tokens is enough
 
--- at most so many turns
+-- at most n turns
 unfoldable pub repeat : {A : Type 0} → (Kind → Bool) → (A → Parser A) → ℕ → A → Parser A
 repeat test turn zero x = pure x
 repeat test turn (suc n) x = λ i. if test (kind i) then and_then (turn x i) (repeat test turn n) else Ok (x, i)

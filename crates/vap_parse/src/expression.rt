@@ -81,7 +81,7 @@ fn active(alloc: Global, tokens: &mut Cursor<'_>, levels: usize) -> Result<Expr,
     Ok(read(ReadingKind::AnyInterstage, Vec::new(alloc)))
 }
 
-/// An index in brackets, where so many levels are left.
+/// An index in brackets, where `levels` more levels may open.
 #[cycle(expression)]
 #[tactic(auto, unfolding(crate::specs::Descent::index))]
 pub fn index(alloc: Global, tokens: &mut Cursor<'_>, levels: usize) -> Result<Expr, Stop>
@@ -104,7 +104,7 @@ fn brackets(alloc: Global, tokens: &mut Cursor<'_>, levels: usize) -> Result<Exp
     Ok(inner)
 }
 
-/// Arguments in brackets, where so many levels are left.
+/// Arguments in brackets, where `levels` more levels may open.
 #[cycle(expression)]
 #[tactic(auto, unfolding(crate::specs::Descent::arguments))]
 pub fn arguments(alloc: Global, tokens: &mut Cursor<'_>, levels: usize) -> Result<Vec<Expr>, Stop>
@@ -255,7 +255,7 @@ fn negation(alloc: Global, tokens: &mut Cursor<'_>, levels: usize) -> Result<Exp
     Ok(unary(alloc, UnaryOp::Not, arg)?)
 }
 
-/// An expression of this rank, where so many levels are left.
+/// An expression of this rank, where `levels` more levels may open.
 #[cycle(expression)]
 #[tactic(auto, unfolding(crate::specs::Descent::disjunction, crate::specs::Descent::conjunction, crate::specs::Descent::sum, crate::specs::Descent::product))]
 pub fn ranked(

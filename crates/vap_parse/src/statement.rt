@@ -274,7 +274,7 @@ fn one(alloc: Global, tokens: &mut Cursor<'_>, ifs: usize) -> Result<Item, Stop>
     }
 }
 
-/// Labels and statements, in which `IF` may nest so deep.
+/// Labels and statements, in which `IF` may nest `ifs` levels deep.
 #[cycle(statement)]
 #[tactic(auto, unfolding(crate::specs::Descent::items, crate::specs::Descent::one_more))]
 pub fn items(alloc: Global, tokens: &mut Cursor<'_>, ifs: usize) -> Result<Items, Stop>
@@ -289,7 +289,7 @@ pub fn items(alloc: Global, tokens: &mut Cursor<'_>, ifs: usize) -> Result<Items
     Ok(Items(items))
 }
 
-/// A body, in which `IF` may nest so deep.
+/// A body, in which `IF` may nest `ifs` levels deep.
 #[cycle(statement)]
 #[tactic(auto, unfolding(crate::specs::Descent::block))]
 pub fn block(alloc: Global, tokens: &mut Cursor<'_>, ifs: usize) -> Result<Items, Stop>
