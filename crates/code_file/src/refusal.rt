@@ -25,7 +25,7 @@ pub enum CodeWhy {
 #[derive(Clone, Copy, Debug, PartialEq, Eq, Error)]
 pub enum CodeRefusal {
     /// Memory was wanted and could not be had.
-    #[error("memory was wanted")]
+    #[error("out of memory")]
     Memory,
     /// The first wrong line, from 1.
     #[error("a line of the code is wrong")]

@@ -17,8 +17,8 @@ use vap_code::{Code, VerifyWhy};
 /// Why a code was not accepted.
 #[derive(Clone, Copy, PartialEq, Eq, Debug, Error)]
 pub enum VerifyRefusal {
-    /// Memory for the tables could not be had.
-    #[error("no memory")]
+    /// Memory was wanted and could not be had.
+    #[error("out of memory")]
     Memory,
     /// The first check that the code breaks, and the lowest place (counted from 0) that breaks it; 0 for the shape.
     #[error("the code is not valid")]

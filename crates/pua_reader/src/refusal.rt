@@ -55,7 +55,7 @@ impl fmt::Debug for PuaWhy {
 #[derive(Debug, Drop, Error)]
 pub enum PuaRefusal {
     /// Memory was wanted and could not be had.
-    #[error("no memory to read the plan")]
+    #[error("out of memory")]
     Memory,
     /// The file is refused at a line, counted from 1. Line 0 is the whole file.
     #[error("the plan is refused")]

@@ -28,7 +28,7 @@ pub enum TableWhy {
 #[derive(Clone, Copy, Debug, PartialEq, Eq, Drop, Error)]
 pub enum TableRefusal {
     /// Memory was wanted and could not be had.
-    #[error("no memory for the table")]
+    #[error("out of memory")]
     Memory,
     /// The first record that is refused.
     #[error("the table is refused at a record")]

@@ -56,7 +56,7 @@ pub enum CheckWhy {
 /// Why a program isn't checked.
 #[derive(Clone, Copy, Debug, PartialEq, Eq, Error)]
 pub enum CheckRefusal {
-    /// Memory was wanted and there was none.
+    /// Memory was wanted and could not be had.
     #[error("out of memory")]
     Memory,
     /// The first refusal, with its line; 0 for what no single line is to blame for.

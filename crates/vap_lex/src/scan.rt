@@ -21,7 +21,7 @@ use vap_ast::Name;
 /// Why a text has no tokens: the line of the first place that is refused, from 1, and the reason.
 #[derive(Clone, Copy, Debug, PartialEq, Eq, Error)]
 pub enum LexRefusal {
-    /// Memory was wanted and there was none.
+    /// Memory was wanted and could not be had.
     #[error("out of memory")]
     Memory,
     /// The first place at which no token, blank or comment stands.

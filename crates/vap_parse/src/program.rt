@@ -44,7 +44,7 @@ pub enum ParseWhy {
 /// early, the line is that of the last token, and 1 without any token.
 #[derive(Clone, Copy, Debug, PartialEq, Eq, Error)]
 pub enum ParseRefusal {
-    /// Memory was wanted and there was none.
+    /// Memory was wanted and could not be had.
     #[error("out of memory")]
     Memory,
     /// The first token that is refused.
