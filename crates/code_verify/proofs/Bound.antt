@@ -29,6 +29,7 @@ use Rattle.code_verify.specs.Room.{RoomToPush, RoomToGive, HasRoom, RoomAlong, a
 use Rattle.code_verify.proofs.Checked.{some_start}
 use Rattle.code_verify.proofs.Routines.{routine_start}
 use Rattle.code_verify.proofs.PlaceFacts.{all, here, height, stretch, commands, unless_tick, At, at_place, height_at_start}
+use Rattle.code_verify.proofs.LastStart.{last_start_at}
 
 -- how many steps come at most before the next tick, which counts as one
 abbrev slack_of : Instr → ℕ → ℕ
@@ -453,13 +454,6 @@ keeps_low : (most : ℕ) (kind : TimerKind) (c : Clock) → c.count ≤ most →
 keeps_low most Start_timer c h = h
 keeps_low most Stop_timer c h = h
 keeps_low most Reset_timer c h = omega arith
-
-last_start_at : (starts : List ℕ) → 0 < length starts → last_start starts ≡ get_or starts (length starts - 1) 0
-last_start_at [] h = absurd (omega arith)
-last_start_at (p ∷ []) h = refl
-last_start_at (p ∷ q ∷ ps) h =
-    let e : suc (length (q ∷ ps) - 1) ≡ length (p ∷ q ∷ ps) - 1 = omega arith in
-    last_start_at (q ∷ ps) (omega arith) ∙ ap (λ k. get_or (p ∷ q ∷ ps) k 0) e
 
 -- a pass from a store that fits
 module _ (code : CodeOf) (world : World) (s : StoreOf) (valid : Valid code) (fits : StoreFits code s) where

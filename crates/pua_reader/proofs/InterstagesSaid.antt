@@ -14,14 +14,14 @@ use Rattle.pua_reader.specs.declared.section.Section.{Section}
 use Rattle.pua_reader.specs.declared.section.Section.TheVariants as section
 use Rattle.pua_reader.specs.declared.section.Kind.{Kind}
 use Rattle.pua_reader.specs.declared.section.Kind.TheVariants.{Passed, Begins, Row}
-use Rattle.pua_reader.specs.Words.{Text, words, kind_of, is_text, signed_of}
+use Rattle.pua_reader.specs.Words.{Text, words, kind_of, is_text, signed_of, place_in_order}
 use Rattle.pua_reader.specs.Rules.{at_line}
 use Rattle.pua_reader.specs.Groups.{place_of, groups_with}
 use Rattle.pua_reader.specs.Stages.{stage_of, stages_with}
 use Rattle.pua_reader.specs.Interstages.{OpenInterstageOf, open_at, form_of, word, last_word, or_none, end_or_none, set_row, length_reasons, stage_reasons, ends_reasons, form_why, open_after_form, interstage_of, interstage_by_keys, interstage_reasons, interstages_with}
 use Rattle.pua_reader.specs.PlanDraft.{PlanDraftOf, draft_of, judge, line_why, after_line, row_why, row_why_in, after_row, after_row_in, interstage_end_why, after_section_end, section_why, after_section_line, at_next_line, kind_why, after_kind, is_over, is_interstage, end_why, lacks}
 use Rattle.pua_reader.specs.Accepted.{lines_in, refusal_of, plan_of_text, plan_in}
-use Rattle.pua_reader.specs.Legal.{Legal, rank}
+use Rattle.pua_reader.specs.Legal.{Legal}
 use Rattle.pua_reader.specs.SectionRows.{section_by, section_with, section_from, file_groups, file_stages}
 use Rattle.pua_reader.specs.InterstageRows.{in_last, part_by, part_with, parts_from, interstage_sections, same_form, values, names_place, ends_in, GivesInterstage, GiveInterstages, InterstagesAreTheirSections}
 use Rattle.pua_reader.proofs.Small.{none_first, none_next}
@@ -317,10 +317,10 @@ row_in_gives : (s : Section) (d : PlanDraftOf) (line : Text) (parts : List (List
 unfolding PartsIn
 row_in_gives section.Before d line parts here legal says none = cc
 row_in_gives section.Groups d line parts here legal says none =
-    let early : rank d.section ≡ 1 = ap rank here in
+    let early : place_in_order d.section ≡ 1 = ap place_in_order here in
     gives_none d.groups (groups_with d.groups (words false line)) d.stages d.stages parts d.interstages (legal.no_interstages (omega (arith, early))) says
 row_in_gives section.Stages d line parts here legal says none =
-    let early : rank d.section ≡ 2 = ap rank here in
+    let early : place_in_order d.section ≡ 2 = ap place_in_order here in
     gives_none d.groups d.groups d.stages (stages_with d.groups d.stages (words false line)) parts d.interstages (legal.no_interstages (omega (arith, early))) says
 row_in_gives section.Start d line parts here legal says none = says
 row_in_gives section.Interstage d line parts here legal says none = (

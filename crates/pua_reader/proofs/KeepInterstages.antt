@@ -1,10 +1,10 @@
 -- Rows and ends of interstages that are not refused leave the interstages as a plan wants them.
 use Rattle.std.proofs.Common.{◌≡◌, ℕ, suc, zero, ◌+◌, ◌<◌, ◌≤◌, ◌==◌, Bool, true, false, not, ◌&&◌, List, [], ◌∷◌, ◌++◌, length, get_or, set, refl, ap, subst, ◌∙◌, arith, Option, Some, None, nat_le, is_some, is_none, inl, inr, ℤ}
+use Rattle.std.specs.Option.{option_or}
 use Rattle.std.specs.Prelude.{IfSome}
 use Rattle.std.specs.List.{list_any}
 use Rattle.std.proofs.lemmas.Bool.{and_parts, or_parts, leb-true, cases_lt, cases_eq}
 use Rattle.std.proofs.lemmas.List.{length-set, get_or-set_same, get_or-set_other, get_or_append_left, get_or_push, length_push, length-replicate, get_or-replicate}
-use Rattle.sig_types.specs.FirstRefused.{or_next}
 use Rattle.pua_reader.specs.declared.refusal.PuaWhy.{PuaWhy}
 use Rattle.sig_types.specs.Text.{number_of}
 use Rattle.sig_types.specs.Words.{least_below, or_here}
@@ -124,7 +124,7 @@ none_inconsistent : (number : ℕ) (groups : List Group) (o : Option ℕ) → in
 none_inconsistent number groups None e = refl
 none_inconsistent number groups (Some g) e = cc
 
-last_none : (o : Option PuaWhy) → or_next o None ≡ None → o ≡ None
+last_none : (o : Option PuaWhy) → option_or o None ≡ None → o ≡ None
 last_none None e = refl
 last_none (Some x) e = cc
 

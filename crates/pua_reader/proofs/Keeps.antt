@@ -13,14 +13,14 @@ use Rattle.pua_reader.specs.declared.section.Section.{Section}
 use Rattle.pua_reader.specs.declared.section.Section.TheVariants as section
 use Rattle.pua_reader.specs.declared.section.Kind.{Kind}
 use Rattle.pua_reader.specs.declared.section.Kind.TheVariants.{Passed, Begins, Row}
-use Rattle.pua_reader.specs.Words.{Text, words, kind_of, may_follow, is_text}
+use Rattle.pua_reader.specs.Words.{Text, words, kind_of, may_follow, is_text, place_in_order}
 use Rattle.pua_reader.specs.Rules.{at_line}
 use Rattle.pua_reader.specs.Groups.{group_why, groups_with}
 use Rattle.pua_reader.specs.Stages.{stage_row_why, stages_with, is_stage_row, start_with}
 use Rattle.pua_reader.specs.Interstages.{open_at, interstage_row_why, open_after, interstage_of, interstage_reasons, interstages_with}
 use Rattle.pua_reader.specs.PlanDraft.{PlanDraftOf, empty_draft, row_why, row_why_in, after_row, after_row_in, is_interstage, interstage_end_why, after_section_end, section_why, after_section_line, at_next_line, kind_why, after_kind, is_over, line_why, after_line, lacks}
 use Rattle.pua_reader.specs.Accepted.{plan_in, start_number}
-use Rattle.pua_reader.specs.Legal.{AreGroups, AreStages, IsStage, Leads, AreInterstages, rank, Legal}
+use Rattle.pua_reader.specs.Legal.{AreGroups, AreStages, IsStage, Leads, AreInterstages, Legal}
 use Rattle.pua_reader.proofs.Small.{none_first, none_next, not_true}
 use Rattle.pua_reader.proofs.KeepGroups.{groups_keep}
 use Rattle.pua_reader.proofs.KeepStages.{stages_keep, stages_grow, still_stage, start_is}
@@ -61,7 +61,7 @@ next_line_legal g legal = record {
 -- a row, by the section in which it stands
 group_row_legal : (g : PlanDraftOf) (ws : List Text) → g.section ≡ section.Groups → Legal g → group_why g.groups ws ≡ None → Legal (record g { groups = groups_with g.groups ws })
 group_row_legal g ws here legal none =
-    let early : rank g.section ≡ 1 = ap rank here in
+    let early : place_in_order g.section ≡ 1 = ap place_in_order here in
     record {
       groups = groups_keep g.groups ws legal.groups none;
       stages = no_stages_legal (length (groups_with g.groups ws)) g.stages (legal.no_stages (omega (arith, early)));
@@ -76,7 +76,7 @@ group_row_legal g ws here legal none =
 stage_row_legal : (g : PlanDraftOf) (ws : List Text) → g.section ≡ section.Stages → Legal g → stage_row_why g.groups g.stages g.after_stage ws ≡ None →
     Legal (record g { stages = stages_with g.groups g.stages ws; after_stage = is_stage_row ws })
 stage_row_legal g ws here legal none =
-    let second : rank g.section ≡ 2 = ap rank here in
+    let second : place_in_order g.section ≡ 2 = ap place_in_order here in
     record {
       groups = legal.groups;
       stages = stages_keep g.groups g.stages g.after_stage ws legal.stages none;
@@ -103,7 +103,7 @@ start_row_legal g ws legal = record {
 interstage_row_legal : (g : PlanDraftOf) (ws : List Text) → g.section ≡ section.Interstage → Legal g → interstage_row_why g.groups g.stages g.current ws ≡ None →
     Legal (record g { current = open_after g.groups g.stages g.current ws })
 interstage_row_legal g ws here legal none =
-    let fourth : rank g.section ≡ 4 = ap rank here in
+    let fourth : place_in_order g.section ≡ 4 = ap place_in_order here in
     record {
       groups = legal.groups;
       stages = legal.stages;
@@ -136,19 +136,19 @@ record IsClosed (g h : PlanDraftOf) : Type 0 where
   pub stages : h.stages ≡ g.stages
   pub start : h.start ≡ g.start
   pub interstages : AreInterstages (length h.groups) h.stages h.interstages
-  pub same : rank g.section ≤ 3 → h.interstages ≡ g.interstages
+  pub same : place_in_order g.section ≤ 3 → h.interstages ≡ g.interstages
 
 at_none : (n : ℕ) (o : Option PuaWhy) → at_line n o ≡ None → o ≡ None
 at_none n None e = refl
 at_none n (Some why) e = cc
 
-whole_of : (g : PlanDraftOf) (o : Option InterstageOf) → interstage_of g.current ≡ o → Legal g → rank g.section ≡ 4 → interstage_reasons g.groups g.stages g.interstages o ≡ None →
+whole_of : (g : PlanDraftOf) (o : Option InterstageOf) → interstage_of g.current ≡ o → Legal g → place_in_order g.section ≡ 4 → interstage_reasons g.groups g.stages g.interstages o ≡ None →
     AreInterstages (length g.groups) g.stages (interstages_with g.interstages o)
 whole_of g None is legal fourth none = legal.interstages
 whole_of g (Some w) is legal fourth none =
     one_interstage_more g.groups g.stages g.interstages w legal.interstages (legal.room fourth) (whole_interstage (length g.groups) g.stages g.current w (legal.current fourth) is) none
 
-is_fourth : (s : Section) → is_interstage s ≡ true → rank s ≡ 4
+is_fourth : (s : Section) → is_interstage s ≡ true → place_in_order s ≡ 4
 is_fourth section.Before e = cc
 is_fourth section.Groups e = cc
 is_fourth section.Stages e = cc
@@ -176,8 +176,8 @@ unfolding interstage_end_why after_section_end
 ended_well g legal none = ended_by (is_interstage g.section) g refl legal none
 
 record Follows (a b : Section) : Type 0 where
-  pub stages : rank b ≤ 1 → rank a ≤ 1
-  pub interstages : rank b ≤ 3 → rank a ≤ 3
+  pub stages : place_in_order b ≤ 1 → place_in_order a ≤ 1
+  pub interstages : place_in_order b ≤ 3 → place_in_order a ≤ 3
 
 follows : (a b : Section) → may_follow a b ≡ true → Follows a b
 follows section.Before section.Groups e = record { stages = λ le. omega arith; interstages = λ le. omega arith }
@@ -189,7 +189,7 @@ follows section.Interstage section.Interstage e = record { stages = λ le. absur
 follows section.Interstage section.End e = record { stages = λ le. absurd (omega arith); interstages = λ le. absurd (omega arith) }
 follows _ _ e = cc
 
-not_fourth : (s : Section) → is_interstage s ≡ false → rank s ≡ 4 → ⊥
+not_fourth : (s : Section) → is_interstage s ≡ false → place_in_order s ≡ 4 → ⊥
 not_fourth section.Before e is = omega arith
 not_fourth section.Groups e is = omega arith
 not_fourth section.Stages e is = omega arith
@@ -197,15 +197,15 @@ not_fourth section.Start e is = omega arith
 not_fourth section.Interstage e is = absurd (cc)
 not_fourth section.End e is = omega arith
 
-ended_no_stages : (g h : PlanDraftOf) (s : Section) → Legal g → IsClosed g h → may_follow h.section s ≡ true → rank s ≤ 1 → h.stages ≡ []
+ended_no_stages : (g h : PlanDraftOf) (s : Section) → Legal g → IsClosed g h → may_follow h.section s ≡ true → place_in_order s ≤ 1 → h.stages ≡ []
 ended_no_stages g h s legal is may le =
     let before = (follows h.section s may).stages le in
-    is.stages ∙ legal.no_stages (omega (arith, before, ap rank is.section))
+    is.stages ∙ legal.no_stages (omega (arith, before, ap place_in_order is.section))
 
-ended_no_interstages : (g h : PlanDraftOf) (s : Section) → Legal g → IsClosed g h → may_follow h.section s ≡ true → rank s ≤ 3 → h.interstages ≡ []
+ended_no_interstages : (g h : PlanDraftOf) (s : Section) → Legal g → IsClosed g h → may_follow h.section s ≡ true → place_in_order s ≤ 3 → h.interstages ≡ []
 ended_no_interstages g h s legal is may le =
     let before = (follows h.section s may).interstages le in
-    let early : rank g.section ≤ 3 = omega (arith, before, ap rank is.section) in
+    let early : place_in_order g.section ≤ 3 = omega (arith, before, ap place_in_order is.section) in
     is.same early ∙ legal.no_interstages early
 
 -- a section line that is not refused

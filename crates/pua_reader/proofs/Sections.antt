@@ -1,6 +1,6 @@
 -- Section lines, and the end of a file.
 use Rattle.std.proofs.Common.{◌≡◌, Bool, true, false, Some, None, refl, sym, ap, ◌∙◌, if◌then◌else◌}
-use Rattle.sig_types.specs.FirstRefused.{or_next}
+use Rattle.std.specs.Option.{option_or}
 use Rattle.pua_reader.specs.declared.refusal.PuaWhy.{PuaWhy}
 use Rattle.pua_reader.specs.declared.section.Section.{Section}
 use Rattle.pua_reader.specs.Words.{Text}
@@ -18,7 +18,7 @@ ended_lines g = lines_by (is_interstage g.section) g
 
 -- a section line is refused, and the section before it ended well
 pub section_refused : (g new : PlanDraftOf) (s : Section) (line : Text) (why : PuaWhy) → interstage_end_why g ≡ None → new ≡ after_section_end g → Some why ≡ section_why new s line →
-    or_next (interstage_end_why g) (at_line g.lines (section_why (after_section_end g) s line)) ≡ Some (new.lines, why)
+    option_or (interstage_end_why g) (at_line g.lines (section_why (after_section_end g) s line)) ≡ Some (new.lines, why)
 section_refused g new s line why ended is refused =
     let here : section_why (after_section_end g) s line ≡ Some why = rw (← is) (sym refused) in
     let count : new.lines ≡ g.lines = ap (λ (h : PlanDraftOf). h.lines) is ∙ ended_lines g in

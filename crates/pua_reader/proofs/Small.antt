@@ -1,7 +1,7 @@
 -- Small facts on reasons, names and lists.
 use Rattle.std.proofs.Common.{◌≡◌, ℕ, ◌==◌, Bool, true, false, not, ◌&&◌, ◌||◌, List, [], ◌∷◌, ◌++◌, refl, sym, ap, ◌∙◌, Option, Some, None, nat_eq, inl, inr, ne_eqb}
+use Rattle.std.specs.Option.{option_or}
 use Rattle.std.proofs.lemmas.Bool.{and_parts, or_parts, cases_eq}
-use Rattle.sig_types.specs.FirstRefused.{or_next}
 use Rattle.sig_types.specs.Text.{same_name, lower}
 use Rattle.pua_model.specs.Plan.{stands_in, are_apart, are_names}
 use Rattle.sig_types.specs.Text.{is_name}
@@ -9,11 +9,11 @@ use Rattle.pua_reader.specs.declared.refusal.PuaWhy.{PuaWhy}
 use Rattle.pua_reader.specs.Rules.{when}
 
 -- a rule that does not refuse, and those after it
-pub none_first : (b : Bool) (w : PuaWhy) (next : Option PuaWhy) → or_next (when b w) next ≡ None → (b ≡ false) × (next ≡ None)
+pub none_first : (b : Bool) (w : PuaWhy) (next : Option PuaWhy) → option_or (when b w) next ≡ None → (b ≡ false) × (next ≡ None)
 none_first true w next e = cc
 none_first false w next e = (refl, e)
 
-pub none_next : {W : Type 0} (a b : Option W) → or_next a b ≡ None → (a ≡ None) × (b ≡ None)
+pub none_next : {W : Type 0} (a b : Option W) → option_or a b ≡ None → (a ≡ None) × (b ≡ None)
 none_next None b e = (refl, e)
 none_next (Some w) b e = cc
 

@@ -1,8 +1,9 @@
 -- The texts that are accepted, their plans, and the refusal of the others.
 use Rattle.std.specs.Prelude.{◌≡◌, ℕ, List, [], ◌∷◌, drop, Option, Some, None, if◌then◌else◌, nat_eq}
+use Rattle.std.specs.Option.{option_or}
 use Rattle.std.specs.List.{starts_with}
 use Rattle.std.specs.Str.Lines.{lines}
-use Rattle.sig_types.specs.FirstRefused.{first_refused, or_next}
+use Rattle.sig_types.specs.FirstRefused.{first_refused}
 use Rattle.sig_types.specs.declared.numbers.StageNo.{StageNo}
 use Rattle.pua_model.specs.Plan.{PlanOf}
 use Rattle.pua_model.specs.Parts.{plan_of}
@@ -22,7 +23,7 @@ lines_in bytes = lines (without_mark bytes)
 
 -- the first refusal of a text, with its line: that of its first refused line, or that of its end
 unfoldable pub refusal_of : Text → Option (ℕ × PuaWhy)
-refusal_of bytes = or_next (first_refused judge (lines_in bytes) []) (end_why (draft_of (lines_in bytes)))
+refusal_of bytes = option_or (first_refused judge (lines_in bytes) []) (end_why (draft_of (lines_in bytes)))
 
 -- the number of the starting stage; 0 where none is given yet
 abbrev pub start_number : Option StageNo → ℕ

@@ -4,8 +4,7 @@ use Rattle.pua_model.specs.declared.parts.Group.{Group}
 use Rattle.pua_model.specs.declared.parts.Stage.{Stage}
 use Rattle.pua_model.specs.Plan.{InterstageOf, no_interstage, are_names, are_apart, is_above, is_row, are_pairs_apart}
 use Rattle.pua_model.specs.Wish.{leads}
-use Rattle.pua_reader.specs.declared.section.Section.{Section}
-use Rattle.pua_reader.specs.declared.section.Section.TheVariants as section
+use Rattle.pua_reader.specs.Words.{place_in_order}
 use Rattle.pua_reader.specs.Interstages.{OpenInterstageOf, greens_in}
 use Rattle.pua_reader.specs.PlanDraft.{PlanDraftOf}
 
@@ -53,22 +52,13 @@ pub record IsOpen (groups : ℕ) (stages : List Stage) (current : OpenInterstage
   pub rows : length current.rows ≡ groups
   pub ends : (g : ℕ) → g < groups → is_row (slice_index_or current.rows g None) ≡ true
 
--- the place of a section in the order of sections
-abbrev pub rank : Section → ℕ
-rank section.Before = 0
-rank section.Groups = 1
-rank section.Stages = 2
-rank section.Start = 3
-rank section.Interstage = 4
-rank section.End = 5
-
 -- what the accepted lines have told so far is within all limits
 pub record Legal (g : PlanDraftOf) : Type 0 where
   pub groups : AreGroups g.groups
   pub stages : AreStages (length g.groups) g.stages
   pub start : IfSome g.start (λ s. IsStage g.stages s.0)
   pub interstages : AreInterstages (length g.groups) g.stages g.interstages
-  pub no_stages : rank g.section ≤ 1 → g.stages ≡ []
-  pub no_interstages : rank g.section ≤ 3 → g.interstages ≡ []
-  pub current : rank g.section ≡ 4 → IsOpen (length g.groups) g.stages g.current
-  pub room : rank g.section ≡ 4 → length g.interstages < 256
+  pub no_stages : place_in_order g.section ≤ 1 → g.stages ≡ []
+  pub no_interstages : place_in_order g.section ≤ 3 → g.interstages ≡ []
+  pub current : place_in_order g.section ≡ 4 → IsOpen (length g.groups) g.stages g.current
+  pub room : place_in_order g.section ≡ 4 → length g.interstages < 256

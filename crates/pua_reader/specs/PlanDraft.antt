@@ -1,6 +1,7 @@
 -- What the lines of a file have told so far, and the reason to refuse the next one.
 use Rattle.std.specs.Prelude.{ℕ, ◌+◌, ◌==◌, Bool, true, false, not, ◌&&◌, ◌||◌, List, [], ◌∷◌, length, Option, Some, None, if◌then◌else◌, nat_le, fold, is_none}
-use Rattle.sig_types.specs.FirstRefused.{first_reason, or_next}
+use Rattle.std.specs.Option.{option_or}
+use Rattle.sig_types.specs.FirstRefused.{first_reason}
 use Rattle.sig_types.specs.declared.numbers.StageNo.{StageNo}
 use Rattle.pua_model.specs.declared.parts.Group.{Group}
 use Rattle.pua_model.specs.declared.parts.Stage.{Stage}
@@ -104,7 +105,7 @@ at_next_line g = record g { lines = g.lines + 1 }
 -- the reason to refuse a line, with the line that it names, by what the lines before have told, this line counted
 abbrev pub kind_why : Kind → PlanDraftOf → Text → Option (ℕ × PuaWhy)
 kind_why Passed g line = None
-kind_why (Begins s) g line = or_next (interstage_end_why g) (at_line g.lines (section_why (after_section_end g) s line))
+kind_why (Begins s) g line = option_or (interstage_end_why g) (at_line g.lines (section_why (after_section_end g) s line))
 kind_why Row g line = at_line g.lines (row_why g line)
 
 -- the draft after a line of this kind
@@ -143,4 +144,4 @@ lacks g = first_reason (
 
 -- the reason to refuse a file that ends there; line 0 is the whole file
 unfoldable pub end_why : PlanDraftOf → Option (ℕ × PuaWhy)
-end_why g = or_next (interstage_end_why g) (at_line 0 (lacks (after_section_end g)))
+end_why g = option_or (interstage_end_why g) (at_line 0 (lacks (after_section_end g)))

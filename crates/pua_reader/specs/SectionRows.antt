@@ -7,7 +7,7 @@ use Rattle.pua_reader.specs.declared.section.Section.{Section}
 use Rattle.pua_reader.specs.declared.section.Section.TheVariants as section
 use Rattle.pua_reader.specs.declared.section.Kind.{Kind}
 use Rattle.pua_reader.specs.declared.section.Kind.TheVariants.{Passed, Begins, Row}
-use Rattle.pua_reader.specs.Words.{Text, words, kind_of}
+use Rattle.pua_reader.specs.Words.{Text, words, kind_of, place_in_order}
 use Rattle.pua_reader.specs.Groups.{group_row, put}
 use Rattle.pua_reader.specs.Stages.{is_red_word, greens_of, stage_of}
 use Rattle.pua_reader.specs.PlanDraft.{is_over, is_interstage}
@@ -33,15 +33,6 @@ abbrev pub is_row : Kind → Bool
 is_row Passed = false
 is_row (Begins s) = false
 is_row Row = true
-
--- the place of a section in the order of sections
-abbrev pub place_in_order : Section → ℕ
-place_in_order section.Before = 0
-place_in_order section.Groups = 1
-place_in_order section.Stages = 2
-place_in_order section.Start = 3
-place_in_order section.Interstage = 4
-place_in_order section.End = 5
 
 -- the two sections are one
 abbrev pub same_section : Section → Section → Bool

@@ -62,6 +62,15 @@ abbrev pub kind_of : List Text → Kind
 kind_of [] = Passed
 kind_of (w ∷ ws) = kind_of_word w
 
+-- the place of a section in the order of sections
+abbrev pub place_in_order : Section → ℕ
+place_in_order section.Before = 0
+place_in_order section.Groups = 1
+place_in_order section.Stages = 2
+place_in_order section.Start = 3
+place_in_order section.Interstage = 4
+place_in_order section.End = 5
+
 -- the order of the sections: groups, stages, start, any number of interstages, end
 abbrev pub may_follow : Section → Section → Bool
 may_follow section.Before section.Groups = true

@@ -1,11 +1,12 @@
 -- The table of intergreens, as it is read.
 use Rattle.std.proofs.Common.{◌≡◌, ◌≢◌, ◌∙◌, ℕ, ◌+◌, ◌*◌, ◌<◌, ◌≤◌, true, List, [], ◌∷◌, ◌++◌, length, get_or, Some, None, Option, refl, sym, ap, arith, inl, inr, append_assoc, length-append, slice_set}
+use Rattle.std.specs.Option.{option_or}
 use Rattle.std.specs.Prelude.{is_some}
 use Rattle.std.proofs.lemmas.Bool.{cases_lt}
 use Rattle.std.proofs.lemmas.List.{get_or_append_left}
 use Rattle.std.proofs.Math.Seq.{get_or-append_seam}
 use Rattle.sig_types.specs.declared.numbers.GroupNo.{GroupNo}
-use Rattle.sig_types.specs.FirstRefused.{or_next, refused_to, first_refused}
+use Rattle.sig_types.specs.FirstRefused.{refused_to, first_refused}
 use Rattle.sig_types.proofs.Refusals.{accepted_pushed}
 use Rattle.pua_model.specs.Plan.{PlanOf, groups_in}
 use Rattle.sig_tables.specs.declared.refusal.TableWhy.{TableWhy}
@@ -45,7 +46,7 @@ refused_record : (plan : PlanOf) (header : Row) (rows : List Row) (w : Refusal) 
 unfolding intergreens_refused
 refused_record plan header rows w right is = rw (right, is) refl
 
-or_none : (r : Option Refusal) → or_next r None ≡ r
+or_none : (r : Option Refusal) → option_or r None ≡ r
 or_none None = refl
 or_none (Some w) = refl
 

@@ -1,8 +1,9 @@
 -- The table of times, as it is read.
 use Rattle.std.proofs.Common.{◌≡◌, ◌∙◌, ℕ, zero, suc, ◌+◌, ◌<◌, ◌≤◌, true, false, List, [], ◌∷◌, ◌++◌, length, get_or, Some, None, Option, refl, sym, ap, arith, replicate, append_assoc, length-append}
+use Rattle.std.specs.Option.{option_or}
 use Rattle.std.proofs.lemmas.List.{length-replicate}
 use Rattle.std.specs.Prelude.{is_none}
-use Rattle.sig_types.specs.FirstRefused.{or_next, first_refused}
+use Rattle.sig_types.specs.FirstRefused.{first_refused}
 use Rattle.pua_model.specs.Plan.{PlanOf, groups_in}
 use Rattle.sig_tables.specs.declared.refusal.TableWhy.{TableWhy}
 use Rattle.sig_tables.specs.declared.refusal.TableWhy.TheVariants as why
@@ -35,7 +36,7 @@ pub record ReadsTimes (plan : PlanOf) (text : List ℕ) (records : Records) (hel
   pub at_least : 1 ≤ groups_in plan
   pub count : records.number + empties held ≡ groups_in plan + 1
 
-or_none : (r : Option Refusal) → or_next r None ≡ r
+or_none : (r : Option Refusal) → option_or r None ≡ r
 or_none None = refl
 or_none (Some w) = refl
 

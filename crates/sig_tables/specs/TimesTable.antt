@@ -1,6 +1,7 @@
 -- The table of times: one record per group.
 use Rattle.std.specs.Prelude.{ℕ, zero, suc, ◌≤◌, ◌==◌, Bool, false, not, List, [], ◌∷◌, ◌++◌, length, drop, slice_index_or, Option, Some, None, is_some, is_none, if◌then◌else◌, All}
-use Rattle.sig_types.specs.FirstRefused.{or_next, first_reason, first_refused}
+use Rattle.std.specs.Option.{option_or}
+use Rattle.sig_types.specs.FirstRefused.{first_reason, first_refused}
 use Rattle.sig_types.specs.Text.{number_of, within}
 use Rattle.sig_types.specs.Words.{least_below}
 use Rattle.pua_model.specs.Plan.{PlanOf, groups_in}
@@ -70,7 +71,7 @@ has_times plan rows (Some g) = is_some (listed_times plan rows g)
 
 -- the reason to refuse a record after the header and these records
 unfoldable pub times_reason : PlanOf → List Row → Row → Option TableWhy
-times_reason plan rows row = or_next (times_form plan row) (when (has_times plan rows (group_at plan row 0)) why.Twice)
+times_reason plan rows row = option_or (times_form plan row) (when (has_times plan rows (group_at plan row 0)) why.Twice)
 
 -- the whole table is refused for a group without a record, where there is one
 abbrev pub missing_group : Option ℕ → Option Refusal
