@@ -11,7 +11,6 @@ pub mod SectionLines
 pub mod SectionTexts
 pub mod ShapeOfText
 pub mod Steps
-pub mod SurveyLemmas
 pub mod TestedForms
 pub mod TextLaws
 pub mod TextOfShape

@@ -4,27 +4,28 @@ use Rattle.std.specs.Prelude.{if◌then◌else◌, eqb, unwrap_or}
 use Rattle.vap_code.specs.declared.Instr.{Instr}
 use Rattle.vap_code.specs.declared.Instr.TheVariants.{Push, Jump, JumpZero}
 use Rattle.vap_code.specs.Valid.{jumped_height, jumps_to, leaves, pushes, target, begins, goes_on, instr_at, height_after}
-use Rattle.code_verify.specs.Tables.{first_jump, first_some, brings}
+use Rattle.std.specs.Option.{option_or}
+use Rattle.code_verify.specs.Tables.{first_jump, brings}
 
 pub none_yet : (is : List Instr) (p : ℕ) → first_jump is [] p ≡ None
 none_yet [] p = refl
 none_yet (i ∷ is) p = refl
 
-first_some_none : (a : Option ℕ) → first_some a None ≡ a
-first_some_none None = refl
-first_some_none (Some h) = refl
+or_none : (a : Option ℕ) → option_or a None ≡ a
+or_none None = refl
+or_none (Some h) = refl
 
-first_some_assoc : (a b c : Option ℕ) → first_some a (first_some b c) ≡ first_some (first_some a b) c
-first_some_assoc None b c = refl
-first_some_assoc (Some h) b c = refl
+or_assoc : (a b c : Option ℕ) → option_or a (option_or b c) ≡ option_or (option_or a b) c
+or_assoc None b c = refl
+or_assoc (Some h) b c = refl
 
 -- one more height
-pub first_jump_push : (is : List Instr) (hs : List ℕ) (h p : ℕ) (d : Instr) → length hs < length is → first_jump is (hs ++ h ∷ []) p ≡ first_some (first_jump is hs p) (brings (get_or is (length hs) d) h p)
+pub first_jump_push : (is : List Instr) (hs : List ℕ) (h p : ℕ) (d : Instr) → length hs < length is → first_jump is (hs ++ h ∷ []) p ≡ option_or (first_jump is hs p) (brings (get_or is (length hs) d) h p)
 first_jump_push [] hs h p d lt = absurd (omega arith)
-first_jump_push (i ∷ is) [] h p d lt = ap (first_some (brings i h p)) (none_yet is p) ∙ first_some_none (brings i h p)
+first_jump_push (i ∷ is) [] h p d lt = ap (option_or (brings i h p)) (none_yet is p) ∙ or_none (brings i h p)
 first_jump_push (i ∷ is) (g ∷ hs) h p d lt =
-    ap (first_some (brings i g p)) (first_jump_push is hs h p d (omega arith))
-    ∙ first_some_assoc (brings i g p) (first_jump is hs p) (brings (get_or is (length hs) d) h p)
+    ap (option_or (brings i g p)) (first_jump_push is hs h p d (omega arith))
+    ∙ or_assoc (brings i g p) (first_jump is hs p) (brings (get_or is (length hs) d) h p)
 
 abbrev pub or_zero : Option ℕ → ℕ
 or_zero None = 0
@@ -35,7 +36,7 @@ jumped_is [] hs p = refl
 jumped_is (i ∷ is) [] p = refl
 jumped_is (i ∷ is) (h ∷ hs) p =
     let rest = jumped_is is hs p in
-    elim (jumps_to i p) as (λ b. or_zero (first_some (if b then Some (leaves h i) else None) (first_jump is hs p)) ≡ (if b then leaves h i else jumped_height is hs p)) [ true ↦ refl | false ↦ rest ]
+    elim (jumps_to i p) as (λ b. or_zero (option_or (if b then Some (leaves h i) else None) (first_jump is hs p)) ≡ (if b then leaves h i else jumped_height is hs p)) [ true ↦ refl | false ↦ rest ]
 
 pushes_upto : (i : Instr) → pushes i ≤ 1
 pushes_upto (Push v) = omega arith

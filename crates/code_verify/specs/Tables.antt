@@ -1,5 +1,6 @@
 -- What the tables have at each place.
 use Rattle.std.specs.Prelude.{◌≡◌, ℕ, ◌-◌, ◌<◌, ◌≤◌, List, [], ◌∷◌, length, Option, Some, None, IfSome, IsTrue, if◌then◌else◌}
+use Rattle.std.specs.Option.{option_or}
 use Rattle.sig_types.specs.Pass.{at}
 use Rattle.vap_code.specs.declared.Instr.{Instr}
 use Rattle.vap_code.specs.Codes.{CodeOf}
@@ -7,11 +8,6 @@ use Rattle.vap_code.specs.Valid.{heights, stretches, command_counts, from_last, 
 use Rattle.code_verify.specs.declared.tables.Number.{Number}
 use Rattle.code_verify.specs.declared.tables.Number.TheVariants.{Stretch, Commands}
 use Rattle.code_verify.specs.declared.tables.Tables.{Tables}
-
--- the first of two that is there
-abbrev pub first_some : Option ℕ → Option ℕ → Option ℕ
-first_some None other = other
-first_some (Some h) other = Some h
 
 -- what a jump brings to a place
 abbrev pub brings : Instr → ℕ → ℕ → Option ℕ
@@ -21,7 +17,7 @@ brings i h p = if jumps_to i p then Some (leaves h i) else None
 abbrev pub first_jump : List Instr → List ℕ → ℕ → Option ℕ
 first_jump [] hs p = None
 first_jump (i ∷ is) [] p = None
-first_jump (i ∷ is) (h ∷ hs) p = first_some (brings i h p) (first_jump is hs p)
+first_jump (i ∷ is) (h ∷ hs) p = option_or (brings i h p) (first_jump is hs p)
 
 -- a stretch or a command count, from the greatest among the successors
 abbrev pub number_of : Number → Instr → ℕ → ℕ

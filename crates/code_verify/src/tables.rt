@@ -1,9 +1,10 @@
 // The heights, stretches and command counts of all places.
 
 ghost use Rattle.std.specs.Prelude.{◌≡◌, ℕ, ◌+◌, ◌-◌, ◌<◌, ◌≤◌, length, slice_index, slice_index_or, drop, IfOk, Option, None, true, if◌then◌else◌};
+ghost use Rattle.std.specs.Option.{option_or};
 ghost use Rattle.vap_code.specs.Codes.{code_in};
 ghost use Rattle.vap_code.specs.Valid.{from_first, height_after as height_after_of, begins as begins_at, greatest as greatest_of, later_at, is_tick as is_tick_of, instr_at};
-ghost use Rattle.code_verify.specs.Tables.{first_jump, first_some, brings, number_of, numbers as numbers_of, IsTables, JumpsAhead};
+ghost use Rattle.code_verify.specs.Tables.{first_jump, brings, number_of, numbers as numbers_of, IsTables, JumpsAhead};
 ghost use Rattle.vap_code.specs.declared.VerifyWhy.TheVariants.{Shape};
 ghost use Rattle.vap_code.specs.Valid.{Passed, HasShape};
 
@@ -100,7 +101,7 @@ fn keep_jump(brought: &mut Vec<Option<usize>>, instr: Instr, height: usize)
     ensures long { length brought.new.items ≡ length brought.old.items }
     ensures kept { (t : ℕ) → t < length brought.old.items →
         slice_index_or brought.new.items t None ≡
-        first_some (slice_index_or brought.old.items t None) (brings instr height t) }
+        option_or (slice_index_or brought.old.items t None) (brings instr height t) }
 {
     if let Some(t) = target(instr) {
         if t < brought.len() && brought[t].is_none() {

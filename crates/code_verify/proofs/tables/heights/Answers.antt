@@ -1,7 +1,8 @@
 use Rattle.std.proofs.Common.{◌≡◌, ℕ, [], length, get_or, sym, ap, ◌∙◌, arith, subst, ◌∷◌, ◌<◌, ◌≤◌, length-append}
 use Rattle.vap_code.specs.declared.Instr.TheVariants.{Tick}
 use Rattle.vap_code.specs.Valid.{height_after}
-use Rattle.code_verify.specs.Tables.{first_jump, first_some, brings}
+use Rattle.std.specs.Option.{option_or}
+use Rattle.code_verify.specs.Tables.{first_jump, brings}
 use Rattle.code_verify.proofs.Brought.{first_jump_push, none_yet}
 use Rattle.code_verify.proofs.TableFacts.{from_first_more, low_push}
 use Rattle.code_verify.proofs.tables.heights.Goals as goal
@@ -29,7 +30,7 @@ loop-p-preserved c =
       wide = c.keep_jump.ensures.long ∙ i.wide;
       brought = λ t lt.
           c.keep_jump.ensures.kept t (omega (arith, lt, i.wide))
-          ∙ ap (λ o. first_some o (brings (get_or c.args.instrs.now c.loop-p.p (Tick 0)) h t)) (i.brought t lt)
-          ∙ ap (λ n. first_some (first_jump c.args.instrs.now c.loop-p.heights.items t) (brings (get_or c.args.instrs.now n (Tick 0)) h t)) (sym i.long)
+          ∙ ap (λ o. option_or o (brings (get_or c.args.instrs.now c.loop-p.p (Tick 0)) h t)) (i.brought t lt)
+          ∙ ap (λ n. option_or (first_jump c.args.instrs.now c.loop-p.heights.items t) (brings (get_or c.args.instrs.now n (Tick 0)) h t)) (sym i.long)
           ∙ sym (ap (λ hs. first_jump c.args.instrs.now hs t) pushed ∙ first_jump_push c.args.instrs.now c.loop-p.heights.items h t (Tick 0) (omega (arith, i.long, c.loop-p-test.true)));
     }
