@@ -6,7 +6,7 @@ use Rattle.std.specs.Prelude.{if◌then◌else◌, ◌&&◌, IsTrue, IfSome, sli
 use Rattle.vap_code.specs.declared.Instr.{Instr}
 use Rattle.vap_code.specs.declared.Instr.TheVariants.{Tick, Jump, JumpZero, Ret}
 use Rattle.vap_code.specs.Valid.{from_last, greatest, later_at, of_target, target, goes_on, has_next, is_tick, instr_at}
-use Rattle.vap_compile.proofs.Tables.{at_from_last, later_from_last}
+use Rattle.code_verify.proofs.TableFacts.{at_from_last, later_from_last}
 use Rattle.vap_compile.proofs.Runs.{HasAt}
 use Rattle.vap_compile.proofs.Each.{Each}
 

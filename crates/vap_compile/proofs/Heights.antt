@@ -5,7 +5,7 @@ use Rattle.std.proofs.lemmas.Bool.{cases_lt}
 use Rattle.vap_code.specs.declared.Instr.{Instr}
 use Rattle.vap_code.specs.declared.Instr.TheVariants.{Jump, JumpZero, Ret}
 use Rattle.vap_code.specs.Valid.{leaves, target, goes_on, jumps_to, jumped_height, height_after, from_first, begins, instr_at}
-use Rattle.vap_compile.proofs.Tables.{length-from_first, at_from_first}
+use Rattle.code_verify.proofs.TableFacts.{length-from_first, at_from_first}
 use Rattle.vap_compile.proofs.Rises.{Okay, Rises, after_it}
 
 -- the operands that stand at a place, along the instructions

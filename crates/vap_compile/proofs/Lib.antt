@@ -10,7 +10,6 @@ pub mod Laid
 pub mod Means
 -- The code of a program is valid: operands along the code, facts of each instruction, targets, stretches and commands,
 -- routines, and the whole.
-pub mod Tables
 pub mod Rises
 pub mod Heights
 pub mod Standing
