@@ -18,6 +18,7 @@ use sig_types::text::{is_name, is_number, number, same_name};
 use sig_types::{ShortName, StageNo, Wishes};
 use std::alloc::{AllocError, Global};
 
+// Whether a stage has this name, in any case.
 fn has_stage_name(stages: &[Stage], name: &[u8]) -> bool
     ensures { result ≡ has_stage_name stages.now name.now }
 {
@@ -26,36 +27,42 @@ fn has_stage_name(stages: &[Stage], name: &[u8]) -> bool
         .any(|stage| same_name(stage.name.bytes(), name))
 }
 
+// Whether each word is a name; `are_names` says so of the bytes of the words. The pairs below are parted likewise.
 fn all_names(words: &[&[u8]]) -> bool
     ensures { result ≡ list_all (λ w. is_name w.now) words.now }
 {
     words.iter().all(|word| is_name(word))
 }
 
+// Whether each word is a name.
 fn are_names(words: &[&[u8]]) -> bool
     ensures { result ≡ list_all is_name (map (λ w. w.now) words.now) }
 {
     all_names(words)
 }
 
+// Whether each word names a group.
 fn all_groups(groups: &[Group], words: &[&[u8]]) -> bool
     ensures { result ≡ list_all (λ w. has_name groups.now w.now) words.now }
 {
     words.iter().all(|word| has_name(groups, word))
 }
 
+// Whether each word names a group.
 fn are_groups(groups: &[Group], words: &[&[u8]]) -> bool
     ensures { result ≡ list_all (has_name groups.now) (map (λ w. w.now) words.now) }
 {
     all_groups(groups, words)
 }
 
+// Whether one of the words is this name, in any case.
 fn any_is(name: &[u8], words: &[&[u8]]) -> bool
     ensures { result ≡ list_any (λ w. same_name w.now name.now) words.now }
 {
     words.iter().any(|word| same_name(word, name))
 }
 
+// Whether one of the words is this name, in any case.
 fn is_among(name: &[u8], words: &[&[u8]]) -> bool
     ensures { result ≡ stands_in name.now (map (λ w. w.now) words.now) }
 {
