@@ -6,10 +6,10 @@
 -- what the parser reads the form spells, and what it refuses stands behind a front of what the form spells (`meets`,
 -- with Meets); and what the parser answers at a token doesn't depend on the tokens behind it (`local`, with Alike).
 -- Laws are put together as the rules are: one token (Tokens), one after another and one of two (Law), any number of
--- turns (Turns), the brackets of TRACE (Skips). So ExprLaws and TextLaws have a line or two for each rule, of which the
+-- rounds (Rounds), the brackets of TRACE (Skips). So ExprLaws and TextLaws have a line or two for each rule, of which the
 -- kinds of tokens are found by trying them all (AllKinds). This file takes the law of a whole program: its `complete`
 -- gives that each text is read, its `meets` that what is read is a text and that a refused token follows a front of a
--- text, and its `local` that no text goes on with the refused token. Shrinks tells the loops that a turn takes a token,
+-- text, and its `local` that no text goes on with the refused token. Shrinks tells the loops that a round takes a token,
 -- and Keeps what the tree of any text keeps.
 use Rattle.std.proofs.Common.{◌≡◌, ℕ, suc, ◌<◌, ◌≤◌, length, List, [], ◌∷◌, ◌++◌, append_assoc, Ok, Err, refl, sym, ap, subst, ◌∙◌, inl, inr, arith}
 use Rattle.std.proofs.lemmas.List.{append-nil, length-append}

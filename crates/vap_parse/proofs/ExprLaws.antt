@@ -14,7 +14,7 @@ use Rattle.vap_parse.specs.Descent.{is, is_operator, is_open, is_timer, begins, 
 use Rattle.vap_parse.specs.Descent as r
 use Rattle.vap_parse.specs.Grammar as g
 use Rattle.vap_parse.proofs.Law.{Law, no_kind, gives_law, then_law, either_law}
-use Rattle.vap_parse.proofs.Turns.{many_law}
+use Rattle.vap_parse.proofs.Rounds.{many_law}
 use Rattle.vap_parse.proofs.Skips.{any_kind}
 use Rattle.vap_parse.proofs.Tokens.{expect_law, enter_law, called_law, number_law, operator_law, reading_law, aspect_law, is_reading}
 

@@ -14,7 +14,7 @@ use Rattle.vap_parse.specs.declared.kind.Rank.TheVariants as rank
 use Rattle.vap_parse.specs.Kinds.{kind_of, same_kind, command_of, timer_of}
 use Rattle.vap_parse.specs.Input.{Mark, fine, deep, wrong, where_kind, with_line, line_of, name_in, name_at, no_limit, as_many, limit, max_levels, max_ifs}
 use Rattle.vap_parse.specs.Descent.{Declared}
-use Rattle.vap_parse.specs.Forms.{Marked, fines, Form, Picks, picks, Gives, gives, Then, then_, Either, this, that, Many, none, turn, Anew, counted, Balanced}
+use Rattle.vap_parse.specs.Forms.{Marked, fines, Form, Picks, picks, Gives, gives, Then, then_, Either, this, that, Many, none, round, Anew, counted, Balanced}
 use Rattle.vap_parse.specs.Grammar as g
 use Rattle.vap_parse.specs.Grammar.{Accepts}
 
@@ -75,7 +75,7 @@ module _ (most : ℕ) where
 
   many_by : {A : Type 0} (Q : A → Form A) (K : A → Type 0) → ((x : A) → K x → Keeps (Q x) K) → (o n : ℕ) (ms : List Marked) (x z : A) → K x → Many Q x o ms z n → AllGood ms → K z
   many_by Q K two _ _ _ _ _ h (none x o) good = h
-  many_by Q K two _ _ _ _ _ h (turn x y z o m n a b s more) good = many_by Q K two m n b y z ((two x h).by o m a y s (good_first a b good)) more (good_second a b good)
+  many_by Q K two _ _ _ _ _ h (round x y z o m n a b s more) good = many_by Q K two m n b y z ((two x h).by o m a y s (good_first a b good)) more (good_second a b good)
 
   many_keep : {A : Type 0} {Q : A → Form A} {K : A → Type 0} → ((x : A) → K x → Keeps (Q x) K) → (x : A) → K x → Keeps (Many Q x) K
   many_keep {Q = Q} {K = K} two x h = record { by = λ o n ms z s good. many_by Q K two o n ms x z h s good }

@@ -3,7 +3,7 @@ pub mod After
 pub mod Meets
 pub mod Alike
 pub mod Law
-pub mod Turns
+pub mod Rounds
 pub mod Skips
 pub mod Tokens
 pub mod ExprLaws

@@ -41,10 +41,10 @@ pub data Either {A : Type 0} (P Q : Form A) : ℕ → List Marked → A → ℕ 
   this : (o n : ℕ) (ms : List Marked) (x : A) → P o ms x n → Either P Q o ms x n
   that : (o n : ℕ) (ms : List Marked) (x : A) → Q o ms x n → Either P Q o ms x n
 
--- any number of turns, each of which makes the next value of the last one
+-- any number of rounds, each of which makes the next value of the last one
 pub data Many {A : Type 0} (Q : A → Form A) : A → ℕ → List Marked → A → ℕ → Type 0 where
   none : (x : A) (o : ℕ) → Many Q x o [] x o
-  turn : (x y z : A) (o m n : ℕ) (a b : List Marked) → Q x o a y m → Many Q y m b z n → Many Q x o (a ++ b) z n
+  round : (x y z : A) (o m n : ℕ) (a b : List Marked) → Q x o a y m → Many Q y m b z n → Many Q x o (a ++ b) z n
 
 -- a form whose operators are counted from the beginning
 pub data Anew {A : Type 0} (P : Form A) : ℕ → List Marked → A → ℕ → Type 0 where

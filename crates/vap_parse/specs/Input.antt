@@ -253,16 +253,16 @@ ended_at (t ∷ s) n = Err (Unexpected, t ∷ s)
 unfoldable pub ended : Parser (Unit {0})
 ended = λ i. ended_at i.rest i.operators
 
--- ---- turns, each of which takes a token, so that one more than there are tokens is enough
+-- ---- rounds, each of which takes a token, so that one more than there are tokens is enough
 
--- at most n turns
+-- at most n rounds
 unfoldable pub repeat : {A : Type 0} → (Kind → Bool) → (A → Parser A) → ℕ → A → Parser A
-repeat test turn zero x = pure x
-repeat test turn (suc n) x = λ i. if test (kind i) then and_then (turn x i) (repeat test turn n) else Ok (x, i)
+repeat test round zero x = pure x
+repeat test round (suc n) x = λ i. if test (kind i) then and_then (round x i) (repeat test round n) else Ok (x, i)
 
--- turns as long as the next token passes the test
+-- rounds as long as the next token passes the test
 unfoldable pub many : {A : Type 0} → (Kind → Bool) → (A → Parser A) → A → Parser A
-many test turn x = λ i. repeat test turn (suc (length i.rest)) x i
+many test round x = λ i. repeat test round (suc (length i.rest)) x i
 
 -- ---- what a function that parses ensures: the parser's outcome, unless memory fails
 

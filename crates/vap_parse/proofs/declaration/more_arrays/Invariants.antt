@@ -5,7 +5,7 @@ use Rattle.vap_parse.specs.Descent.{is, next_array}
 use Rattle.vap_parse.specs.declared.kind.Kind.TheVariants as k
 use Rattle.vap_parse.proofs.declaration.more_arrays.Given as goal
 
--- what is left of the turns completes the list
+-- what is left of the rounds completes the list
 abbrev pub invariant-loop-alloc : goal.invariant-loop-alloc
 invariant-loop-alloc l = many (is k.Comma) next_array (map array_of l.fn.arrays.items) l.fn.tokens ≡ many (is k.Comma) next_array (map array_of l.arrays.items) l.tokens
 

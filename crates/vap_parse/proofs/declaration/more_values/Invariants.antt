@@ -4,7 +4,7 @@ use Rattle.vap_parse.specs.Descent.{is, next_value}
 use Rattle.vap_parse.specs.declared.kind.Kind.TheVariants as k
 use Rattle.vap_parse.proofs.declaration.more_values.Given as goal
 
--- what is left of the turns completes the list
+-- what is left of the rounds completes the list
 abbrev pub invariant-loop-tokens : goal.invariant-loop-tokens
 invariant-loop-tokens l = many (is k.Comma) next_value l.fn.values.items l.fn.tokens ≡ many (is k.Comma) next_value l.values.items l.tokens
 

@@ -56,7 +56,7 @@ decreases-negation l = 30 * l.levels + 19
 abbrev pub decreases-ranked : goal.decreases-ranked
 decreases-ranked l = 30 * l.levels + height l.rank
 
--- what is left of the turns completes the chain
+-- what is left of the rounds completes the chain
 abbrev pub invariant-chain-loop-alloc : goal.invariant-chain-loop-alloc
 invariant-chain-loop-alloc l = chain l.rank (expr l.levels l.operand) l.fn.tokens ≡ many (is_operator l.rank) (operation l.rank (expr l.levels l.operand)) (expr_of l.left) l.tokens
 

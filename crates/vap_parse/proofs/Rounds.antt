@@ -1,4 +1,4 @@
--- Turns, each of which takes a token.
+-- Rounds, each of which takes a token.
 use Rattle.std.proofs.Common.{◌≡◌, ℕ, zero, suc, ◌<◌, ◌≤◌, length, List, [], ◌∷◌, ◌++◌, Ok, Err, Bool, true, false, refl, ap, ◌∙◌, arith}
 use Rattle.std.proofs.lemmas.List.{length-append}
 use Rattle.std.specs.Prelude.{if◌then◌else◌, not, ◌&&◌}
@@ -6,7 +6,7 @@ use Rattle.vap_lex.specs.declared.token.Token.{Token}
 use Rattle.vap_parse.specs.declared.kind.Kind.{Kind}
 use Rattle.vap_parse.specs.Kinds.{kind_of}
 use Rattle.vap_parse.specs.Input.{Input, input, Outcome, Parser, and_then, kind, kind_first, ◌>>=◌, repeat, many}
-use Rattle.vap_parse.specs.Forms.{Marked, tokens, fines, Form, Many, none, turn}
+use Rattle.vap_parse.specs.Forms.{Marked, tokens, fines, Form, Many, none, round}
 use Rattle.vap_parse.proofs.AllKinds.{of_all, by_kinds}
 use Rattle.vap_parse.proofs.After.{Completes, completes_then}
 use Rattle.vap_parse.proofs.Meets.{Meets, step, prefixed, Within, NeverGrows}
@@ -75,8 +75,8 @@ module _ {A : Type 0} (test : Kind → Bool) (q : A → Parser A) (Q : A → For
         → Meets (Many Q x o) [] ts (if b then and_then (q x (input ts o)) (repeat test q n) else Ok (x, input ts o))
     by false deeper = record { front = []; parts = refl; spelled = none x o }
     by true deeper = step (Q x o) (Many Q x o) ts (q x (input ts o)) (repeat test q n) ((one x).meets o ts)
-        (λ ms y m s. ([], y, m, turn x y y o m m ms [] s (none y m)))
-        (λ front y j s. prefixed (Many Q y j.operators) (Many Q x o) front j.rest (repeat test q n y j) (λ ms z m r. turn x y z o j.operators m (fines front) ms s r) (deeper y j.operators j.rest))
+        (λ ms y m s. ([], y, m, round x y y o m m ms [] s (none y m)))
+        (λ front y j s. prefixed (Many Q y j.operators) (Many Q x o) front j.rest (repeat test q n y j) (λ ms z m r. round x y z o j.operators m (fines front) ms s r) (deeper y j.operators j.rest))
 
   meets_many : (x : A) (o : ℕ) (ts : List Token) → Meets (Many Q x o) [] ts (many test q x (input ts o))
   unfolding many
@@ -111,8 +111,8 @@ module _ {A : Type 0} (test : Kind → Bool) (q : A → Parser A) (Q : A → For
     after_first : (k : Kind) → (implies (mq k) (goes k) && implies (test k) (goes k)) ≡ true
     after_first k = both_right (implies (fq k) (first k && (test k && not (mq k)))) _ (fit k)
 
-    ends_turn : (k : Kind) → goes k ≡ false → mq k ≡ false
-    ends_turn k is = implied_not (mq k) (goes k) (both_left _ _ (after_first k)) is
+    ends_round : (k : Kind) → goes k ≡ false → mq k ≡ false
+    ends_round k is = implied_not (mq k) (goes k) (both_left _ _ (after_first k)) is
 
     ends_all : (k : Kind) → goes k ≡ false → test k ≡ false
     ends_all k is = implied_not (test k) (goes k) (both_right (implies (mq k) (goes k)) _ (after_first k)) is
@@ -123,15 +123,15 @@ module _ {A : Type 0} (test : Kind → Bool) (q : A → Parser A) (Q : A → For
 
     many_heads : (x z : A) (o n : ℕ) (ms : List Marked) → Many Q x o ms z n → Heads fq true ms
     many_heads _ _ _ _ _ (none x o) = refl
-    many_heads _ _ _ _ _ (turn x y z o m n a b s more) = many_first a b ((one x).heads o m a y s) (many_heads y z m n b more)
+    many_heads _ _ _ _ _ (round x y z o m n a b s more) = many_first a b ((one x).heads o m a y s) (many_heads y z m n b more)
 
     firsts : (ms : List Marked) → Heads fq true ms → Heads first true ms
     firsts [] h = h
     firsts (m ∷ ms) h = both_left _ _ (begins (kind_of m.0.kind) h)
 
-    behind_turn : (b : List Marked) (rest : List Token) → Heads fq true b → goes (kind_first rest) ≡ false → mq (kind_first (tokens b ++ rest)) ≡ false
-    behind_turn [] rest h ends = ends_turn (kind_first rest) ends
-    behind_turn (m ∷ b) rest h ends = true_not _ (both_right (test (kind_of m.0.kind)) _ (both_right (first (kind_of m.0.kind)) _ (begins (kind_of m.0.kind) h)))
+    behind_round : (b : List Marked) (rest : List Token) → Heads fq true b → goes (kind_first rest) ≡ false → mq (kind_first (tokens b ++ rest)) ≡ false
+    behind_round [] rest h ends = ends_round (kind_first rest) ends
+    behind_round (m ∷ b) rest h ends = true_not _ (both_right (test (kind_of m.0.kind)) _ (both_right (first (kind_of m.0.kind)) _ (begins (kind_of m.0.kind) h)))
 
     tests : (a b : List Marked) (rest : List Token) → Heads fq false a → test (kind_first (tokens (a ++ b) ++ rest)) ≡ true
     tests [] b rest h = absurd cc
@@ -140,9 +140,9 @@ module _ {A : Type 0} (test : Kind → Bool) (q : A → Parser A) (Q : A → For
     many_complete : (x z : A) (o n : ℕ) (ms : List Marked) → Many Q x o ms z n → (rest : List Token) → goes (kind_first rest) ≡ false → Completes (many test q x) o ms rest (Ok (z, input rest n))
     unfolding kind
     many_complete _ _ _ _ _ (none x o) rest ends = once x (input rest o) ∙ rw (ends_all (kind_first rest) ends) refl
-    many_complete _ _ _ _ _ (turn x y z o m n a b s more) rest ends =
+    many_complete _ _ _ _ _ (round x y z o m n a b s more) rest ends =
         let goes_on : Completes (q x >>= many test q) o (a ++ b) rest (Ok (z, input rest n)) =
-        completes_then (q x) (many test q) o a b rest y m (Ok (z, input rest n)) ((one x).complete o m a y s (tokens b ++ rest) (behind_turn b rest (many_heads y z m n b more) ends)) (many_complete y z m n b more rest ends) in
+        completes_then (q x) (many test q) o a b rest y m (Ok (z, input rest n)) ((one x).complete o m a y s (tokens b ++ rest) (behind_round b rest (many_heads y z m n b more) ends)) (many_complete y z m n b more rest ends) in
         once x (input (tokens (a ++ b) ++ rest) o) ∙ rw (tests a b rest ((one x).heads o m a y s)) goes_on
 
     many_by : (x : A) → Law (many test q x) (Many Q x) first goes true
@@ -158,7 +158,7 @@ pub many_law : {A : Type 0} {q : A → Parser A} {Q : A → Form A} {fq mq : Kin
     → (x : A) → Law (many test q x) (Many Q x) first goes true
 many_law {q = q} {Q = Q} {fq = fq} {mq = mq} test first goes one fit x = many_by test q Q fq mq first goes one (by_kinds (many_test test fq mq first goes) fit) x
 
--- one turn of what a loop does
+-- one round of what a loop does
 pub many_once : {A : Type 0} {q : A → Parser A} {Q : A → Form A} {fq mq : Kind → Bool} (test : Kind → Bool) → ((x : A) → Law (q x) (Q x) fq mq false) → (x : A) (i : Input)
     → many test q x i ≡ (if test (kind i) then and_then (q x i) (many test q) else Ok (x, i))
 many_once {q = q} {Q = Q} {fq = fq} {mq = mq} test one x i = once test q Q fq mq fq mq one x i
