@@ -26,7 +26,7 @@ has_front frames d (suc j) = nat_lt 0 (count_in fronts d (slice_index_or frames 
 unfoldable pub is_detected : List Counts → ℕ → ℕ → Bool
 is_detected frames d j = is_occupied frames d j || has_front frames d j
 
--- the same of the two counts
+-- the two kinds of counts are one
 abbrev pub same_kind : Kind → Kind → Bool
 same_kind fronts fronts = true
 same_kind fronts rears = false

@@ -75,7 +75,7 @@ is_name (b ∷ bs) = is_letter b && is_word bs && nat_le (length bs) 31
 abbrev pub lower : ℕ → ℕ
 lower b = if nat_le 65 b && nat_le b 90 then b + 32 else b
 
--- the same name without regard to case
+-- the two names are one, without regard to case
 abbrev pub same_name : List ℕ → List ℕ → Bool
 same_name [] [] = true
 same_name [] (y ∷ ys) = false

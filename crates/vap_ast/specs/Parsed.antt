@@ -22,7 +22,7 @@ abbrev mutual
 abbrev pub Fits : Expr → Type 0
 Fits e = room e ≤ 198
 
--- the same of arguments
+-- each of these arguments keeps at most as many operands
 abbrev pub FitAll : Exprs → Type 0
 FitAll args = room_of_all args ≤ 198
 

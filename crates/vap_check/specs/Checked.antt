@@ -26,7 +26,8 @@ view_of c = record {
   timers = length c.names.timers.keys;
 }
 
--- the same facts of what it holds: its names are those of the program, each list in the order of its numbers
+-- what a checked program keeps of what it holds: the facts of its tree that `IsChecked` tells; and its names are those of
+-- the program, each list in the order of its numbers
 pub record Keeps (c : Inside) : Type 0 where
   pub accepted : Accepted (program_of c.program)
   pub parsed : Parsed 1048577 (program_of c.program)
