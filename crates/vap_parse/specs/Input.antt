@@ -271,17 +271,17 @@ abbrev pub Stopped : {A : Type 0} → Outcome A → Stop → Input → Type 0
 Stopped outcome Memory new = Unit {0}
 Stopped outcome (Refused why) new = outcome ≡ Err (why, new.rest)
 
--- what was read is the outcome
+-- a function that returns what it reads: that is the outcome
 abbrev pub Reads : {A : Type 0} → Outcome A → Result A Stop → Input → Type 0
 Reads outcome (Ok a) new = outcome ≡ Ok (a, new)
 Reads outcome (Err e) new = Stopped outcome e new
 
--- the same of a function that builds a tree: the outcome is the tree as `view` shows it
+-- a function that builds a tree: the outcome is the tree as `view` shows it
 abbrev pub Builds : {A B : Type 0} → (B → A) → Outcome A → Result B Stop → Input → Type 0
 Builds view outcome (Ok b) new = outcome ≡ Ok (view b, new)
 Builds view outcome (Err e) new = Stopped outcome e new
 
--- the same of a function that leaves its value in an argument
+-- a function that leaves its value in an argument: the outcome is that value
 abbrev pub Leaves : {A B : Type 0} → Outcome A → Result B Stop → A → Input → Type 0
 Leaves outcome (Ok b) value new = outcome ≡ Ok (value, new)
 Leaves outcome (Err e) value new = Stopped outcome e new
