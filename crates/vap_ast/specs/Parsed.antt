@@ -6,6 +6,7 @@ use Rattle.vap_ast.specs.Syntax.{Expr, Exprs, Item, Items, Stmt, Routine, Progra
 -- the operands that stand at most while an expression is computed, its value included, where of all arguments at most
 -- one stands beside the one that is computed
 abbrev mutual
+  -- the operands that an expression keeps
   pub room : Expr → ℕ
   room (Expr.Literal v) = 1
   room (Expr.Name name) = 1
@@ -14,6 +15,7 @@ abbrev mutual
   room (Expr.Binary op left right) = max (room left) (1 + room right)
   room (Expr.Read kind args) = 1 + room_of_all args
 
+  -- the operands that arguments keep
   pub room_of_all : Exprs → ℕ
   room_of_all Exprs.none = 0
   room_of_all (Exprs.next arg args) = max (room arg) (room_of_all args)
@@ -34,6 +36,7 @@ IsLine most line = (1 ≤ line) × (line ≤ most)
 -- it.
 module _ (most : ℕ) where
   abbrev mutual
+    -- a statement, in whose branches `ifs` more IF may nest
     pub ParsedStmt : ℕ → Stmt → Type 0
     ParsedStmt ifs (Stmt.Assign target value) = Fits value
     ParsedStmt ifs (Stmt.Cell array index value) = Fits index × Fits value
@@ -44,10 +47,12 @@ module _ (most : ℕ) where
     ParsedStmt ifs (Stmt.Timer kind timer) = Unit {0}
     ParsedStmt ifs Stmt.Trace = Unit {0}
 
+    -- a label or a statement, with its line
     pub ParsedItem : ℕ → Item → Type 0
     ParsedItem ifs (Item.Label name line) = IsLine most line
     ParsedItem ifs (Item.Step line what) = IsLine most line × ParsedStmt ifs what
 
+    -- each item of a body
     pub ParsedItems : ℕ → Items → Type 0
     ParsedItems ifs Items.none = Unit {0}
     ParsedItems ifs (Items.next item items) = ParsedItem ifs item × ParsedItems ifs items

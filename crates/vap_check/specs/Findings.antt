@@ -61,6 +61,7 @@ module _ (kind : List ℕ → Kind) where
     expr_findings line (Expr.Read word args) =
         when (not (count_arguments args == reading_arity word)) line Arity ++ exprs_findings line args
 
+    -- what is wrong with arguments in a statement of this line
     pub exprs_findings : ℕ → Exprs → List Finding
     exprs_findings line Exprs.none = []
     exprs_findings line (Exprs.next arg args) = expr_findings line arg ++ exprs_findings line args
@@ -81,10 +82,12 @@ module _ (kind : List ℕ → Kind) where
       stmt_findings line (Stmt.Timer word timer) = when (is_no_timer (kind timer)) line NameKind
       stmt_findings line Stmt.Trace = []
 
+      -- what is wrong with an item: a label is right here, a statement may also be too long
       pub item_findings : Item → List Finding
       item_findings (Item.Label name line) = []
       item_findings (Item.Step line what) = when (nat_lt 900 (own_size what)) line StatementTooLong ++ stmt_findings line what
 
+      -- what is wrong with the items of a body, in the order of the text
       pub items_findings : Items → List Finding
       items_findings Items.none = []
       items_findings (Items.next item items) = item_findings item ++ items_findings items

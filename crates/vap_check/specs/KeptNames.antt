@@ -57,11 +57,14 @@ pub record KnowsAll (n : Names) (p : Program) : Type 0 where
 
 -- what is wrong with statements, items and bodies, by the names that are kept of a routine
 module _ (s : Scope) where
+  -- with a statement of this line
   abbrev pub stmt_findings : ℕ → Stmt → List Finding
   stmt_findings = wrong.stmt_findings (kind_in s.known.now) (among s.above.now.keys) (among s.labels.now.keys)
 
+  -- with an item
   abbrev pub item_findings : Item → List Finding
   item_findings = wrong.item_findings (kind_in s.known.now) (among s.above.now.keys) (among s.labels.now.keys)
 
+  -- with the items of a body
   abbrev pub items_findings : Items → List Finding
   items_findings = wrong.items_findings (kind_in s.known.now) (among s.above.now.keys) (among s.labels.now.keys)

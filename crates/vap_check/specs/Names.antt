@@ -43,10 +43,12 @@ abbrev mutual
   stmt_labels (Stmt.Timer kind timer) = []
   stmt_labels Stmt.Trace = []
 
+  -- the label that an item is, or those in its branches
   pub item_labels : Item → List Labelled
   item_labels (Item.Label name line) = record { name = name; line = line } ∷ []
   item_labels (Item.Step line what) = stmt_labels what
 
+  -- the labels of a body, in the order of the text
   pub items_labels : Items → List Labelled
   items_labels Items.none = []
   items_labels (Items.next item items) = item_labels item ++ items_labels items
@@ -69,10 +71,12 @@ abbrev mutual
   stmt_timers (Stmt.Do kind args) = []
   stmt_timers Stmt.Trace = []
 
+  -- the names in the timer commands of an item
   pub item_timers : Item → List (List ℕ)
   item_timers (Item.Label name line) = []
   item_timers (Item.Step line what) = stmt_timers what
 
+  -- the names in the timer commands of a body
   pub items_timers : Items → List (List ℕ)
   items_timers Items.none = []
   items_timers (Items.next item items) = item_timers item ++ items_timers items
@@ -89,6 +93,7 @@ abbrev mutual
   expr_uses (Expr.Binary op left right) = expr_uses left ++ expr_uses right
   expr_uses (Expr.Read kind args) = exprs_uses args
 
+  -- the names that arguments read
   pub exprs_uses : Exprs → List (List ℕ)
   exprs_uses Exprs.none = []
   exprs_uses (Exprs.next arg args) = expr_uses arg ++ exprs_uses args
@@ -105,10 +110,12 @@ abbrev mutual
   stmt_uses (Stmt.Timer kind timer) = timer ∷ []
   stmt_uses Stmt.Trace = []
 
+  -- the names that an item assigns, reads or commands as timers
   pub item_uses : Item → List (List ℕ)
   item_uses (Item.Label name line) = []
   item_uses (Item.Step line what) = stmt_uses what
 
+  -- the names that a body assigns, reads or commands as timers, in the order of the text
   pub items_uses : Items → List (List ℕ)
   items_uses Items.none = []
   items_uses (Items.next item items) = item_uses item ++ items_uses items

@@ -53,6 +53,7 @@ module _ (names : List Entry) (variables timers arrays : ℕ) where
 
   -- the names of an expression are those of values and arrays, and its readings have their arguments
   abbrev mutual
+    -- those of this expression
     pub UsableExpr : Expr → Type 0
     UsableExpr (Expr.Literal value) = Unit {0}
     UsableExpr (Expr.Name name) = IsValue (meaning_in names name)
@@ -61,6 +62,7 @@ module _ (names : List Entry) (variables timers arrays : ℕ) where
     UsableExpr (Expr.Binary op left right) = UsableExpr left × UsableExpr right
     UsableExpr (Expr.Read kind args) = (count_arguments args ≡ reading_arity kind) × UsableExprs args
 
+    -- those of these arguments
     pub UsableExprs : Exprs → Type 0
     UsableExprs Exprs.none = Unit {0}
     UsableExprs (Exprs.next arg args) = UsableExpr arg × UsableExprs args
@@ -78,6 +80,7 @@ module _ (names : List Entry) (variables timers arrays : ℕ) where
 
     -- the names of a statement are what it asks for, its commands have their arguments, and it is not too long
     abbrev mutual
+      -- those of this statement and its branches
       pub UsableStmt : Stmt → Type 0
       UsableStmt (Stmt.Assign target value) = IsVariable (meaning_in names target) × UsableExpr value
       UsableStmt (Stmt.Cell array index value) = IsArray (meaning_in names array) × (UsableExpr index × UsableExpr value)
@@ -88,10 +91,12 @@ module _ (names : List Entry) (variables timers arrays : ℕ) where
       UsableStmt (Stmt.Timer kind timer) = IsTimer (meaning_in names timer)
       UsableStmt Stmt.Trace = Unit {0}
 
+      -- those of an item; a label asks for nothing
       pub UsableItem : Item → Type 0
       UsableItem (Item.Label name line) = Unit {0}
       UsableItem (Item.Step line what) = (own_size what ≤ 900) × UsableStmt what
 
+      -- those of each item of a body
       pub UsableItems : Items → Type 0
       UsableItems Items.none = Unit {0}
       UsableItems (Items.next item items) = UsableItem item × UsableItems items
