@@ -1,4 +1,4 @@
--- Lines, numbers and names in a text.
+-- Cuts, numbers and names in a text.
 use Rattle.std.specs.Prelude.{ℕ, ◌+◌, ◌-◌, ◌*◌, Bool, true, false, ◌&&◌, ◌||◌, not, nat_eq, nat_le, List, [], ◌∷◌, length, Option, None, Some, if◌then◌else◌}
 use Rattle.std.specs.Option.{option_map}
 
@@ -12,21 +12,6 @@ abbrev pub strip : List ℕ → List ℕ → Option (List ℕ)
 strip [] bs = Some bs
 strip (f ∷ fs) [] = None
 strip (f ∷ fs) (b ∷ bs) = if nat_eq b f then strip fs bs else None
-
--- a line of a text, and whether a line feed ends it
-pub record Line : Type 0 where
-  pub bytes : List ℕ
-  pub ended : Bool
-
--- these lines with a byte before the first
-abbrev pub with_first : ℕ → List Line → List Line
-with_first b [] = record { bytes = b ∷ []; ended = false } ∷ []
-with_first b (line ∷ lines) = record { bytes = b ∷ line.bytes; ended = line.ended } ∷ lines
-
--- the lines of a text; a line that no line feed ends is the last one and isn't empty
-abbrev pub lines_of : List ℕ → List Line
-lines_of [] = []
-lines_of (b ∷ bs) = if nat_eq b 10 then record { bytes = []; ended = true } ∷ lines_of bs else with_first b (lines_of bs)
 
 -- an ASCII digit
 abbrev pub is_digit : ℕ → Bool
