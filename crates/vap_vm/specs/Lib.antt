@@ -1,3 +1,4 @@
+pub mod Operands
 pub mod Operators
 pub mod Passes
 pub mod Run

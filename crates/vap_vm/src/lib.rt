@@ -4,6 +4,7 @@
 
 mod arrays;
 mod given;
+mod head;
 mod machine;
 mod moves;
 mod noted;

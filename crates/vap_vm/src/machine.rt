@@ -1,20 +1,19 @@
 // What a pass works on.
 
 ghost use Rattle.std.specs.Prelude.{◌≡◌, [], IfOk};
+ghost use Rattle.vap_vm.specs.View.{operands_of};
 
 use crate::given::Given;
+use crate::head::Head;
 use crate::noted::Noted;
 use crate::operands::Operands;
 use crate::slots::Slots;
 use sig_types::FaultKind;
 use std::alloc::{AllocError, Global};
 
-/// How the machine stands before an instruction.
+/// What the machine works on.
 #[derive(Drop)]
 pub struct Machine {
-    pub place: usize,
-    pub line: u32,
-    pub units: u32,
     pub operands: Operands,
     pub noted: Noted,
     pub slots: Slots,
@@ -41,9 +40,6 @@ impl Machine {
         ensures commands { IfOk result (λ m. m.commands ≡ []) }
     {
         Ok(Machine {
-            place: 0,
-            line: 0,
-            units: 0,
             operands: Operands::empty(),
             noted: Noted::with_room(alloc)?,
             slots,
@@ -51,21 +47,24 @@ impl Machine {
         })
     }
 
-    /// Stands at the place at which a pass begins, with its units.
-    pub fn begin(&mut self, place: usize, units: u32)
-        ensures place { self.new.place ≡ place }
-        ensures line { self.new.line ≡ 0 }
-        ensures units { self.new.units ≡ units }
-        ensures operands { self.new.operands ≡ [] }
+    /// The head at the place at which a pass begins, with its units. Operands, notes and commands are taken away.
+    #[tactic(auto, unfolding(crate::specs::Operands::operands_at))]
+    pub fn begin(&mut self, place: usize, units: u32) -> Head
+        ensures place { result.place ≡ place }
+        ensures line { result.line ≡ 0 }
+        ensures units { result.units ≡ units }
+        ensures operands { operands_of result self.new ≡ [] }
         ensures noted { self.new.noted ≡ [] }
         ensures commands { self.new.commands ≡ [] }
         ensures slots { self.new.slots ≡ self.old.slots }
     {
-        self.place = place;
-        self.line = 0;
-        self.units = units;
-        self.operands.clear();
         self.noted.clear();
         self.commands.clear();
+        Head {
+            place,
+            line: 0,
+            units,
+            height: 0,
+        }
     }
 }

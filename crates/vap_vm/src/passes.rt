@@ -100,15 +100,22 @@ impl Vm {
         valid_code_runs_well();
         self.before.copy_from(&self.machine.slots);
         let code = self.code.code();
-        self.machine.begin(last_start(&code.starts), unit_limit());
-        match run(code, world, &mut self.machine, step_limit(), steps) {
+        let mut head = self.machine.begin(last_start(&code.starts), unit_limit());
+        match run(
+            code,
+            world,
+            &mut head,
+            &mut self.machine,
+            step_limit(),
+            steps,
+        ) {
             Next::End => PassEnd::Done,
             Next::Fault(kind) => {
                 mem::swap(&mut self.machine.slots, &mut self.before);
                 self.machine.commands.clear();
                 PassEnd::Fault(Fault {
                     kind,
-                    line: self.machine.line,
+                    line: head.line,
                 })
             }
             Next::On | Next::Stuck => unreachable!(),

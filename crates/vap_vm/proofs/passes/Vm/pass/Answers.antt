@@ -13,29 +13,29 @@ pub run-requires-clause-room : goal.run-requires-clause-room
 run-requires-clause-room g c =
     let s = c.self.inside in
     let kept : Kept = record { code = s.code; store = store_of s.machine; seconds = s.seconds } in
-    let begun = begun_state c.begin.new.self s.machine.slots (last_start s.code.starts) unit_limit (c.begin.ensures.place ∙ c.last_start.ensures ∙ ap last_start (c.deref.ensures.value ∙ ap (λ code. code.starts) c.code-code.ensures.same)) c.begin.ensures.line (c.begin.ensures.units ∙ c.unit_limit.ensures.same) c.begin.ensures.operands c.begin.ensures.noted c.begin.ensures.commands c.begin.ensures.slots in
-    λ w m. room_is kept (code_in c.code-code.result.now) c.code-code.ensures.same c.step_limit.result c.step_limit.ensures.same (state_of c.begin.new.self) begun w (c.valid_code_runs_well.ensures s.code w (start_of kept) c.code-code.ensures.valid c.self.invariant.0.fits) c.self.invariant.0
+    let begun = begun_state c.begin-head.result c.begin-head.new.self s.machine.slots (last_start s.code.starts) unit_limit (c.begin-head.ensures.place ∙ c.last_start.ensures ∙ ap last_start (c.deref.ensures.value ∙ ap (λ code. code.starts) c.code-code.ensures.same)) c.begin-head.ensures.line (c.begin-head.ensures.units ∙ c.unit_limit.ensures.same) c.begin-head.ensures.operands c.begin-head.ensures.noted c.begin-head.ensures.commands c.begin-head.ensures.slots in
+    λ w m. room_is kept (code_in c.code-code.result.now) c.code-code.ensures.same c.step_limit.result c.step_limit.ensures.same (state_of c.begin-head.result c.begin-head.new.self) begun w (c.valid_code_runs_well.ensures s.code w (start_of kept) c.code-code.ensures.valid c.self.invariant.0.fits) c.self.invariant.0
 
 pub invariant_of-self : goal.invariant_of-self
 invariant_of-self g c =
     let s = c.self.inside in
     let kept : Kept = record { code = s.code; store = store_of s.machine; seconds = s.seconds } in
-    let begun = begun_state c.begin.new.self s.machine.slots (last_start s.code.starts) unit_limit (c.begin.ensures.place ∙ c.last_start.ensures ∙ ap last_start (c.deref.ensures.value ∙ ap (λ code. code.starts) c.code-code.ensures.same)) c.begin.ensures.line (c.begin.ensures.units ∙ c.unit_limit.ensures.same) c.begin.ensures.operands c.begin.ensures.noted c.begin.ensures.commands c.begin.ensures.slots in
+    let begun = begun_state c.begin-head.result c.begin-head.new.self s.machine.slots (last_start s.code.starts) unit_limit (c.begin-head.ensures.place ∙ c.last_start.ensures ∙ ap last_start (c.deref.ensures.value ∙ ap (λ code. code.starts) c.code-code.ensures.same)) c.begin-head.ensures.line (c.begin-head.ensures.units ∙ c.unit_limit.ensures.same) c.begin-head.ensures.operands c.begin-head.ensures.noted c.begin-head.ensures.commands c.begin-head.ensures.slots in
     let w = c.requires.0 in
     let r = c.valid_code_runs_well.ensures s.code w (start_of kept) c.code-code.ensures.valid c.self.invariant.0.fits in
-    let is : Done (store_of c.run.new.m) ≡ machine s.code w (start_of kept) = ap (λ x. end_of x c.run.new.m) (sym c.in-End.is) ∙ c.run.ensures.how w c.requires.1 ∙ exec_is kept (code_in c.code-code.result.now) c.code-code.ensures.same c.step_limit.result c.step_limit.ensures.same (state_of c.begin.new.self) begun w in
+    let is : Done (store_of c.run.new.m) ≡ machine s.code w (start_of kept) = ap (λ x. end_of x c.run.new.h c.run.new.m) (sym c.in-End.is) ∙ c.run.ensures.how w c.requires.1 ∙ exec_is kept (code_in c.code-code.result.now) c.code-code.ensures.same c.step_limit.result c.step_limit.ensures.same (state_of c.begin-head.result c.begin-head.new.self) begun w in
     let back : SameSizes c.copy_from.new.self s.machine.slots = record { variables = ap length c.copy_from.ensures.variables; arrays = ap (map length) c.copy_from.ensures.arrays; timers = ap length c.copy_from.ensures.timers } in
-    let on : SameSizes c.run.new.m.slots s.machine.slots = subst (λ x. SameSizes c.run.new.m.slots x) c.begin.ensures.slots c.run.ensures.sizes in
+    let on : SameSizes c.run.new.m.slots s.machine.slots = subst (λ x. SameSizes c.run.new.m.slots x) c.begin-head.ensures.slots c.run.ensures.sizes in
     (ready_done kept w c.run.new.m c.self.invariant.0 r is, sizes_on _ _ _ back (sizes_back _ _ on))
 
 pub returns-in-End-clause-ready : goal.returns-in-End-clause-ready
 returns-in-End-clause-ready g c =
     let s = c.self.inside in
     let kept : Kept = record { code = s.code; store = store_of s.machine; seconds = s.seconds } in
-    let begun = begun_state c.begin.new.self s.machine.slots (last_start s.code.starts) unit_limit (c.begin.ensures.place ∙ c.last_start.ensures ∙ ap last_start (c.deref.ensures.value ∙ ap (λ code. code.starts) c.code-code.ensures.same)) c.begin.ensures.line (c.begin.ensures.units ∙ c.unit_limit.ensures.same) c.begin.ensures.operands c.begin.ensures.noted c.begin.ensures.commands c.begin.ensures.slots in
+    let begun = begun_state c.begin-head.result c.begin-head.new.self s.machine.slots (last_start s.code.starts) unit_limit (c.begin-head.ensures.place ∙ c.last_start.ensures ∙ ap last_start (c.deref.ensures.value ∙ ap (λ code. code.starts) c.code-code.ensures.same)) c.begin-head.ensures.line (c.begin-head.ensures.units ∙ c.unit_limit.ensures.same) c.begin-head.ensures.operands c.begin-head.ensures.noted c.begin-head.ensures.commands c.begin-head.ensures.slots in
     let w = c.requires.0 in
     let r = c.valid_code_runs_well.ensures s.code w (start_of kept) c.code-code.ensures.valid c.self.invariant.0.fits in
-    let is : Done (store_of c.run.new.m) ≡ machine s.code w (start_of kept) = ap (λ x. end_of x c.run.new.m) (sym c.in-End.is) ∙ c.run.ensures.how w c.requires.1 ∙ exec_is kept (code_in c.code-code.result.now) c.code-code.ensures.same c.step_limit.result c.step_limit.ensures.same (state_of c.begin.new.self) begun w in
+    let is : Done (store_of c.run.new.m) ≡ machine s.code w (start_of kept) = ap (λ x. end_of x c.run.new.h c.run.new.m) (sym c.in-End.is) ∙ c.run.ensures.how w c.requires.1 ∙ exec_is kept (code_in c.code-code.result.now) c.code-code.ensures.same c.step_limit.result c.step_limit.ensures.same (state_of c.begin-head.result c.begin-head.new.self) begun w in
     ready_done kept w c.run.new.m c.self.invariant.0 r is
 
 pub invariant_of-self-in-Fault : goal.invariant_of-self-in-Fault
@@ -43,7 +43,7 @@ invariant_of-self-in-Fault g c =
     let s = c.self.inside in
     let kept : Kept = record { code = s.code; store = store_of s.machine; seconds = s.seconds } in
     let back : SameSizes c.copy_from.new.self s.machine.slots = record { variables = ap length c.copy_from.ensures.variables; arrays = ap (map length) c.copy_from.ensures.arrays; timers = ap length c.copy_from.ensures.timers } in
-    let on : SameSizes c.run.new.m.slots s.machine.slots = subst (λ x. SameSizes c.run.new.m.slots x) c.begin.ensures.slots c.run.ensures.sizes in
+    let on : SameSizes c.run.new.m.slots s.machine.slots = subst (λ x. SameSizes c.run.new.m.slots x) c.begin-head.ensures.slots c.run.ensures.sizes in
     let before = subst (λ x. SameSizes x s.machine.slots) (sym c.swap.ensures.x_after) back in
     let after = subst (λ x. SameSizes x s.machine.slots) (sym c.swap.ensures.y_after) on in (
       ready_fault kept _ c.self.invariant.0 (restored (ap (λ x. x.variables.items) c.swap.ensures.x_after ∙ c.copy_from.ensures.variables) (ap (λ x. x.arrays) c.swap.ensures.x_after ∙ c.copy_from.ensures.arrays) (ap (λ x. x.timers.items) c.swap.ensures.x_after ∙ c.copy_from.ensures.timers) c.clear.ensures),
@@ -54,41 +54,41 @@ pub unreachable-requires : goal.unreachable-requires
 unreachable-requires g c =
     let s = c.self.inside in
     let kept : Kept = record { code = s.code; store = store_of s.machine; seconds = s.seconds } in
-    let begun = begun_state c.begin.new.self s.machine.slots (last_start s.code.starts) unit_limit (c.begin.ensures.place ∙ c.last_start.ensures ∙ ap last_start (c.deref.ensures.value ∙ ap (λ code. code.starts) c.code-code.ensures.same)) c.begin.ensures.line (c.begin.ensures.units ∙ c.unit_limit.ensures.same) c.begin.ensures.operands c.begin.ensures.noted c.begin.ensures.commands c.begin.ensures.slots in
+    let begun = begun_state c.begin-head.result c.begin-head.new.self s.machine.slots (last_start s.code.starts) unit_limit (c.begin-head.ensures.place ∙ c.last_start.ensures ∙ ap last_start (c.deref.ensures.value ∙ ap (λ code. code.starts) c.code-code.ensures.same)) c.begin-head.ensures.line (c.begin-head.ensures.units ∙ c.unit_limit.ensures.same) c.begin-head.ensures.operands c.begin-head.ensures.noted c.begin-head.ensures.commands c.begin-head.ensures.slots in
     let w = c.requires.0 in
     let r = c.valid_code_runs_well.ensures s.code w (start_of kept) c.code-code.ensures.valid c.self.invariant.0.fits in
-    let how = c.run.ensures.how w c.requires.1 ∙ exec_is kept (code_in c.code-code.result.now) c.code-code.ensures.same c.step_limit.result c.step_limit.ensures.same (state_of c.begin.new.self) begun w in
+    let how = c.run.ensures.how w c.requires.1 ∙ exec_is kept (code_in c.code-code.result.now) c.code-code.ensures.same c.step_limit.result c.step_limit.ensures.same (state_of c.begin-head.result c.begin-head.new.self) begun w in
     ⊎_elim
-    (λ e. never kept w c.run.new.m r Unfinished (λ h. h) (ap (λ x. end_of x c.run.new.m) (sym e) ∙ how))
-    (λ e. never kept w c.run.new.m r Stuck (λ h. h) (ap (λ x. end_of x c.run.new.m) (sym e) ∙ how))
+    (λ e. never kept w c.run.new.m r Unfinished (λ h. h) (ap (λ x. end_of x c.run.new.h c.run.new.m) (sym e) ∙ how))
+    (λ e. never kept w c.run.new.m r Stuck (λ h. h) (ap (λ x. end_of x c.run.new.h c.run.new.m) (sym e) ∙ how))
     c.in-On.is
 
 pub returns-in-End-clause-few : goal.returns-in-End-clause-few
 returns-in-End-clause-few g c =
     let s = c.self.inside in
     let kept : Kept = record { code = s.code; store = store_of s.machine; seconds = s.seconds } in
-    let begun = begun_state c.begin.new.self s.machine.slots (last_start s.code.starts) unit_limit (c.begin.ensures.place ∙ c.last_start.ensures ∙ ap last_start (c.deref.ensures.value ∙ ap (λ code. code.starts) c.code-code.ensures.same)) c.begin.ensures.line (c.begin.ensures.units ∙ c.unit_limit.ensures.same) c.begin.ensures.operands c.begin.ensures.noted c.begin.ensures.commands c.begin.ensures.slots in
+    let begun = begun_state c.begin-head.result c.begin-head.new.self s.machine.slots (last_start s.code.starts) unit_limit (c.begin-head.ensures.place ∙ c.last_start.ensures ∙ ap last_start (c.deref.ensures.value ∙ ap (λ code. code.starts) c.code-code.ensures.same)) c.begin-head.ensures.line (c.begin-head.ensures.units ∙ c.unit_limit.ensures.same) c.begin-head.ensures.operands c.begin-head.ensures.noted c.begin-head.ensures.commands c.begin-head.ensures.slots in
     let w = c.requires.0 in
     let r = c.valid_code_runs_well.ensures s.code w (start_of kept) c.code-code.ensures.valid c.self.invariant.0.fits in
-    let is : Done (store_of c.run.new.m) ≡ machine s.code w (start_of kept) = ap (λ x. end_of x c.run.new.m) (sym c.in-End.is) ∙ c.run.ensures.how w c.requires.1 ∙ exec_is kept (code_in c.code-code.result.now) c.code-code.ensures.same c.step_limit.result c.step_limit.ensures.same (state_of c.begin.new.self) begun w in
+    let is : Done (store_of c.run.new.m) ≡ machine s.code w (start_of kept) = ap (λ x. end_of x c.run.new.h c.run.new.m) (sym c.in-End.is) ∙ c.run.ensures.how w c.requires.1 ∙ exec_is kept (code_in c.code-code.result.now) c.code-code.ensures.same c.step_limit.result c.step_limit.ensures.same (state_of c.begin-head.result c.begin-head.new.self) begun w in
     few_done kept w c.run.new.m r is
 
 pub returns-in-End-clause-bounded : goal.returns-in-End-clause-bounded
 returns-in-End-clause-bounded g c =
     let s = c.self.inside in
     let kept : Kept = record { code = s.code; store = store_of s.machine; seconds = s.seconds } in
-    let begun = begun_state c.begin.new.self s.machine.slots (last_start s.code.starts) unit_limit (c.begin.ensures.place ∙ c.last_start.ensures ∙ ap last_start (c.deref.ensures.value ∙ ap (λ code. code.starts) c.code-code.ensures.same)) c.begin.ensures.line (c.begin.ensures.units ∙ c.unit_limit.ensures.same) c.begin.ensures.operands c.begin.ensures.noted c.begin.ensures.commands c.begin.ensures.slots in
+    let begun = begun_state c.begin-head.result c.begin-head.new.self s.machine.slots (last_start s.code.starts) unit_limit (c.begin-head.ensures.place ∙ c.last_start.ensures ∙ ap last_start (c.deref.ensures.value ∙ ap (λ code. code.starts) c.code-code.ensures.same)) c.begin-head.ensures.line (c.begin-head.ensures.units ∙ c.unit_limit.ensures.same) c.begin-head.ensures.operands c.begin-head.ensures.noted c.begin-head.ensures.commands c.begin-head.ensures.slots in
     let w = c.requires.0 in
     let r = c.valid_code_runs_well.ensures s.code w (start_of kept) c.code-code.ensures.valid c.self.invariant.0.fits in
-    let steps = steps_is kept (code_in c.code-code.result.now) c.code-code.ensures.same c.step_limit.result c.step_limit.ensures.same (state_of c.begin.new.self) begun w in
+    let steps = steps_is kept (code_in c.code-code.result.now) c.code-code.ensures.same c.step_limit.result c.step_limit.ensures.same (state_of c.begin-head.result c.begin-head.new.self) begun w in
     omega (arith, steps, c.run.ensures.counted w c.requires.1, r.few, c.step_limit.ensures.same, c.step_limit.ensures.number)
 
 pub returns-in-Fault-clause-bounded : goal.returns-in-Fault-clause-bounded
 returns-in-Fault-clause-bounded g c =
     let s = c.self.inside in
     let kept : Kept = record { code = s.code; store = store_of s.machine; seconds = s.seconds } in
-    let begun = begun_state c.begin.new.self s.machine.slots (last_start s.code.starts) unit_limit (c.begin.ensures.place ∙ c.last_start.ensures ∙ ap last_start (c.deref.ensures.value ∙ ap (λ code. code.starts) c.code-code.ensures.same)) c.begin.ensures.line (c.begin.ensures.units ∙ c.unit_limit.ensures.same) c.begin.ensures.operands c.begin.ensures.noted c.begin.ensures.commands c.begin.ensures.slots in
+    let begun = begun_state c.begin-head.result c.begin-head.new.self s.machine.slots (last_start s.code.starts) unit_limit (c.begin-head.ensures.place ∙ c.last_start.ensures ∙ ap last_start (c.deref.ensures.value ∙ ap (λ code. code.starts) c.code-code.ensures.same)) c.begin-head.ensures.line (c.begin-head.ensures.units ∙ c.unit_limit.ensures.same) c.begin-head.ensures.operands c.begin-head.ensures.noted c.begin-head.ensures.commands c.begin-head.ensures.slots in
     let w = c.requires.0 in
     let r = c.valid_code_runs_well.ensures s.code w (start_of kept) c.code-code.ensures.valid c.self.invariant.0.fits in
-    let steps = steps_is kept (code_in c.code-code.result.now) c.code-code.ensures.same c.step_limit.result c.step_limit.ensures.same (state_of c.begin.new.self) begun w in
+    let steps = steps_is kept (code_in c.code-code.result.now) c.code-code.ensures.same c.step_limit.result c.step_limit.ensures.same (state_of c.begin-head.result c.begin-head.new.self) begun w in
     omega (arith, steps, c.run.ensures.counted w c.requires.1, r.few, c.step_limit.ensures.same, c.step_limit.ensures.number)
