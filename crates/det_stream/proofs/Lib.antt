@@ -1,5 +1,6 @@
 pub mod ListMoves
 pub mod LineLemmas
+pub mod DigitLemmas
 pub mod EntryLemmas
 pub mod TotalLemmas
 pub mod StreamLemmas
