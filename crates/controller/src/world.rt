@@ -128,7 +128,8 @@ impl SecondWorld<'_> {
     }
 
     fn stage_duration(&self, number: i32) -> Option<i32>
-        ensures { (past : Past) (frames : List Counts) → Standing self.now.plan.now self.now.guard.now self.now.stages.now self.now.actuation.now past frames → self.now.second ≡ next past →
+        ensures { (past : Past) (frames : List Counts) → Standing self.now.plan.now self.now.guard.now self.now.stages.now self.now.actuation.now past frames →
+            self.now.second ≡ next past →
             result ≡ of_named (stage_of self.now.plan.now number) (λ s. if is_stage (place_before self.now.plan.now past) s then pos (next past - since_at self.now.plan.now past.orders (next past)) else pos 0) }
     {
         match self.plan.find_stage(number) {
@@ -162,7 +163,8 @@ impl SecondWorld<'_> {
 
     #[tactic(auto, unfolding(crate::specs::World::reading_in))]
     fn read_in(&self, kind: ReadingKind, a: i32, b: i32) -> Option<i32>
-        ensures { (past : Past) (frames : List Counts) → Standing self.now.plan.now self.now.guard.now self.now.stages.now self.now.actuation.now past frames → self.now.second ≡ next past →
+        ensures { (past : Past) (frames : List Counts) → Standing self.now.plan.now self.now.guard.now self.now.stages.now self.now.actuation.now past frames →
+            self.now.second ≡ next past →
             result ≡ reading_in self.now.plan.now past frames kind a b }
     {
         match kind {

@@ -108,7 +108,8 @@ impl StageState {
         requires stands { (orders : List Order) × (k : ℕ) × StandsFor self.now plan.now orders k }
         requires groups { length out.old ≡ groups_in plan.now }
         ensures groups { length out.new ≡ groups_in plan.now }
-        ensures wishes { (orders : List Order) (k : ℕ) → StandsFor self.now plan.now orders k → (g : ℕ) → g < groups_in plan.now → slice_index_or out.new g false ≡ stage_wish plan.now (place_at plan.now orders k) g }
+        ensures wishes { (orders : List Order) (k : ℕ) → StandsFor self.now plan.now orders k →
+            (g : ℕ) → g < groups_in plan.now → slice_index_or out.new g false ≡ stage_wish plan.now (place_at plan.now orders k) g }
     {
         let groups = plan.groups();
         match self.place {
