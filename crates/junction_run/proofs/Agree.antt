@@ -1,9 +1,9 @@
 -- A code that does what a program does makes the program's log.
-use Rattle.std.proofs.Common.{◌≡◌, ◌∙◌, ℕ, List, [], ◌∷◌, length, map, replicate, pos, false, refl, sym, ap, subst}
+use Rattle.std.proofs.Common.{◌≡◌, ◌∙◌, List, [], ◌∷◌, length, map, replicate, pos, false, Ok, refl, sym, ap, subst}
 use Rattle.std.proofs.lemmas.List.{length-map, length-replicate}
 use Rattle.sig_types.specs.Counts.{Counts}
-use Rattle.sig_types.specs.Pass.{Store, World, End, Done, Faulted, Stuck, Unfinished, counted, begun, store_after, without_commands}
-use Rattle.controller.specs.Agree.{KeepsFit, AgreeOn}
+use Rattle.sig_types.specs.Pass.{Store, End, Done, Faulted, Stuck, Unfinished, counted, begun, store_after, without_commands}
+use Rattle.controller.specs.Agree.{KeepsFit}
 use Rattle.controller.specs.Past.{Site, opening}
 use Rattle.controller.specs.Second.{run_from}
 use Rattle.controller.proofs.Runs.{runs_agree}
@@ -20,13 +20,15 @@ use Rattle.vap_code.specs.Valid.{Valid}
 use Rattle.vap_compile.specs.Compiled.{HasNumbersOf, MeansProgram}
 use Rattle.vap_ast.specs.Passes.{FitsProgram}
 use Rattle.vap_vm.specs.Passes.{first_store}
-use Rattle.junction_run.specs.Loading.{Playing, program_at}
-use Rattle.junction_run.specs.Programs.{logic_of, store_of}
+use Rattle.code_file.specs.Reading.{code_of}
+use Rattle.code_file.specs.Text.{code_text}
+use Rattle.junction_run.specs.Codes.{IsCompiled}
+use Rattle.junction_run.specs.Loading.{program_at, code_at}
+use Rattle.junction_run.specs.Programs.{logic_of, store_of, Runs}
 use Rattle.junction_run.specs.Records.{records_of, log_of}
 use Rattle.controller.specs.declared.controller.Controller.{Controller}
 use Rattle.controller.specs.Controls.{logic_of as controller_logic, site_of}
 use Rattle.junction_run.specs.Played.{playing_of}
-use Rattle.junction_run.specs.Sites.{Runs}
 
 -- the code of a checked program runs it
 pub runs_checked : (m : Meant) (code : CodeOf) → m ≡ checked_of m.tree → MeansProgram m code → HasNumbersOf m code → Runs code (program_of m.tree)
@@ -102,15 +104,18 @@ module _ (code : CodeOf) (program : Program) (runs : Runs code program) where
 
   -- the same records, and so the same log
   pub same_log : Valid code → (site : Site) (frames : List Counts) →
-      log_of (record { logic = machine code; store = first_store code; site = site }) frames ≡ log_of (program_at site program) frames
+      log_of (code_at site code) frames ≡ log_of (program_at site program) frames
   unfolding log_of records_of
   same_log valid site frames =
       ap (λ store. log_text site.plan.names (run_from (machine code) site (opening site store) frames)) first_is
       ∙ ap (λ rs. log_text site.plan.names rs)
       (runs_agree (Fits program) (machine code) (logic_of program) site (opening site (store_of program)) frames (keeps valid) runs.same first_fits)
 
--- the log of a controller with this code is the program's
-pub log_is : (code : CodeOf) (program : Program) → Runs code program → Valid code → (controller : Controller) (site : Site) (frames : List Counts) →
-    controller_logic controller ≡ machine code → site_of controller ≡ site → log_of (playing_of controller (first_store code)) frames ≡ log_of (program_at site program) frames
-log_is code program runs valid controller site frames logic is =
-    (λ j. log_of (record { logic = logic j; store = first_store code; site = is j }) frames) ∙ same_log code program runs valid site frames
+-- its text, which spells it, is one that compiling may give
+pub compiled_text : (code : CodeOf) (program : Program) → Valid code → code_of (code_text code) ≡ Ok code → Runs code program → IsCompiled program (code_text code)
+compiled_text code program valid spells runs = record { code = code; valid = valid; is_text = refl; spells = spells; runs = runs }
+
+-- the log of a controller with this code is the code's
+pub log_is : (code : CodeOf) (controller : Controller) (site : Site) (frames : List Counts) → controller_logic controller ≡ machine code → site_of controller ≡ site →
+    log_of (playing_of controller (first_store code)) frames ≡ log_of (code_at site code) frames
+log_is code controller site frames logic is = λ j. log_of (record { logic = logic j; store = first_store code; site = is j }) frames

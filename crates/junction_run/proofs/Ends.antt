@@ -1,6 +1,6 @@
 -- How a command ends.
-use Rattle.std.proofs.Common.{◌≡◌, ◌∙◌, ◌≤◌, ℕ, zero, suc, List, [], ◌∷◌, ◌++◌, length, take, Option, None, Some, Result, Ok, Err, refl, sym, ap, subst, arith, inl, inr, ◌⊎◌, length-append}
-use Rattle.std.proofs.lemmas.List.{append-nil, take_all}
+use Rattle.std.proofs.Common.{◌≡◌, ◌∙◌, ℕ, suc, List, [], ◌++◌, length, take, Option, None, Some, Result, Ok, Err, refl, sym, ap, subst, arith, inl, inr, ◌⊎◌, length-append}
+use Rattle.std.proofs.lemmas.List.{append-nil}
 use Rattle.std.proofs.lemmas.List.Elements.{Contains-append_left}
 use Rattle.std.specs.Prelude.{Contains, IfErr, Bool, IsTrue, true, false, MatchBool}
 use Rattle.std.specs.Io.KnownBytes.{append_known}
@@ -8,24 +8,24 @@ use Rattle.sig_io.specs.Outside.{Contents, Rose}
 use Rattle.sig_io.specs.Draft.{IsCut, IsWhole, IsDraft, Held, FailsOnly}
 use Rattle.sig_io.proofs.Drafts.{cut_more}
 use Rattle.sig_types.specs.Counts.{Counts}
-use Rattle.det_stream.specs.Stream.{Stream, stream_of}
+use Rattle.det_stream.specs.Stream.{Stream}
 use Rattle.junction_run.specs.declared.status.Status.TheVariants as status
 use Rattle.junction_run.specs.declared.stop.Stop.{Stop}
 use Rattle.junction_run.specs.declared.stop.Stop.TheVariants.{Memory, ReadFault, WriteFault, Refused, RefusedLine, TooLong}
-use Rattle.junction_run.specs.declared.load.Site.{Site as Loaded}
-use Rattle.junction_run.specs.Answer.{Meets, stream_status, stream_note}
-use Rattle.junction_run.specs.Ended.{IsEnded}
-use Rattle.junction_run.specs.Guarded.{IsGuardedLog, IsSafe}
-use Rattle.junction_run.specs.Form.{Form, SiteWords, Run}
-use Rattle.junction_run.specs.Loading.{Playing, LoadsProgram, ReachedInPlay, ReachedAfterSite}
+use Rattle.junction_run.specs.Answer.{Answer, answered, log_answer, MeetsBy, stream_status, stream_note}
+use Rattle.junction_run.specs.Ended.{IsEndedBy}
+use Rattle.junction_run.specs.Form.{SiteWords}
+use Rattle.junction_run.specs.Loading.{Unloaded, Playing, ReachedInPlay, ReachedAfterSite}
 use Rattle.junction_run.specs.Loading as loading
-use Rattle.junction_run.specs.Notes.{IsNote, NoteMeets, stop_note}
+use Rattle.junction_run.specs.Notes.{IsNote, NoteMeetsBy, stop_note}
+use Rattle.junction_run.specs.Played.{IsPlayedAt, played, no_memory}
 use Rattle.junction_run.specs.Reasons.{reason_text, stream_reason}
 use Rattle.junction_run.specs.Records.{log_of}
 use Rattle.junction_run.specs.SiteAnswer.{IsSiteLoad, IsSiteNote}
 use Rattle.junction_run.specs.Sites.{IsProgramLoad}
-use Rattle.junction_run.specs.Stop.{status_of, IsAt, IsAmong, StopsAt, StopsAmong, IsWritten, IsPlayed, IsPlayStop, BeginsWith}
+use Rattle.junction_run.specs.Stop.{status_of, IsAt, IsAmong, StopsAt, StopsAmong, IsWritten, IsPlayed, IsPlayStop, IsUnloadedBy, BeginsWith}
 use Rattle.junction_run.proofs.Logs.{log_of-front, taken_whole, taken_front}
+use Rattle.junction_run.proofs.Texts.{unloaded_later}
 
 pub append_known-nil : (o : Option (List ℕ)) → append_known o [] ≡ o
 append_known-nil None = refl
@@ -133,20 +133,28 @@ site_note name words file (Refused w line reason) is = (loading.Refused w.now li
 site_note name words file (RefusedLine w line why) is = is
 site_note name words file (TooLong w) is = (loading.TooLong w.now, is, refl, refl)
 
--- ---- a run
+-- ---- a command
 
 -- it stopped while it loaded
-pub stopped_loading : (program : List ℕ) (words : SiteWords) (detectors : List ℕ) (file : Contents) (stop : Stop) (old new : Option (List ℕ)) →
-    IsProgramLoad program words file (Err stop) → new ≡ old →
-    Meets (Run program words detectors) file (status_of stop) old new × NoteMeets (Run program words detectors) file (status_of stop) (stop_note stop)
-stopped_loading program words detectors file Memory old new is same = (same, tt)
-stopped_loading program words detectors file (ReadFault w) old new is same = (inl same, (w.now, ReachedInPlay.at_load w.now is, refl))
-stopped_loading program words detectors file WriteFault old new is same = absurd is
-stopped_loading program words detectors file (Refused w line reason) old new is same =
+pub stopped_loading : {A : Type 0} (Gives : Result A Unloaded → Type 0) (loaded_to : A → Answer) (Reached : List ℕ → Type 0) (stop : Stop) (old new : Option (List ℕ)) →
+    IsUnloadedBy Gives Reached stop → new ≡ old →
+    MeetsBy Gives (answered loaded_to) (status_of stop) old new × NoteMeetsBy Gives (answered loaded_to) Reached (status_of stop) (stop_note stop)
+stopped_loading Gives loaded_to Reached Memory old new is same = (same, tt)
+stopped_loading Gives loaded_to Reached (ReadFault w) old new is same = (inl same, (w.now, is, refl))
+stopped_loading Gives loaded_to Reached WriteFault old new is same = absurd is
+stopped_loading Gives loaded_to Reached (Refused w line reason) old new is same =
     ((Err (loading.Refused w.now line (reason_text reason)), is, refl, ([], refl, nothing_gained old new same)), (Err (loading.Refused w.now line (reason_text reason)), is, refl, refl))
-stopped_loading program words detectors file (RefusedLine w line why) old new is same = absurd is
-stopped_loading program words detectors file (TooLong w) old new is same =
+stopped_loading Gives loaded_to Reached (RefusedLine w line why) old new is same = absurd is
+stopped_loading Gives loaded_to Reached (TooLong w) old new is same =
     ((Err (loading.TooLong w.now), is, refl, ([], refl, nothing_gained old new same)), (Err (loading.TooLong w.now), is, refl, refl))
+
+-- the file after a site is read before the detector file
+pub stopped_before : (name : List ℕ) (words : SiteWords) (detectors : List ℕ) (file : Contents) (Gives : Result Playing Unloaded → Type 0) (stop : Stop) →
+    IsUnloadedBy Gives (λ w. ReachedAfterSite name words file w) stop →
+    IsUnloadedBy Gives (λ w. ReachedInPlay name words detectors file (λ playing. Gives (Ok playing)) w) stop
+stopped_before name words detectors file Gives stop is =
+    unloaded_later Gives Gives (λ w. ReachedAfterSite name words file w) (λ w. ReachedInPlay name words detectors file (λ playing. Gives (Ok playing)) w) (λ u h. h)
+    (λ w reached. ReachedInPlay.at_load w reached) stop is
 
 -- what a stream begins with
 pub played_begins : {A : Type 0} (name : List ℕ) (r : Result A Stop) (stream : Stream) (frames : List Counts) → IsPlayed name r stream frames → BeginsWith stream frames
@@ -177,28 +185,42 @@ cut_whole playing stream frames old new n is cut =
     subst (λ t. IsCut old new n t) (sym whole) (cut_more old new n (log_of playing frames) more.0 cut)
 
 -- it played these frames
-pub ended_playing : {A : Type 0} (program : List ℕ) (words : SiteWords) (detectors : List ℕ) (file : Contents) (playing : Playing) (frames : List Counts) (r : Result A Stop)
-    (old new : Option (List ℕ)) → LoadsProgram program words file (Ok playing) → IsWritten r (log_of playing frames) old new →
-    IsPlayed detectors r (stream_of (file detectors)) frames → IsEnded (Run program words detectors) file r old new
-ended_playing program words detectors file playing frames (Ok x) old new loads written is =
-    (Ok playing, loads, ap stream_status is.1, (log_of playing frames, whole_log playing (stream_of (file detectors)) frames is.0, written))
-ended_playing program words detectors file playing frames (Err Memory) old new loads written is = absurd is
-ended_playing program words detectors file playing frames (Err (ReadFault w)) old new loads written is =
-    let stream : Stream = stream_of (file detectors) in (
-      inr (Ok playing, loads, suc (length frames), omega (arith, ap length is.1.1, length-append frames is.1.0), (log_of playing frames, front_log playing stream frames is.1, written)),
-      (w.now, subst (λ v. loading.Reached (Run program words detectors) file v) (sym is.0) (ReachedInPlay.at_detectors playing loads), refl),
-    )
-ended_playing program words detectors file playing frames (Err WriteFault) old new loads written is =
-    ((Ok playing, loads, _, refl, written.0, cut_whole playing (stream_of (file detectors)) frames old new written.0 is written.1), tt)
-ended_playing program words detectors file playing frames (Err (Refused w line reason)) old new loads written is = absurd is
-ended_playing program words detectors file playing frames (Err (RefusedLine w line why)) old new loads written is =
-    let at : stream_status (stream_of (file detectors)).refusal ≡ status.RefusedLine = ap stream_status is.2 in
-    let note : stop_note (RefusedLine w line why) ≡ stream_note detectors (stream_of (file detectors)).refusal
+ended_playing : {A : Type 0} (Gives : Result Playing Unloaded → Type 0) (Reached : List ℕ → Type 0) (detectors : List ℕ) (stream : Stream) (playing : Playing) (frames : List Counts)
+    (r : Result A Stop) (old new : Option (List ℕ)) → Gives (Ok playing) → Reached detectors → IsWritten r (log_of playing frames) old new → IsPlayed detectors r stream frames →
+    IsEndedBy Gives (answered (λ p. log_answer detectors p stream)) Reached r old new
+ended_playing Gives Reached detectors stream playing frames (Ok x) old new loads reached written is =
+    (Ok playing, loads, ap stream_status is.1, (log_of playing frames, whole_log playing stream frames is.0, written))
+ended_playing Gives Reached detectors stream playing frames (Err Memory) old new loads reached written is = absurd is
+ended_playing Gives Reached detectors stream playing frames (Err (ReadFault w)) old new loads reached written is = (
+  inr (Ok playing, loads, suc (length frames), omega (arith, ap length is.1.1, length-append frames is.1.0), (log_of playing frames, front_log playing stream frames is.1, written)),
+  (w.now, subst Reached (sym is.0) reached, refl),
+)
+ended_playing Gives Reached detectors stream playing frames (Err WriteFault) old new loads reached written is =
+    ((Ok playing, loads, _, refl, written.0, cut_whole playing stream frames old new written.0 is written.1), tt)
+ended_playing Gives Reached detectors stream playing frames (Err (Refused w line reason)) old new loads reached written is = absurd is
+ended_playing Gives Reached detectors stream playing frames (Err (RefusedLine w line why)) old new loads reached written is =
+    let at : stream_status stream.refusal ≡ status.RefusedLine = ap stream_status is.2 in
+    let note : stop_note (RefusedLine w line why) ≡ stream_note detectors stream.refusal
     = ap (λ v. stream_note v (Some (line, why))) is.0 ∙ ap (λ o. stream_note detectors o) (sym is.2) in (
-      (Ok playing, loads, at, (log_of playing frames, whole_log playing (stream_of (file detectors)) frames is.1, written)),
+      (Ok playing, loads, at, (log_of playing frames, whole_log playing stream frames is.1, written)),
       (Ok playing, loads, at, note),
     )
-ended_playing program words detectors file playing frames (Err (TooLong w)) old new loads written is = absurd is
+ended_playing Gives Reached detectors stream playing frames (Err (TooLong w)) old new loads reached written is = absurd is
+
+-- it played so
+pub ended_at : {A : Type 0} (Gives : Result Playing Unloaded → Type 0) (Reached : List ℕ → Type 0) (detectors : List ℕ) (stream : Stream) (playing : Playing)
+    (r : Result A Stop) (old new : Option (List ℕ)) → Gives (Ok playing) → Reached detectors → IsPlayedAt playing detectors stream r old new →
+    IsEndedBy Gives (answered (λ p. log_answer detectors p stream)) Reached r old new
+ended_at Gives Reached detectors stream playing r old new loads reached (played frames written is) =
+    ended_playing Gives Reached detectors stream playing frames r old new loads reached written is
+ended_at Gives Reached detectors stream playing r old new loads reached (no_memory is same) =
+    subst (λ r. IsEndedBy Gives (answered (λ p. log_answer detectors p stream)) Reached r old new) (sym is) (same, tt)
+
+-- what makes the same log is played alike
+pub played_alike : {A : Type 0} (p q : Playing) (name : List ℕ) (stream : Stream) (r : Result A Stop) (old new : Option (List ℕ)) →
+    ((frames : List Counts) → log_of p frames ≡ log_of q frames) → IsPlayedAt p name stream r old new → IsPlayedAt q name stream r old new
+played_alike p q name stream r old new same (played frames written is) = played frames (subst (λ t. IsWritten r t old new) (same frames) written) is
+played_alike p q name stream r old new same (no_memory is unwritten) = no_memory is unwritten
 
 -- ---- the draft of a log
 
@@ -239,7 +261,3 @@ fails_on a b c x y z one two = record { later = omega (arith, one.later, two.lat
     second : IsTrue y ⊎ Rose b c → IsTrue x ⊎ Rose a c
     second (inl t) = first (one.failed t)
     second (inr r) = inr (omega (arith, r, one.later))
-
--- what a run writes is safe
-pub run_safe : (form : Form) (old new : Option (List ℕ)) → IsGuardedLog old new → IsSafe form old new
-run_safe (Run program site detectors) old new is = is

@@ -12,7 +12,7 @@ use Rattle.controller.specs.Guarded.{IsGuardedRun}
 use Rattle.controller.proofs.Guarded.{runs_are_guarded}
 use Rattle.junction_run.specs.declared.stop.Stop.{Stop}
 use Rattle.junction_run.specs.declared.stop.Stop.TheVariants.{Memory, ReadFault, WriteFault, Refused, RefusedLine, TooLong}
-use Rattle.junction_run.specs.Guarded.{IsGuardedLog, unwritten, written}
+use Rattle.junction_run.specs.Guarded.{IsGuardedLog, written}
 use Rattle.junction_run.specs.Loading.{Playing}
 use Rattle.junction_run.specs.Records.{log_of}
 use Rattle.junction_run.specs.Stop.{IsWritten}

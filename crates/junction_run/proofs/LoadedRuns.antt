@@ -1,5 +1,5 @@
 -- Every run of what the files give is guarded.
-use Rattle.std.proofs.Common.{◌≡◌, ℕ, Bool, true, false, List, length, Option, None, Some, Result, Ok, Err, refl, sym, ap, subst}
+use Rattle.std.proofs.Common.{◌≡◌, ◌∙◌, ℕ, Bool, true, false, List, length, Option, None, Some, Result, Ok, Err, refl, sym, ap, subst}
 use Rattle.std.specs.Prelude.{if◌then◌else◌, drop}
 use Rattle.sig_io.specs.Outside.{Contents}
 use Rattle.sig_types.specs.Rules.{IsTwoWay}
@@ -11,12 +11,14 @@ use Rattle.sig_tables.specs.TimesTable.{times_of}
 use Rattle.sig_tables.specs.IntergreenTable.{intergreens_refusal, intergreen_of}
 use Rattle.sig_tables.specs.SiteRules.{rules_by}
 use Rattle.sig_tables.proofs.TimesRead.{times_counted}
-use Rattle.vap_ast.specs.Syntax.{Program}
+use Rattle.sig_types.specs.Counts.{Counts}
+use Rattle.controller.specs.Guarded.{IsGuardedRun}
 use Rattle.controller.specs.Past.{Site}
 use Rattle.controller.proofs.Guarded.{runs_are_guarded}
-use Rattle.junction_run.specs.Form.{SiteWords}
+use Rattle.junction_run.specs.Codes.{CodeIs}
+use Rattle.junction_run.specs.Form.{SiteWords, Run, Compile, Exec}
 use Rattle.junction_run.specs.Laws.{LoadedRunsAreGuarded}
-use Rattle.junction_run.specs.Loading.{Unloaded, Refusal, TooLong, unless_refused, judged, table_refusal, plan_at, times_at, intergreens_at, site_of, ◌>>=◌, Playing, program_at, map_ok, AfterSite, IsJudged, text_limit}
+use Rattle.junction_run.specs.Loading.{Unloaded, Refusal, TooLong, unless_refused, judged, table_refusal, plan_at, times_at, intergreens_at, site_of, ◌>>=◌, Playing, program_at, code_at, map_ok, AfterSite, IsJudged, text_limit, code_limit}
 use Rattle.junction_run.specs.Programs.{ProgramIs}
 use Rattle.junction_run.proofs.Tables.{accepted_lists_well}
 
@@ -86,21 +88,31 @@ site_sound words file site is =
     let between = judged_right words.intergreens (file words.intergreens) _ (intergreen_of plan (file words.intergreens)) three.value three.first in
     sound_at plan (file words.times) (file words.intergreens) two.value three.value site (not_refused plan (intergreens_refusal plan (file words.intergreens)) between.0) times.1 between.1 three.rest
 
--- a program at a site plays there
-at_site : (site : Site) (v : Result Program Unloaded) (playing : Playing) → Ok playing ≡ map_ok (program_at site) v → site ≡ playing.site
-at_site site (Ok program) playing is = sym (ap site_in is)
+-- what is loaded after a site plays there
+at_site : {V : Type 0} (at : Site → V → Playing) → ((site : Site) (v : V) → (at site v).site ≡ site) → (site : Site) (v : Result V Unloaded) (playing : Playing) →
+    Ok playing ≡ map_ok (at site) v → site ≡ playing.site
+at_site at there site (Ok v) playing is =
+    let same : playing.site ≡ (at site v).site = ap site_in is in
+    sym (same ∙ there site v)
   where
     site_in : Result Playing Unloaded → Site
     site_in (Ok p) = p.site
     site_in (Err u) = site
-at_site site (Err u) playing is = cc
+at_site at there site (Err u) playing is = cc
 
-loaded_sound : (r : Result Site Unloaded) (Judged : Result Program Unloaded → Type 0) (playing : Playing) → ((site : Site) → r ≡ Ok site → IsSound site) →
-    AfterSite program_at r Judged (Ok playing) → IsSound playing.site
-loaded_sound (Err u) Judged playing sound loads = absurd (let e : Ok playing ≡ Err u = loads in cc)
-loaded_sound (Ok site) Judged playing sound loads = subst IsSound (at_site site loads.0 playing loads.2) (sound site refl)
+loaded_sound : {V : Type 0} (at : Site → V → Playing) → ((site : Site) (v : V) → (at site v).site ≡ site) → (r : Result Site Unloaded) (Judged : Result V Unloaded → Type 0)
+    (playing : Playing) → ((site : Site) → r ≡ Ok site → IsSound site) → AfterSite at r Judged (Ok playing) → IsSound playing.site
+loaded_sound at there (Err u) Judged playing sound loads = absurd (let e : Ok playing ≡ Err u = loads in cc)
+loaded_sound at there (Ok site) Judged playing sound loads = subst IsSound (at_site at there site loads.0 playing loads.2) (sound site refl)
+
+guarded : (playing : Playing) (frames : List Counts) → IsSound playing.site → IsGuardedRun playing.logic playing.site playing.store frames
+guarded playing frames sound = runs_are_guarded playing.logic playing.site playing.store frames sound.two sound.count
 
 pub loaded_runs_are_guarded : LoadedRunsAreGuarded
-loaded_runs_are_guarded program words file playing frames loads =
-    let sound = loaded_sound (site_of words file) (IsJudged ProgramIs text_limit program (file program)) playing (site_sound words file) loads in
-    runs_are_guarded playing.logic playing.site playing.store frames sound.two sound.count
+loaded_runs_are_guarded (Run program words detectors) file playing frames loads =
+    guarded playing frames
+    (loaded_sound program_at (λ site v. refl) (site_of words file) (IsJudged ProgramIs text_limit program (file program)) playing (site_sound words file) loads)
+loaded_runs_are_guarded (Compile program) file source frames loads = tt
+loaded_runs_are_guarded (Exec code words detectors) file playing frames loads =
+    guarded playing frames
+    (loaded_sound code_at (λ site v. refl) (site_of words file) (IsJudged CodeIs code_limit code (file code)) playing (site_sound words file) loads)

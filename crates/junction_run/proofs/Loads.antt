@@ -1,5 +1,5 @@
 -- What loading stops at, and what it goes on with.
-use Rattle.std.proofs.Common.{◌≡◌, ◌∙◌, ℕ, ◌≤◌, List, [], ◌∷◌, ◌++◌, length, Option, None, Some, Result, Ok, Err, refl, sym, ap, subst}
+use Rattle.std.proofs.Common.{◌≡◌, ◌∙◌, ℕ, ◌≤◌, List, length, Option, None, Result, Ok, Err, refl, sym, ap, subst}
 use Rattle.std.proofs.Math.Path.{fun_ext}
 use Rattle.std.proofs.lemmas.Bool.{lt-ltb, le-ltb}
 use Rattle.std.specs.Prelude.{IfOk, IfErr}
@@ -8,12 +8,10 @@ use Rattle.pua_model.specs.Plan.{PlanOf}
 use Rattle.sig_tables.specs.declared.times.TimesRow.{TimesRow}
 use Rattle.sig_tables.specs.Pairs.{Pairs, between}
 use Rattle.sig_tables.specs.SiteRules.{rules_by, rules_of}
-use Rattle.controller.specs.Past.{Site}
 use Rattle.junction_run.specs.declared.stop.Stop.{Stop}
 use Rattle.junction_run.specs.declared.stop.Stop.TheVariants.{Memory, ReadFault, WriteFault, Refused, RefusedLine, TooLong}
 use Rattle.junction_run.specs.Form.{SiteWords}
 use Rattle.junction_run.specs.Loading.{Unloaded, Refusal, text_limit, judged, ◌>>=◌, plan_at, times_at, intergreens_at, site_of, ReachedInSite}
-use Rattle.junction_run.specs.Loading as loading
 use Rattle.junction_run.specs.Stop.{IsLoadStop, IsLoading, IsUnread, IsRefusedText, IsAt}
 
 -- a text that is accepted gives its value

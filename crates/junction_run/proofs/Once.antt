@@ -1,13 +1,9 @@
 -- Files give one thing.
-use Rattle.std.proofs.Common.{◌≡◌, ◌∙◌, ℕ, ◌≤◌, ◌<◌, List, [], ◌∷◌, length, Option, Some, None, Result, Ok, Err, refl, sym, ap, subst, arith, inl, inr, ◌⊎◌}
+use Rattle.std.proofs.Common.{◌≡◌, ◌∙◌, ℕ, List, Option, Some, None, Result, Ok, Err, refl, sym, ap, subst, arith, inl, inr, ◌⊎◌}
 use Rattle.sig_io.specs.Outside.{Contents}
 use Rattle.vap_ast.specs.Syntax.{Program}
-use Rattle.vap_lex.specs.declared.token.Token.{Token}
-use Rattle.vap_lex.specs.declared.piece.LexWhy.{LexWhy}
-use Rattle.vap_lex.specs.Refusal.{IsStuck}
-use Rattle.vap_lex.specs.Tokens.{HasTokens, line_at}
+use Rattle.vap_lex.specs.Tokens.{line_at}
 use Rattle.vap_lex.proofs.OneAnswer.{one_list, one_place, never_both}
-use Rattle.vap_parse.specs.declared.kind.Reason.{Reason}
 use Rattle.vap_parse.specs.Grammar.{Accepts}
 use Rattle.vap_parse.specs.Grammar as grammar
 use Rattle.vap_parse.specs.Refusal.{line_of, why_of}
@@ -15,14 +11,20 @@ use Rattle.vap_parse.proofs.Exact as parsed
 use Rattle.vap_check.specs.declared.refusal.CheckWhy.{CheckWhy}
 use Rattle.vap_check.specs.Accepted.{Accepted}
 use Rattle.vap_check.specs.Accepted as check
+use Rattle.code_file.specs.declared.refusal.CodeWhy.{CodeWhy}
+use Rattle.code_file.specs.Reading.{code_of}
+use Rattle.code_verify.specs.First.{OneIsFirst, ValidBreaksNone}
+use Rattle.vap_code.specs.Codes.{CodeOf}
+use Rattle.vap_code.specs.Valid.{Valid, FirstBroken}
 use Rattle.controller.specs.Past.{Site}
-use Rattle.junction_run.specs.Form.{Form, Run}
-use Rattle.junction_run.specs.Loading.{Unloaded, Refusal, IsJudged, long, refused, accepted, Playing, map_ok, AfterSite, Loaded, Loads, site_of, text_limit, program_at}
+use Rattle.junction_run.specs.Codes.{CodeIs, no_code, unsound, is_code, instr_line}
+use Rattle.junction_run.specs.Form.{Form, Run, Compile, Exec}
+use Rattle.junction_run.specs.Loading.{Unloaded, Refusal, IsJudged, long, refused, accepted, Playing, map_ok, AfterSite, Loaded, Loads, site_of, text_limit, code_limit, program_at, code_at}
 use Rattle.junction_run.specs.Loading as loading
 use Rattle.junction_run.specs.Programs.{ProgramIs, no_token, no_tree, unchecked, is_program}
-use Rattle.junction_run.specs.Reasons.{lex_reason, parse_reason, check_reason}
+use Rattle.junction_run.specs.Reasons.{lex_reason, parse_reason, check_reason, code_reason, verify_reason}
 use Rattle.junction_run.specs.Laws.{LoadsOnce, IsComplete, RefusedOnlyWhere}
-use Rattle.junction_run.specs.Answer.{answer_to, Meets, IsAnswered, stream_status}
+use Rattle.junction_run.specs.Answer.{answer_to, IsAnswered, stream_status}
 use Rattle.det_stream.specs.declared.refusal.StreamWhy.{StreamWhy}
 use Rattle.det_stream.specs.Stream.{stream_of}
 use Rattle.junction_run.specs.declared.status.Status.{Status}
@@ -69,6 +71,49 @@ program_once checked bytes r s (is_program ts tree a b c) (unchecked us tree' li
 program_once checked bytes r s (is_program ts tree a b c) (is_program us tree' d e f) =
     ap Ok (parsed.one_tree us tree tree' (subst (λ ts. Accepts ts tree) (one_list bytes ts us a d) b) e)
 
+-- ---- a code
+
+-- the code that was read, or another
+code_or : CodeOf → Result CodeOf (ℕ × CodeWhy) → CodeOf
+code_or c (Ok code) = code
+code_or c (Err at) = c
+
+one_code : (bytes : List ℕ) (c d : CodeOf) → code_of bytes ≡ Ok c → code_of bytes ≡ Ok d → c ≡ d
+unfolding code_or
+one_code bytes c d a b = ap (code_or c) (sym a ∙ b)
+
+never_read : (bytes : List ℕ) (c : CodeOf) (at : ℕ × CodeWhy) → code_of bytes ≡ Ok c → code_of bytes ≡ Err at → ⊥
+never_read bytes c at a b = cc
+
+abbrev refused_code : Refusal → Result CodeOf Refusal
+refused_code at = Err at
+
+-- a refusal with its reason
+told_code : Result CodeOf (ℕ × CodeWhy) → Result CodeOf Refusal
+told_code (Ok code) = Ok code
+told_code (Err at) = Err (at.0, code_reason at.1)
+
+one_line : (bytes : List ℕ) (l m : ℕ) (v w : CodeWhy) → code_of bytes ≡ Err (l, v) → code_of bytes ≡ Err (m, w) → refused_code (l, code_reason v) ≡ refused_code (m, code_reason w)
+unfolding told_code
+one_line bytes l m v w a b = ap told_code (sym a ∙ b)
+
+-- a text has one first refusal, or is one valid code
+pub code_once : OneIsFirst → ValidBreaksNone → (bytes : List ℕ) (r s : Result CodeOf Refusal) → CodeIs bytes r → CodeIs bytes s → r ≡ s
+code_once one none bytes r s (no_code l v a) (no_code m w b) = one_line bytes l m v w a b
+code_once one none bytes r s (no_code l v a) (unsound c w q b is) = absurd (never_read bytes c (l, v) b a)
+code_once one none bytes r s (no_code l v a) (is_code c b is) = absurd (never_read bytes c (l, v) b a)
+code_once one none bytes r s (unsound c v p a broken) (no_code l w b) = absurd (never_read bytes c (l, w) a b)
+code_once one none bytes r s (unsound c v p a broken) (unsound d w q b is) =
+    let code = one_code bytes c d a b in
+    let same = one d v w p q (subst (λ c. FirstBroken c v p) code broken) is in
+    (λ j. Err (instr_line (code j) (same.1 j), verify_reason (same.0 j)))
+code_once one none bytes r s (unsound c v p a broken) (is_code d b valid) = absurd (none d v p valid (subst (λ c. FirstBroken c v p) (one_code bytes c d a b) broken))
+code_once one none bytes r s (is_code c a valid) (no_code l w b) = absurd (never_read bytes c (l, w) a b)
+code_once one none bytes r s (is_code c a valid) (unsound d w q b broken) = absurd (none d w q (subst Valid (one_code bytes c d a b) valid) broken)
+code_once one none bytes r s (is_code c a valid) (is_code d b is) = ap Ok (one_code bytes c d a b)
+
+-- ---- a form
+
 -- a judgement as it is loaded
 abbrev told : {V : Type 0} → List ℕ → Result V Refusal → Result V Unloaded
 told word (Ok value) = Ok value
@@ -92,38 +137,57 @@ after_once : {V : Type 0} (at : Site → V → Playing) (site : Result Site Unlo
 after_once at (Err u) Judged once r s a b = a ∙ sym b
 after_once at (Ok site) Judged once r s a b = a.2 ∙ ap (λ v. map_ok (at site) v) (once a.0 b.0 a.1 b.1) ∙ sym b.2
 
-pub loads_once : CheckedOnce → LoadsOnce
-loads_once checked (Run word site detectors) file r s a b =
+-- what each stage answers at most once
+pub record StagesOnce : Type 0 where
+  pub checked : CheckedOnce
+  pub first : OneIsFirst
+  pub none : ValidBreaksNone
+
+pub loads_once : StagesOnce → LoadsOnce
+loads_once stages (Run word site detectors) file r s a b =
     after_once program_at (site_of site file) (IsJudged ProgramIs text_limit word (file word))
-    (judged_once ProgramIs text_limit word (file word) (program_once checked (file word))) r s a b
+    (judged_once ProgramIs text_limit word (file word) (program_once stages.checked (file word))) r s a b
+loads_once stages (Compile word) file r s a b = judged_once ProgramIs text_limit word (file word) (program_once stages.checked (file word)) r s a b
+loads_once stages (Exec word site detectors) file r s a b =
+    after_once code_at (site_of site file) (IsJudged CodeIs code_limit word (file word))
+    (judged_once CodeIs code_limit word (file word) (code_once stages.first stages.none (file word))) r s a b
 
 -- the answer's own status is that of the files
-status_is : CheckedOnce → (form : Form) (file : Contents) (loaded : Loaded form) (status : Status) (old new : Option (List ℕ)) → Loads form file (Ok loaded) →
-    (answer_to form file (Ok loaded)).status ≡ Done → IsAnswered form file status old new → status ≡ Done
-status_is checked form file loaded status old new loads done is =
-    let same : is.0 ≡ Ok loaded = loads_once checked form file is.0 (Ok loaded) is.1 loads in
+status_is : StagesOnce → (form : Form) (file : Contents) (loaded : Loaded form) (status : Status) (old new : Option (List ℕ)) → Loads form file (Ok loaded) →
+    (answer_to form file (Ok loaded)).status ≡ Done → IsAnswered (Loads form file) (answer_to form file) status old new → status ≡ Done
+status_is stages form file loaded status old new loads done is =
+    let same : is.0 ≡ Ok loaded = loads_once stages form file is.0 (Ok loaded) is.1 loads in
     sym is.2 ∙ ap (λ r. (answer_to form file r).status) same ∙ done
 
-pub complete : CheckedOnce → IsComplete
-complete checked form file loaded Done old new loads done is = inl refl
-complete checked form file loaded Memory old new loads done is = inr (inl refl)
-complete checked form file loaded Words old new loads done is = absurd is
-complete checked form file loaded ReadFault old new loads done is = inr (inr (inl refl))
-complete checked form file loaded WriteFault old new loads done is = inr (inr (inr refl))
-complete checked form file loaded RefusedFile old new loads done is = absurd (let e : RefusedFile ≡ Done = status_is checked form file loaded RefusedFile old new loads done is in cc)
-complete checked form file loaded RefusedLine old new loads done is = absurd (let e : RefusedLine ≡ Done = status_is checked form file loaded RefusedLine old new loads done is in cc)
-complete checked form file loaded TooLong old new loads done is = absurd (let e : TooLong ≡ Done = status_is checked form file loaded TooLong old new loads done is in cc)
+pub complete : StagesOnce → IsComplete
+complete stages form file loaded Done old new loads done is = inl refl
+complete stages form file loaded Memory old new loads done is = inr (inl refl)
+complete stages form file loaded Words old new loads done is = absurd is
+complete stages form file loaded ReadFault old new loads done is = inr (inr (inl refl))
+complete stages form file loaded WriteFault old new loads done is = inr (inr (inr refl))
+complete stages form file loaded RefusedFile old new loads done is = absurd (let e : RefusedFile ≡ Done = status_is stages form file loaded RefusedFile old new loads done is in cc)
+complete stages form file loaded RefusedLine old new loads done is = absurd (let e : RefusedLine ≡ Done = status_is stages form file loaded RefusedLine old new loads done is in cc)
+complete stages form file loaded TooLong old new loads done is = absurd (let e : TooLong ≡ Done = status_is stages form file loaded TooLong old new loads done is in cc)
+
+-- a command that is done refused no file, nor does one that refused a line
+done_refuses_none : (status : Status) → Done ≡ status → (status ≡ RefusedFile) ⊎ (status ≡ TooLong) → ⊥
+done_refuses_none status e (inl h) = cc
+done_refuses_none status e (inr h) = cc
+
+line_refuses_none : (status : Status) → RefusedLine ≡ status → (status ≡ RefusedFile) ⊎ (status ≡ TooLong) → ⊥
+line_refuses_none status e (inl h) = cc
+line_refuses_none status e (inr h) = cc
+
+stream_refuses_none : (status : Status) (o : Option (ℕ × StreamWhy)) → stream_status o ≡ status → (status ≡ RefusedFile) ⊎ (status ≡ TooLong) → ⊥
+stream_refuses_none status None is which = done_refuses_none status is which
+stream_refuses_none status (Some at) is which = line_refuses_none status is which
 
 refused_case : (form : Form) (file : Contents) (r : Result (Loaded form) Unloaded) (status : Status) → Loads form file r → (answer_to form file r).status ≡ status →
     (status ≡ RefusedFile) ⊎ (status ≡ TooLong) → (u : Unloaded) × Loads form file (Err u)
 refused_case form file (Err u) status loads is which = (u, loads)
-refused_case (Run word site detectors) file (Ok playing) status loads is which = absurd (never (stream_of (file detectors)).refusal is which)
-  where
-    never : (o : Option (ℕ × StreamWhy)) → stream_status o ≡ status → (status ≡ RefusedFile) ⊎ (status ≡ TooLong) → ⊥
-    never None e (inl h) = cc
-    never None e (inr h) = cc
-    never (Some at) e (inl h) = cc
-    never (Some at) e (inr h) = cc
+refused_case (Run word site detectors) file (Ok playing) status loads is which = absurd (stream_refuses_none status (stream_of (file detectors)).refusal is which)
+refused_case (Compile word) file (Ok source) status loads is which = absurd (done_refuses_none status is which)
+refused_case (Exec word site detectors) file (Ok playing) status loads is which = absurd (stream_refuses_none status (stream_of (file detectors)).refusal is which)
 
 pub refused_only_where : RefusedOnlyWhere
 refused_only_where form file old new = (λ is. refused_case form file is.0 RefusedFile is.1 is.2 (inl refl), λ is. refused_case form file is.0 TooLong is.1 is.2 (inr refl))

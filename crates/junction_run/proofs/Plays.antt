@@ -1,5 +1,5 @@
 -- A detector file that is being played.
-use Rattle.std.proofs.Common.{◌≡◌, ◌∙◌, ℕ, List, [], ◌∷◌, ◌++◌, Option, Some, None, refl, sym, ap, subst}
+use Rattle.std.proofs.Common.{◌≡◌, ◌∙◌, ℕ, List, [], ◌∷◌, ◌++◌, Option, refl, sym, ap, subst}
 use Rattle.std.specs.Option.{ForSome}
 use Rattle.sig_io.specs.Outside.{Contents}
 use Rattle.sig_io.specs.Draft.{Held, IsDraft}
@@ -7,7 +7,7 @@ use Rattle.sig_types.specs.Counts.{Counts, Takes}
 use Rattle.sig_types.specs.Pass.{Store}
 use Rattle.sig_types.specs.declared.record.Record.{Record}
 use Rattle.controller.specs.Past.{Past, opening}
-use Rattle.controller.specs.Second.{past_of, longer, record_of}
+use Rattle.controller.specs.Second.{longer, record_of}
 use Rattle.controller.specs.declared.controller.Controller.{Controller}
 use Rattle.controller.specs.Controls.{StandsFor, site_of, logic_of, plan_of}
 use Rattle.controller.proofs.Runs.{past_of-more}

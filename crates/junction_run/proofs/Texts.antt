@@ -1,19 +1,17 @@
 -- The text of a program, judged stage by stage.
-use Rattle.std.proofs.Common.{◌≡◌, ◌∙◌, ◌≤◌, ◌+◌, ℕ, List, [], ◌∷◌, length, All, Result, Ok, Err, refl, sym, ap, subst, arith}
+use Rattle.std.proofs.Common.{◌≡◌, ◌∙◌, ◌≤◌, ◌<◌, ◌+◌, max, ℕ, List, length, All, Result, Ok, Err, refl, sym, ap, subst, arith}
 use Rattle.std.specs.Prelude.{IfOk, IfErr}
 use Rattle.vap_ast.specs.declared.tree.Program.{Program as Tree}
 use Rattle.vap_ast.specs.Parsed.{IsLine}
-use Rattle.vap_ast.specs.Syntax.{Program}
 use Rattle.vap_ast.specs.Tree.{program_of}
 use Rattle.vap_check.specs.Accepted.{Accepted}
-use Rattle.vap_check.specs.Accepted as check
 use Rattle.vap_check.specs.Numbers.{Meant, checked_of}
 use Rattle.vap_lex.specs.declared.token.Token.{Token}
 use Rattle.vap_lex.specs.declared.piece.LexWhy.{LexWhy}
 use Rattle.vap_lex.specs.declared.scan.LexRefusal.TheVariants as lex
 use Rattle.vap_lex.specs.Kept.{HasLine}
 use Rattle.vap_lex.specs.Refusal as lexed
-use Rattle.vap_lex.specs.Tokens.{HasTokens, line_at}
+use Rattle.vap_lex.specs.Tokens.{HasTokens}
 use Rattle.vap_parse.specs.declared.program.ParseWhy.{ParseWhy}
 use Rattle.vap_parse.specs.declared.program.ParseWhy.TheVariants.{Frequency}
 use Rattle.vap_parse.specs.declared.program.ParseRefusal.{ParseRefusal}
@@ -21,18 +19,21 @@ use Rattle.vap_parse.specs.declared.program.ParseRefusal.TheVariants as parse
 use Rattle.vap_parse.specs.Grammar.{Accepts}
 use Rattle.vap_parse.specs.Refusal as parsed
 use Rattle.vap_code.specs.Codes.{CodeOf}
-use Rattle.junction_run.specs.declared.load.Site.{Site as Loaded}
 use Rattle.junction_run.specs.declared.stop.Stop.{Stop}
 use Rattle.junction_run.specs.declared.stop.Stop.TheVariants.{Memory, ReadFault, WriteFault, Refused, RefusedLine, TooLong}
 use Rattle.sig_io.specs.Outside.{Contents}
 use Rattle.junction_run.specs.Form.{SiteWords}
 use Rattle.controller.specs.Past.{Site}
-use Rattle.junction_run.specs.Loading.{IsJudged, text_limit, LoadsProgram, ReachedInSite, ReachedAfterSite, site_of, program_at, AfterSite}
+use Rattle.code_file.specs.Reading.{code_of}
+use Rattle.vap_code.specs.Valid.{Valid, FirstBroken}
+use Rattle.vap_code.specs.declared.VerifyWhy.{VerifyWhy}
+use Rattle.junction_run.specs.Codes.{CodeIs, unsound, is_code, instr_line}
+use Rattle.junction_run.specs.Loading.{Unloaded, Refusal, Playing, IsJudged, text_limit, code_limit, ReachedInSite, ReachedAfterSite, site_of, AfterSite}
 use Rattle.junction_run.specs.Loading as loading
-use Rattle.junction_run.specs.Programs.{ProgramIs, no_token, no_tree, unchecked, is_program}
-use Rattle.junction_run.specs.Reasons.{reason_text, lex_reason, parse_reason}
-use Rattle.junction_run.specs.Sites.{IsRefusedProgram, IsCheckedText, IsProgramText, IsProgramFile, IsProgramLoad, Runs}
-use Rattle.junction_run.specs.Stop.{IsAt, IsUnread, IsLoadStop}
+use Rattle.junction_run.specs.Programs.{ProgramIs, no_token, no_tree, is_program}
+use Rattle.junction_run.specs.Reasons.{reason_text, lex_reason, parse_reason, verify_reason}
+use Rattle.junction_run.specs.Sites.{IsRefusedProgram, IsCheckedText, IsProgramText, IsProgramFile, IsCodeText, IsCodeFile}
+use Rattle.junction_run.specs.Stop.{IsAt, IsUnread, IsRefusedBy, IsUnloadedBy, IsLoadStop}
 
 -- a text has no more lines than bytes, and one
 pub lines_within : (n most : ℕ) (ts : List Token) → n + 1 ≤ most → All (λ t. HasLine n t) ts → All (λ t. IsLine most t.line) ts
@@ -67,60 +68,96 @@ checked_text (Ok c) text ts tree has accepts is wrong =
     (subst (λ t. ProgramIs text (Ok (program_of t))) (sym same) (is_program ts (program_of tree) has accepts is.0), is.1 ∙ ap checked_of (sym same))
 checked_text (Err stop) text ts tree has accepts is wrong = wrong
 
--- a program file that was not read
-pub unread_program : (name bytes : List ℕ) (stop : Stop) → IsUnread text_limit bytes stop → IsAt name stop → IsProgramFile name bytes (Err stop)
-unread_program name bytes Memory is at = tt
-unread_program name bytes (ReadFault w) is at = at
-unread_program name bytes WriteFault is at = is
-unread_program name bytes (Refused w line reason) is at = absurd is
-unread_program name bytes (RefusedLine w line why) is at = is
-unread_program name bytes (TooLong w) is at = subst (λ n. IsJudged ProgramIs text_limit name bytes (Err (loading.TooLong n))) (sym at) (loading.long is)
+-- a code that was read and verified
+pub verified_text : (r : Result CodeOf Stop) (text : List ℕ) (code : CodeOf) → code_of text ≡ Ok code → IfOk r (λ v. (v ≡ code) × Valid code) →
+    IfErr r (λ stop. IsRefusedBy CodeIs text stop) → IsCodeText text r
+verified_text (Ok v) text code read is wrong = subst (λ v. CodeIs text (Ok v)) (sym is.0) (is_code code read is.1)
+verified_text (Err stop) text code read is wrong = wrong
 
--- one that was judged
+-- one that breaks a check
+pub unsound_text : (text : List ℕ) (code : CodeOf) (why : VerifyWhy) (place line : ℕ) → code_of text ≡ Ok code → FirstBroken code why place → line ≡ instr_line code place →
+    CodeIs text (Err (line, verify_reason why))
+unsound_text text code why place line read is at = subst (λ n. CodeIs text (Err (n, verify_reason why))) (sym at) (unsound code why place read is)
+
+-- the line of an instruction is small
+pub place_within : (n place : ℕ) → n ≤ 65535 → place < max 1 n → place < 65536
+place_within n place short is = omega arith
+
+-- ---- a file
+
+-- a file that was not read
+pub unread_file : {V : Type 0} (Is : List ℕ → Result V Refusal → Type 0) (limit : ℕ) (name bytes : List ℕ) (stop : Stop) → IsUnread limit bytes stop → IsAt name stop →
+    IsUnloadedBy (IsJudged Is limit name bytes) (λ w. w ≡ name) stop
+unread_file Is limit name bytes Memory is at = tt
+unread_file Is limit name bytes (ReadFault w) is at = at
+unread_file Is limit name bytes WriteFault is at = is
+unread_file Is limit name bytes (Refused w line reason) is at = absurd is
+unread_file Is limit name bytes (RefusedLine w line why) is at = is
+unread_file Is limit name bytes (TooLong w) is at = subst (λ n. IsJudged Is limit name bytes (Err (loading.TooLong n))) (sym at) (loading.long is)
+
+-- one that is refused
+refused_file : {V : Type 0} (Is : List ℕ → Result V Refusal → Type 0) (limit : ℕ) (name bytes : List ℕ) (stop : Stop) → length bytes ≤ limit → IsRefusedBy Is bytes stop → IsAt name stop →
+    IsUnloadedBy (IsJudged Is limit name bytes) (λ w. w ≡ name) stop
+refused_file Is limit name bytes Memory short is at = tt
+refused_file Is limit name bytes (ReadFault w) short is at = absurd is
+refused_file Is limit name bytes WriteFault short is at = is
+refused_file Is limit name bytes (Refused w line reason) short is at =
+    subst (λ n. IsJudged Is limit name bytes (Err (loading.Refused n line (reason_text reason)))) (sym at) (loading.refused line (reason_text reason) short is)
+refused_file Is limit name bytes (RefusedLine w line why) short is at = is
+refused_file Is limit name bytes (TooLong w) short is at = absurd is
+
 judged_program : (name bytes : List ℕ) (r : Result CodeOf Stop) → length bytes ≤ text_limit → IsProgramText bytes r → IfErr r (λ stop. IsAt name stop) → IsProgramFile name bytes r
 judged_program name bytes (Ok code) short is at = (is.0, loading.accepted is.0 short is.1, is.2)
-judged_program name bytes (Err Memory) short is at = tt
-judged_program name bytes (Err (ReadFault w)) short is at = absurd is
-judged_program name bytes (Err WriteFault) short is at = is
-judged_program name bytes (Err (Refused w line reason)) short is at =
-    subst (λ n. IsJudged ProgramIs text_limit name bytes (Err (loading.Refused n line (reason_text reason)))) (sym at) (loading.refused line (reason_text reason) short is)
-judged_program name bytes (Err (RefusedLine w line why)) short is at = is
-judged_program name bytes (Err (TooLong w)) short is at = absurd is
+judged_program name bytes (Err stop) short is at = refused_file ProgramIs text_limit name bytes stop short is at
 
+-- a program file that was judged so
 pub program_file : (name bytes text : List ℕ) (r : Result CodeOf Stop) → text ≡ bytes → length text ≤ text_limit → IsProgramText text r → IfErr r (λ stop. IsAt name stop) →
     IsProgramFile name bytes r
 program_file name bytes text r same short is at = subst (λ b. IsProgramFile name b r) same (judged_program name text r short is at)
 
--- ---- a program at a site
+judged_code : (name bytes : List ℕ) (r : Result CodeOf Stop) → length bytes ≤ code_limit → IsCodeText bytes r → IfErr r (λ stop. IsAt name stop) → IsCodeFile name bytes r
+judged_code name bytes (Ok code) short is at = loading.accepted code short is
+judged_code name bytes (Err stop) short is at = refused_file CodeIs code_limit name bytes stop short is at
 
-after_no_site : (name : List ℕ) (words : SiteWords) (file : Contents) (u : loading.Unloaded) → site_of words file ≡ Err u → LoadsProgram name words file (Err u)
-after_no_site name words file u is = rw is refl
+-- a code file that was judged so
+pub code_file : (name bytes text : List ℕ) (r : Result CodeOf Stop) → text ≡ bytes → length text ≤ code_limit → IsCodeText text r → IfErr r (λ stop. IsAt name stop) →
+    IsCodeFile name bytes r
+code_file name bytes text r same short is at = subst (λ b. IsCodeFile name b r) same (judged_code name text r short is at)
 
--- the site isn't taken
-pub no_site : (name : List ℕ) (words : SiteWords) (file : Contents) (stop : Stop) → IsLoadStop (λ w. ReachedInSite words file w) stop (site_of words file) →
-    IsProgramLoad name words file (Err stop)
-no_site name words file Memory is = tt
-no_site name words file (ReadFault w) is = ReachedAfterSite.at_site w.now is
-no_site name words file WriteFault is = is
-no_site name words file (Refused w line reason) is = after_no_site name words file (loading.Refused w.now line (reason_text reason)) is
-no_site name words file (RefusedLine w line why) is = is
-no_site name words file (TooLong w) is = after_no_site name words file (loading.TooLong w.now) is
+-- ---- a file after a site
 
-after_site : (name : List ℕ) (words : SiteWords) (file : Contents) (site : Site) (v : Result Program loading.Unloaded) → site_of words file ≡ Ok site →
-    IsJudged ProgramIs text_limit name (file name) v → LoadsProgram name words file (loading.map_ok (program_at site) v)
-after_site name words file site v is judged = rw is (v, judged, refl)
+-- what stops one loading stops another that goes on from it
+pub unloaded_later : {A B : Type 0} (Gives : Result A Unloaded → Type 0) (Later : Result B Unloaded → Type 0) (Early Late : List ℕ → Type 0) →
+    ((u : Unloaded) → Gives (Err u) → Later (Err u)) → ((w : List ℕ) → Early w → Late w) → (stop : Stop) → IsUnloadedBy Gives Early stop → IsUnloadedBy Later Late stop
+unloaded_later Gives Later Early Late refused reached Memory is = tt
+unloaded_later Gives Later Early Late refused reached (ReadFault w) is = reached w.now is
+unloaded_later Gives Later Early Late refused reached WriteFault is = is
+unloaded_later Gives Later Early Late refused reached (Refused w line reason) is = refused (loading.Refused w.now line (reason_text reason)) is
+unloaded_later Gives Later Early Late refused reached (RefusedLine w line why) is = is
+unloaded_later Gives Later Early Late refused reached (TooLong w) is = refused (loading.TooLong w.now) is
 
--- the program isn't
-pub no_program : (name : List ℕ) (words : SiteWords) (file : Contents) (site : Site) (stop : Stop) → site_of words file ≡ Ok site → IsProgramFile name (file name) (Err stop) →
-    IsProgramLoad name words file (Err stop)
-no_program name words file site Memory first is = tt
-no_program name words file site (ReadFault w) first is = subst (λ n. ReachedAfterSite name words file n) (sym is) (ReachedAfterSite.at_last site first)
-no_program name words file site WriteFault first is = is
-no_program name words file site (Refused w line reason) first is = after_site name words file site (Err (loading.Refused w.now line (reason_text reason))) first is
-no_program name words file site (RefusedLine w line why) first is = is
-no_program name words file site (TooLong w) first is = after_site name words file site (Err (loading.TooLong w.now)) first is
+module _ {V : Type 0} (at : Site → V → Playing) (Judged : Result V Unloaded → Type 0) (name : List ℕ) (words : SiteWords) (file : Contents) where
+  after_no_site : (u : Unloaded) → site_of words file ≡ Err u → AfterSite at (site_of words file) Judged (Err u)
+  after_no_site u is = rw is refl
 
--- both are
-pub program_loaded : (name : List ℕ) (words : SiteWords) (file : Contents) (site : Site) (code : CodeOf) → site_of words file ≡ Ok site → IsProgramFile name (file name) (Ok code) →
-    (program : Program) × LoadsProgram name words file (Ok (program_at site program)) × Runs code program
-program_loaded name words file site code first is = (is.0, after_site name words file site (Ok is.0) first is.1, is.2)
+  -- the site isn't taken
+  pub no_site : (stop : Stop) → IsLoadStop (λ w. ReachedInSite words file w) stop (site_of words file) →
+      IsUnloadedBy (λ r. AfterSite at (site_of words file) Judged r) (λ w. ReachedAfterSite name words file w) stop
+  no_site stop is =
+      unloaded_later (λ r. site_of words file ≡ r) (λ r. AfterSite at (site_of words file) Judged r) (λ w. ReachedInSite words file w) (λ w. ReachedAfterSite name words file w)
+      after_no_site (λ w reached. ReachedAfterSite.at_site w reached) stop is
+
+  after_site : (site : Site) (v : Result V Unloaded) → site_of words file ≡ Ok site → Judged v → AfterSite at (site_of words file) Judged (loading.map_ok (at site) v)
+  after_site site v is judged = rw is (v, judged, refl)
+
+  -- the file isn't
+  pub no_last : (site : Site) (stop : Stop) → site_of words file ≡ Ok site → IsUnloadedBy Judged (λ w. w ≡ name) stop →
+      IsUnloadedBy (λ r. AfterSite at (site_of words file) Judged r) (λ w. ReachedAfterSite name words file w) stop
+  no_last site stop first is =
+      unloaded_later Judged (λ r. AfterSite at (site_of words file) Judged r) (λ w. w ≡ name) (λ w. ReachedAfterSite name words file w)
+      (λ u judged. after_site site (Err u) first judged)
+      (λ w is. subst (λ n. ReachedAfterSite name words file n) (sym is) (ReachedAfterSite.at_last site first)) stop is
+
+  -- both are
+  pub last_taken : (site : Site) (v : V) → site_of words file ≡ Ok site → Judged (Ok v) → AfterSite at (site_of words file) Judged (Ok (at site v))
+  last_taken site v first judged = after_site site (Ok v) first judged

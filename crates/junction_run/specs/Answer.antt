@@ -6,9 +6,11 @@ use Rattle.sig_io.specs.Outside.{Contents}
 use Rattle.sig_io.specs.Draft.{IsCut}
 use Rattle.det_stream.specs.declared.refusal.StreamWhy.{StreamWhy}
 use Rattle.det_stream.specs.Stream.{Stream, stream_of}
+use Rattle.vap_ast.specs.Syntax.{Program}
 use Rattle.junction_run.specs.declared.status.Status.{Status}
 use Rattle.junction_run.specs.declared.status.Status.TheVariants as status
-use Rattle.junction_run.specs.Form.{Form, Run}
+use Rattle.junction_run.specs.Codes.{IsCompiled}
+use Rattle.junction_run.specs.Form.{Form, Run, Compile, Exec}
 use Rattle.junction_run.specs.Loading.{Unloaded, TooLong, Refused, Loaded, Loads, Playing}
 use Rattle.junction_run.specs.Reasons.{stream_reason}
 use Rattle.junction_run.specs.Records.{log_of}
@@ -60,10 +62,30 @@ log_answer detectors playing stream = record {
   note = stream_note detectors stream.refusal;
 }
 
+-- the text of a code that does what the program does, in one piece, and no byte before the last read
+abbrev pub code_answer : Program → Answer
+code_answer program = record {
+  status = status.Done;
+  Gained = λ k text. IsCompiled program text;
+  pieces = 1;
+  before_reads = 0;
+  note = [];
+}
+
+-- the answer to a form that works on this
+abbrev pub loaded_answer : (form : Form) → Contents → Loaded form → Answer
+loaded_answer (Run program site detectors) file playing = log_answer detectors playing (stream_of (file detectors))
+loaded_answer (Compile program) file source = code_answer source
+loaded_answer (Exec code site detectors) file playing = log_answer detectors playing (stream_of (file detectors))
+
+-- this answer, or that to the first file that is not as it must be
+abbrev pub answered : {A : Type 0} → (A → Answer) → Result A Unloaded → Answer
+answered loaded_to (Ok loaded) = loaded_to loaded
+answered loaded_to (Err unloaded) = unloaded_answer unloaded
+
 -- the answer to a form over these files, which give this
 abbrev pub answer_to : (form : Form) → Contents → Result (Loaded form) Unloaded → Answer
-answer_to form file (Err unloaded) = unloaded_answer unloaded
-answer_to (Run program site detectors) file (Ok playing) = log_answer detectors playing (stream_of (file detectors))
+answer_to form file r = answered (loaded_answer form file) r
 
 -- the text after so many pieces, none at first
 abbrev pub GainedBy : (ℕ → List ℕ → Type 0) → ℕ → List ℕ → Type 0
@@ -74,32 +96,35 @@ GainedBy Gained (suc k) text = Gained k text
 abbrev pub Gains : Answer → ℕ → Option (List ℕ) → Option (List ℕ) → Type 0
 Gains a k old new = (text : List ℕ) × GainedBy a.Gained k text × (new ≡ append_known old text)
 
+-- ---- what a command may answer, by what its files give and by the answer to that
+
 -- the answer's own: the files give it, its status is this one, and out gained the whole text
-abbrev pub IsAnswered : Form → Contents → Status → Option (List ℕ) → Option (List ℕ) → Type 0
-IsAnswered form file status old new =
-    (r : Result (Loaded form) Unloaded) × Loads form file r × ((answer_to form file r).status ≡ status)
-    × Gains (answer_to form file r) (answer_to form file r).pieces old new
+abbrev pub IsAnswered : {A : Type 0} → (Result A Unloaded → Type 0) → (Result A Unloaded → Answer) → Status → Option (List ℕ) → Option (List ℕ) → Type 0
+IsAnswered {A} Gives answer status old new =
+    (r : Result A Unloaded) × Gives r × ((answer r).status ≡ status) × Gains (answer r) (answer r).pieces old new
 
 -- broken off before a read: out gained nothing, or the files give an answer and out gained some of its pieces
-abbrev pub IsBroken : Form → Contents → Option (List ℕ) → Option (List ℕ) → Type 0
-IsBroken form file old new =
-    (new ≡ old)
-    ⊎ ((r : Result (Loaded form) Unloaded) × Loads form file r × (k : ℕ) × (k ≤ (answer_to form file r).before_reads)
-    × Gains (answer_to form file r) k old new)
+abbrev pub IsBroken : {A : Type 0} → (Result A Unloaded → Type 0) → (Result A Unloaded → Answer) → Option (List ℕ) → Option (List ℕ) → Type 0
+IsBroken {A} Gives answer old new =
+    (new ≡ old) ⊎ ((r : Result A Unloaded) × Gives r × (k : ℕ) × (k ≤ (answer r).before_reads) × Gains (answer r) k old new)
 
 -- cut off: out gained a front of the whole text, and not all of it
-abbrev pub IsCutOff : Form → Contents → Option (List ℕ) → Option (List ℕ) → Type 0
-IsCutOff form file old new =
-    (r : Result (Loaded form) Unloaded) × Loads form file r
-    × (text : List ℕ) × GainedBy (answer_to form file r).Gained (answer_to form file r).pieces text × (n : ℕ) × IsCut old new n text
+abbrev pub IsCutOff : {A : Type 0} → (Result A Unloaded → Type 0) → (Result A Unloaded → Answer) → Option (List ℕ) → Option (List ℕ) → Type 0
+IsCutOff {A} Gives answer old new =
+    (r : Result A Unloaded) × Gives r
+    × (text : List ℕ) × GainedBy (answer r).Gained (answer r).pieces text × (n : ℕ) × IsCut old new n text
 
--- The status of a form, with what out has gained: the answer's own, or want of memory, or a fault on the way.
+-- A status, with what out has gained: the answer's own, or want of memory, or a fault on the way.
+abbrev pub MeetsBy : {A : Type 0} → (Result A Unloaded → Type 0) → (Result A Unloaded → Answer) → Status → Option (List ℕ) → Option (List ℕ) → Type 0
+MeetsBy Gives answer status.Done old new = IsAnswered Gives answer status.Done old new
+MeetsBy Gives answer status.Memory old new = new ≡ old
+MeetsBy Gives answer status.Words old new = ⊥
+MeetsBy Gives answer status.ReadFault old new = IsBroken Gives answer old new
+MeetsBy Gives answer status.WriteFault old new = IsCutOff Gives answer old new
+MeetsBy Gives answer status.RefusedFile old new = IsAnswered Gives answer status.RefusedFile old new
+MeetsBy Gives answer status.RefusedLine old new = IsAnswered Gives answer status.RefusedLine old new
+MeetsBy Gives answer status.TooLong old new = IsAnswered Gives answer status.TooLong old new
+
+-- the status of a form over these files, with what out has gained
 abbrev pub Meets : Form → Contents → Status → Option (List ℕ) → Option (List ℕ) → Type 0
-Meets form file status.Done old new = IsAnswered form file status.Done old new
-Meets form file status.Memory old new = new ≡ old
-Meets form file status.Words old new = ⊥
-Meets form file status.ReadFault old new = IsBroken form file old new
-Meets form file status.WriteFault old new = IsCutOff form file old new
-Meets form file status.RefusedFile old new = IsAnswered form file status.RefusedFile old new
-Meets form file status.RefusedLine old new = IsAnswered form file status.RefusedLine old new
-Meets form file status.TooLong old new = IsAnswered form file status.TooLong old new
+Meets form file status old new = MeetsBy (Loads form file) (answer_to form file) status old new

@@ -2,10 +2,12 @@
 use Rattle.junction_run.specs.declared.form.SiteWords.{SiteWords as Words}
 use Rattle.junction_run.specs.declared.form.Form.{Form as Asked}
 use Rattle.junction_run.specs.declared.form.Form.TheVariants as asked
-use Rattle.junction_run.specs.Form.{SiteWords, Form, Run}
+use Rattle.junction_run.specs.Form.{SiteWords, Form, Run, Compile, Exec}
 
 abbrev pub site_in : Words → SiteWords
 site_in words = record { plan = words.plan.now; times = words.times.now; intergreens = words.intergreens.now }
 
 abbrev pub form_in : Asked → Form
 form_in (asked.Run program site detectors) = Run program.now (site_in site) detectors.now
+form_in (asked.Compile program) = Compile program.now
+form_in (asked.Exec code site detectors) = Exec code.now (site_in site) detectors.now

@@ -1,12 +1,12 @@
 -- Laws over the definitions alone.
-use Rattle.std.specs.Prelude.{◌≡◌, List, ℕ, Option, Result, Ok, Err, ◌⊎◌}
+use Rattle.std.specs.Prelude.{◌≡◌, List, ℕ, Option, IfSome, Result, Ok, Err, ◌⊎◌}
 use Rattle.sig_io.specs.Outside.{Contents}
 use Rattle.sig_types.specs.Counts.{Counts}
 use Rattle.controller.specs.Guarded.{IsGuardedRun}
 use Rattle.junction_run.specs.declared.status.Status.{Status}
 use Rattle.junction_run.specs.declared.status.Status.TheVariants.{Done, Memory, ReadFault, WriteFault, RefusedFile, TooLong}
-use Rattle.junction_run.specs.Form.{SiteWords, Form}
-use Rattle.junction_run.specs.Loading.{Unloaded, Playing, LoadsProgram, Loaded, Loads}
+use Rattle.junction_run.specs.Form.{Form}
+use Rattle.junction_run.specs.Loading.{Unloaded, Loaded, Loads, plays}
 use Rattle.junction_run.specs.Answer.{answer_to, Meets}
 
 -- files give one thing
@@ -26,8 +26,8 @@ RefusedOnlyWhere =
     (form : Form) (file : Contents) (old new : Option (List ℕ)) →
     (Meets form file RefusedFile old new → (u : Unloaded) × Loads form file (Err u)) × (Meets form file TooLong old new → (u : Unloaded) × Loads form file (Err u))
 
--- whatever program and site the files give, every run of the program at the site is guarded, for all frames
+-- whatever a form plays of what its files give, every run of it is guarded, for all frames
 abbrev pub LoadedRunsAreGuarded : Type 0
 LoadedRunsAreGuarded =
-    (program : List ℕ) (words : SiteWords) (file : Contents) (playing : Playing) (frames : List Counts) → LoadsProgram program words file (Ok playing) →
-    IsGuardedRun playing.logic playing.site playing.store frames
+    (form : Form) (file : Contents) (loaded : Loaded form) (frames : List Counts) → Loads form file (Ok loaded) →
+    IfSome (plays form loaded) (λ playing. IsGuardedRun playing.logic playing.site playing.store frames)

@@ -1,5 +1,6 @@
 pub mod Answer
 pub mod Answers
+pub mod Codes
 pub mod Ended
 pub mod Form
 pub mod FormWords

@@ -11,10 +11,14 @@ use Rattle.sig_tables.specs.SiteRules.{rules_by}
 use Rattle.sig_tables.specs.TimesTable.{times_refusal, times_of}
 use Rattle.sig_tables.specs.IntergreenTable.{intergreens_refusal, intergreen_of}
 use Rattle.controller.specs.Past.{Site}
-use Rattle.junction_run.specs.Form.{SiteWords, Form, Run}
+use Rattle.junction_run.specs.Codes.{CodeIs}
+use Rattle.junction_run.specs.Form.{SiteWords, Form, Run, Compile, Exec}
 use Rattle.junction_run.specs.Programs.{ProgramIs, logic_of, store_of}
 use Rattle.junction_run.specs.Reasons.{plan_reason, table_reason}
 use Rattle.vap_ast.specs.Syntax.{Program}
+use Rattle.vap_code.specs.Codes.{CodeOf}
+use Rattle.vap_code.specs.Machine.{machine}
+use Rattle.vap_vm.specs.Passes as machines
 
 -- the first file that is not as it must be, by its word: too long, or refused at a line for a reason
 pub data Unloaded : Type 0 where
@@ -28,6 +32,10 @@ Refusal = ℕ × List ℕ
 -- the bytes that a text may have
 abbrev pub text_limit : ℕ
 text_limit = 1048576
+
+-- and those of a code file
+abbrev pub code_limit : ℕ
+code_limit = 2097152
 
 -- ---- the site
 
@@ -72,7 +80,7 @@ site_of words file = do
   between ← intergreens_at file words.intergreens plan
   Ok (record { plan = plan; rules = rules_by times between })
 
--- ---- the program
+-- ---- a program or a code
 
 -- a file is measured, and then judged: `Is` tells the value of its bytes, or the line and the reason of a refusal
 pub data IsJudged {V : Type 0} (Is : List ℕ → Result V Refusal → Type 0) (limit : ℕ) (word bytes : List ℕ) : Result V Unloaded → Type 0 where
@@ -91,6 +99,9 @@ pub record Playing : Type 0 where
 abbrev pub program_at : Site → Program → Playing
 program_at site program = record { logic = logic_of program; store = store_of program; site = site }
 
+abbrev pub code_at : Site → CodeOf → Playing
+code_at site code = record { logic = machine code; store = machines.first_store code; site = site }
+
 abbrev pub map_ok : {A B : Type 0} → (A → B) → Result A Unloaded → Result B Unloaded
 map_ok f (Ok x) = Ok (f x)
 map_ok f (Err u) = Err u
@@ -104,14 +115,28 @@ AfterSite {V} at (Ok site) Judged r = (v : Result V Unloaded) × Judged v × (r 
 abbrev pub LoadsProgram : (program : List ℕ) → SiteWords → Contents → Result Playing Unloaded → Type 0
 LoadsProgram program words file r = AfterSite program_at (site_of words file) (IsJudged ProgramIs text_limit program (file program)) r
 
+-- a code at a site
+abbrev pub LoadsCode : (code : List ℕ) → SiteWords → Contents → Result Playing Unloaded → Type 0
+LoadsCode code words file r = AfterSite code_at (site_of words file) (IsJudged CodeIs code_limit code (file code)) r
+
 -- what a form works on
 abbrev pub Loaded : Form → Type 0
 Loaded (Run program site detectors) = Playing
+Loaded (Compile program) = Program
+Loaded (Exec code site detectors) = Playing
+
+-- what a form plays of it, if anything
+abbrev pub plays : (form : Form) → Loaded form → Option Playing
+plays (Run program site detectors) playing = Some playing
+plays (Compile program) source = None
+plays (Exec code site detectors) playing = Some playing
 
 -- what the files of a form give, each of which is read, measured and judged before the next one: what the form works on, or
 -- the first file that is not as it must be
 abbrev pub Loads : (form : Form) → Contents → Result (Loaded form) Unloaded → Type 0
 Loads (Run program site detectors) file r = LoadsProgram program site file r
+Loads (Compile program) file r = IsJudged ProgramIs text_limit program (file program) r
+Loads (Exec code site detectors) file r = LoadsCode code site file r
 
 -- ---- which file is read
 
@@ -135,3 +160,6 @@ pub data ReachedInPlay (word : List ℕ) (words : SiteWords) (detectors : List �
 abbrev pub Reached : Form → Contents → List ℕ → Type 0
 Reached (Run program site detectors) file word =
     ReachedInPlay program site detectors file (λ playing. LoadsProgram program site file (Ok playing)) word
+Reached (Compile program) file word = word ≡ program
+Reached (Exec code site detectors) file word =
+    ReachedInPlay code site detectors file (λ playing. LoadsCode code site file (Ok playing)) word

@@ -1,13 +1,13 @@
 -- The notes.
-use Rattle.std.specs.Prelude.{◌≡◌, ℕ, ⊤, ◌++◌, [], List, Contains, Option, None, Some, Result, codes}
+use Rattle.std.specs.Prelude.{◌≡◌, ℕ, ⊤, ◌++◌, [], List, Contains, Result, codes}
 use Rattle.sig_io.specs.Outside.{Contents}
 use Rattle.junction_run.specs.declared.stop.Stop.{Stop}
 use Rattle.junction_run.specs.declared.stop.Stop.TheVariants.{Memory, ReadFault, WriteFault, Refused, RefusedLine, TooLong}
 use Rattle.junction_run.specs.declared.status.Status.{Status}
 use Rattle.junction_run.specs.declared.status.Status.TheVariants as status
 use Rattle.junction_run.specs.Form.{Form}
-use Rattle.junction_run.specs.Loading.{Unloaded, Loaded, Loads, Reached}
-use Rattle.junction_run.specs.Answer.{answer_to, note_of, line_note}
+use Rattle.junction_run.specs.Loading.{Unloaded, Loads, Reached}
+use Rattle.junction_run.specs.Answer.{Answer, answer_to, note_of, line_note}
 use Rattle.junction_run.specs.Reasons.{reason_text, stream_reason}
 
 -- the note of a stop
@@ -39,18 +39,21 @@ IsNote files status.RefusedLine note = NamesLine files note
 IsNote files status.TooLong note = NamesFile files (codes ": TooLong") note
 
 -- the note is that of the answer
-abbrev pub IsAnswersNote : Form → Contents → Status → List ℕ → Type 0
-IsAnswersNote form file status note =
-    (r : Result (Loaded form) Unloaded) × Loads form file r × ((answer_to form file r).status ≡ status) × (note ≡ (answer_to form file r).note)
+abbrev pub IsAnswersNote : {A : Type 0} → (Result A Unloaded → Type 0) → (Result A Unloaded → Answer) → Status → List ℕ → Type 0
+IsAnswersNote {A} Gives answer status note = (r : Result A Unloaded) × Gives r × ((answer r).status ≡ status) × (note ≡ (answer r).note)
 
--- The note of a status that tells of what the files hold: the answer's, and a file that can't be read is one that the form
+-- The note of a status that tells of what the files hold: the answer's, and a file that can't be read is one that the command
 -- comes to read.
+abbrev pub NoteMeetsBy : {A : Type 0} → (Result A Unloaded → Type 0) → (Result A Unloaded → Answer) → (List ℕ → Type 0) → Status → List ℕ → Type 0
+NoteMeetsBy Gives answer Reached status.Done note = ⊤
+NoteMeetsBy Gives answer Reached status.Memory note = ⊤
+NoteMeetsBy Gives answer Reached status.Words note = ⊤
+NoteMeetsBy Gives answer Reached status.ReadFault note = (word : List ℕ) × Reached word × (note ≡ note_of (word ++ codes ": ReadFault"))
+NoteMeetsBy Gives answer Reached status.WriteFault note = ⊤
+NoteMeetsBy Gives answer Reached status.RefusedFile note = IsAnswersNote Gives answer status.RefusedFile note
+NoteMeetsBy Gives answer Reached status.RefusedLine note = IsAnswersNote Gives answer status.RefusedLine note
+NoteMeetsBy Gives answer Reached status.TooLong note = IsAnswersNote Gives answer status.TooLong note
+
+-- the note of a form's status over these files
 abbrev pub NoteMeets : Form → Contents → Status → List ℕ → Type 0
-NoteMeets form file status.Done note = ⊤
-NoteMeets form file status.Memory note = ⊤
-NoteMeets form file status.Words note = ⊤
-NoteMeets form file status.ReadFault note = (word : List ℕ) × Reached form file word × (note ≡ note_of (word ++ codes ": ReadFault"))
-NoteMeets form file status.WriteFault note = ⊤
-NoteMeets form file status.RefusedFile note = IsAnswersNote form file status.RefusedFile note
-NoteMeets form file status.RefusedLine note = IsAnswersNote form file status.RefusedLine note
-NoteMeets form file status.TooLong note = IsAnswersNote form file status.TooLong note
+NoteMeets form file status note = NoteMeetsBy (Loads form file) (answer_to form file) (Reached form file) status note

@@ -1,7 +1,7 @@
 -- The text of a program.
-use Rattle.std.specs.Prelude.{ℕ, List, length, Result, Ok, Err}
-use Rattle.sig_types.specs.Pass.{Logic, Store}
-use Rattle.vap_ast.specs.Passes.{program_logic, first_store}
+use Rattle.std.specs.Prelude.{◌≡◌, ℕ, List, length, map, Result, Ok, Err}
+use Rattle.sig_types.specs.Pass.{Logic, Store, World}
+use Rattle.vap_ast.specs.Passes.{program_logic, first_store, FitsProgram}
 use Rattle.vap_ast.specs.Sound.{source_of}
 use Rattle.vap_ast.specs.Syntax.{Program}
 use Rattle.vap_lex.specs.declared.token.Token.{Token}
@@ -17,6 +17,8 @@ use Rattle.vap_check.specs.Accepted.{Accepted}
 use Rattle.vap_check.specs.Accepted as check
 use Rattle.vap_check.specs.Names.{timers, variables}
 use Rattle.vap_check.specs.Numbers.{names_of}
+use Rattle.vap_code.specs.Codes.{CodeOf}
+use Rattle.vap_code.specs.Machine.{machine}
 use Rattle.junction_run.specs.Reasons.{lex_reason, parse_reason, check_reason}
 
 -- A text is that of a program, by its tokens, their tree and its checks; or it is refused at a line: at the first place that
@@ -37,3 +39,12 @@ logic_of program = program_logic (source_of program (names_of program))
 -- the store before its first pass
 abbrev pub store_of : Program → Store
 store_of program = first_store (length (variables program)) (length (timers program)) program.arrays
+
+-- the code has the program's numbers of variables and timers, and its arrays with their values, and does in each pass what the
+-- program does
+pub record Runs (code : CodeOf) (program : Program) : Type 0 where
+  pub variables_are : code.vars ≡ length (variables program)
+  pub timers_are : code.timers ≡ length (timers program)
+  pub arrays_are : code.arrays ≡ map (λ a. a.values) program.arrays
+  pub same : (world : World) (s : Store) → FitsProgram (length (variables program)) (length (timers program)) program.arrays s
+      → machine code world s ≡ logic_of program world s

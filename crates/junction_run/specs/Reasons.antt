@@ -14,11 +14,15 @@ use Rattle.vap_check.specs.declared.refusal.CheckWhy.{CheckWhy}
 use Rattle.vap_check.specs.declared.refusal.CheckWhy.TheVariants as check
 use Rattle.vap_check.specs.declared.refusal.Which.{Which}
 use Rattle.vap_check.specs.declared.refusal.Which.TheVariants as which
+use Rattle.code_file.specs.declared.refusal.CodeWhy.{CodeWhy}
+use Rattle.code_file.specs.declared.refusal.CodeWhy.TheVariants as code
+use Rattle.vap_code.specs.declared.VerifyWhy.{VerifyWhy}
+use Rattle.vap_code.specs.declared.VerifyWhy.TheVariants as verify
 use Rattle.det_stream.specs.declared.refusal.StreamWhy.{StreamWhy}
 use Rattle.det_stream.specs.declared.refusal.StreamWhy.TheVariants as stream
 use Rattle.junction_run.specs.declared.reasons.Told.{Told}
 use Rattle.junction_run.specs.declared.stop.Reason.{Reason}
-use Rattle.junction_run.specs.declared.stop.Reason.TheVariants.{Pua, Table, Lex, Parse, Check}
+use Rattle.junction_run.specs.declared.stop.Reason.TheVariants.{Pua, Table, Lex, Parse, Check, Code, Verify}
 
 -- the reason of a refused plan; an inconsistent interstage with its number and the group's name
 abbrev pub plan_reason : PuaWhy → List ℕ
@@ -81,6 +85,27 @@ check_reason (check.Limit too_many) = codes "Limit " ++ which_name too_many
 check_reason check.StatementTooLong = codes "StatementTooLong"
 check_reason check.ProgramTooLong = codes "ProgramTooLong"
 
+-- the reason of a text that is no code
+abbrev pub code_reason : CodeWhy → List ℕ
+code_reason code.Header = codes "Header"
+code_reason code.Line = codes "Line"
+code_reason code.Range = codes "Range"
+code_reason code.MissingEnd = codes "MissingEnd"
+code_reason code.Limit = codes "Limit"
+
+-- the reason of a code that is not valid
+abbrev pub verify_reason : VerifyWhy → List ℕ
+verify_reason verify.JumpOut = codes "JumpOut"
+verify_reason verify.BackToNoTick = codes "BackToNoTick"
+verify_reason verify.Height = codes "Height"
+verify_reason verify.Slot = codes "Slot"
+verify_reason verify.CallOrder = codes "CallOrder"
+verify_reason verify.EdgeToNoTick = codes "EdgeToNoTick"
+verify_reason verify.FallsOff = codes "FallsOff"
+verify_reason verify.Stretch = codes "Stretch"
+verify_reason verify.Shape = codes "Shape"
+verify_reason verify.Commands = codes "Commands"
+
 -- the reason of a refused detector line, with the detector that it speaks of
 abbrev pub stream_reason : StreamWhy → List ℕ
 stream_reason stream.Entry = codes "Entry"
@@ -98,6 +123,8 @@ reason_text (Table why plan) = table_reason plan.names why
 reason_text (Lex why) = lex_reason why
 reason_text (Parse why) = parse_reason why
 reason_text (Check why) = check_reason why
+reason_text (Code why) = code_reason why
+reason_text (Verify why) = verify_reason why
 
 -- the text of the pieces of a reason
 abbrev pub told_text : Told → List ℕ

@@ -1,5 +1,5 @@
 -- The log of what is played.
-use Rattle.std.specs.Prelude.{ℕ, zero, suc, List, [], take}
+use Rattle.std.specs.Prelude.{ℕ, List}
 use Rattle.sig_types.specs.Counts.{Counts}
 use Rattle.sig_types.specs.declared.record.Record.{Record}
 use Rattle.controller.specs.Past.{opening}

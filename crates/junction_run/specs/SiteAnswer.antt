@@ -8,7 +8,8 @@ use Rattle.junction_run.specs.declared.status.Status.TheVariants as status
 use Rattle.junction_run.specs.Answer.{unloaded_answer, note_of}
 use Rattle.junction_run.specs.Form.{SiteWords}
 use Rattle.junction_run.specs.Loading.{Unloaded, LoadsProgram, program_at, ReachedAfterSite}
-use Rattle.junction_run.specs.Sites.{site_in, Runs}
+use Rattle.junction_run.specs.Programs.{Runs}
+use Rattle.junction_run.specs.Sites.{site_in}
 
 -- the names of the program, the PUA file, the times and the intergreens: of the program
 abbrev pub program_named : List (List ℕ) → List ℕ

@@ -51,15 +51,19 @@ abbrev pub StopsWith : {A : Type 0} → Status → Result A Stop → Type 0
 StopsWith status (Ok x) = ⊥
 StopsWith status (Err stop) = status_of stop ≡ status
 
--- Loading stopped so, where the files give this and these can be read: a refusal is that of the files, and a file that
--- failed is one that loading comes to.
+-- Loading stopped so, where this tells what the files give, and these can be read: a refusal is that of the files, and a file
+-- that failed is one that loading comes to.
+abbrev pub IsUnloadedBy : {A : Type 0} → (Result A Unloaded → Type 0) → (List ℕ → Type 0) → Stop → Type 0
+IsUnloadedBy Gives Reached Memory = Unit {0}
+IsUnloadedBy Gives Reached (ReadFault word) = Reached word.now
+IsUnloadedBy Gives Reached WriteFault = ⊥
+IsUnloadedBy Gives Reached (Refused word line reason) = Gives (Err (RefusedFile word.now line (reason_text reason)))
+IsUnloadedBy Gives Reached (RefusedLine word line why) = ⊥
+IsUnloadedBy Gives Reached (TooLong word) = Gives (Err (LongFile word.now))
+
+-- the same, where the files give this
 abbrev pub IsLoadStop : {A : Type 0} → (List ℕ → Type 0) → Stop → Result A Unloaded → Type 0
-IsLoadStop Reached Memory loading = Unit {0}
-IsLoadStop Reached (ReadFault word) loading = Reached word.now
-IsLoadStop Reached WriteFault loading = ⊥
-IsLoadStop Reached (Refused word line reason) loading = loading ≡ Err (RefusedFile word.now line (reason_text reason))
-IsLoadStop Reached (RefusedLine word line why) loading = ⊥
-IsLoadStop Reached (TooLong word) loading = loading ≡ Err (LongFile word.now)
+IsLoadStop Reached stop loading = IsUnloadedBy (λ r. loading ≡ r) Reached stop
 
 -- Loading answered so, where the files give this: its value, seen by a view, or a stop.
 abbrev pub IsLoading : {A B : Type 0} → (List ℕ → Type 0) → (A → B) → Result A Stop → Result B Unloaded → Type 0
@@ -75,7 +79,16 @@ IsUnread limit bytes (Refused word line reason) = ⊥
 IsUnread limit bytes (RefusedLine word line why) = ⊥
 IsUnread limit bytes (TooLong word) = limit < length bytes
 
--- a text is refused
+-- a text is refused, where `Is` tells the value of its bytes, or the line and the reason of its refusal
+abbrev pub IsRefusedBy : {V : Type 0} → (List ℕ → Result V Refusal → Type 0) → List ℕ → Stop → Type 0
+IsRefusedBy Is bytes Memory = Unit {0}
+IsRefusedBy Is bytes (ReadFault word) = ⊥
+IsRefusedBy Is bytes WriteFault = ⊥
+IsRefusedBy Is bytes (Refused word line reason) = Is bytes (Err (line, reason_text reason))
+IsRefusedBy Is bytes (RefusedLine word line why) = ⊥
+IsRefusedBy Is bytes (TooLong word) = ⊥
+
+-- a text is refused, where this is its refusal
 abbrev pub IsRefusedText : Stop → Option Refusal → Type 0
 IsRefusedText Memory refusal = Unit {0}
 IsRefusedText (ReadFault word) refusal = ⊥

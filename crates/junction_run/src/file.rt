@@ -12,6 +12,9 @@ use std::alloc::Global;
 /// The bytes that a text may have.
 pub(crate) const TEXT_LIMIT: usize = 1048576;
 
+/// The bytes that a code file may have.
+pub(crate) const CODE_LIMIT: usize = 2097152;
+
 /// Reads a file within its limit.
 pub(crate) fn read_file<'a, F: Files>(
     alloc: Global,

@@ -1,11 +1,12 @@
 //! What follows from the definitions of what the files give and of an answer: each law is a clause of a call that does nothing.
 ghost use Rattle.junction_run.specs.Laws.{LoadsOnce, IsComplete, RefusedOnlyWhere, LoadedRunsAreGuarded};
 
+use code_verify::one_check_is_first;
 use vap_check::one_answer;
 
 /// Files give one thing; where they are accepted and the answer is Done, nothing else is answered but for want of memory and
-/// faults; a file is refused only where the files give that; and each run of a program that the files give, at the site that
-/// they give, is guarded: its pictures are safe, and each refusal names the very rule that would be broken.
+/// faults; a file is refused only where the files give that; and each run of a program or a code that the files give, at the
+/// site that they give, is guarded: its pictures are safe, and each refusal names the very rule that would be broken.
 pub fn answers_are_right()
     ensures once { LoadsOnce }
     ensures complete { IsComplete }
@@ -13,4 +14,5 @@ pub fn answers_are_right()
     ensures guarded { LoadedRunsAreGuarded }
 {
     one_answer();
+    one_check_is_first();
 }

@@ -2,10 +2,13 @@
 //!
 //! `specs/Answers` has the clause of the top call in one record. `specs/Form` says what the words ask for, `specs/Loading` what
 //! the files give, `specs/Answer` what is answered with ample memory and where nothing fails, and what a call may answer in its
-//! place; `specs/Programs` when a text is a program, `specs/Records` which log is written, `specs/Guarded` which rules it keeps,
-//! and `specs/Notes` and `specs/Reasons` have the notes.
+//! place; `specs/Programs` when a text is a program, `specs/Codes` when it is a code and which text compiling gives,
+//! `specs/Records` which log is written, `specs/Guarded` which rules it keeps, and `specs/Notes` and `specs/Reasons` have the
+//! notes.
 #![tactic(auto)]
 
+mod code;
+mod compile;
 mod file;
 mod form;
 pub mod laws;
@@ -18,7 +21,8 @@ mod run;
 mod site;
 mod status;
 mod stop;
+mod top;
 
 pub use load::{Site, load_site};
-pub use run::junction;
 pub use status::{Status, exit_status};
+pub use top::junction;

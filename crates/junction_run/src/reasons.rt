@@ -1,8 +1,10 @@
 // Why a file is refused, as a note tells it.
 ghost use Rattle.std.specs.Prelude.{◌≡◌, ◌++◌, codes};
-ghost use Rattle.junction_run.specs.Reasons.{name_of, plan_reason, table_reason, lex_reason, parse_reason, which_name, check_reason, stream_reason, reason_text, told_text};
+ghost use Rattle.junction_run.specs.Reasons.{name_of, plan_reason, table_reason, lex_reason, parse_reason, which_name, check_reason, code_reason, verify_reason, stream_reason, reason_text, told_text};
 
 use crate::stop::Reason;
+use code_file::CodeWhy;
+use code_verify::VerifyWhy;
 use det_stream::StreamWhy;
 use itoa::Buffer;
 use pua_model::Plan;
@@ -159,6 +161,35 @@ fn check_reason<'x>(why: CheckWhy) -> Told<'x>
     }
 }
 
+fn code_reason<'x>(why: CodeWhy) -> Told<'x>
+    ensures { told_text result ≡ code_reason why }
+{
+    match why {
+        CodeWhy::Header => only(b"Header"),
+        CodeWhy::Line => only(b"Line"),
+        CodeWhy::Range => only(b"Range"),
+        CodeWhy::MissingEnd => only(b"MissingEnd"),
+        CodeWhy::Limit => only(b"Limit"),
+    }
+}
+
+fn verify_reason<'x>(why: VerifyWhy) -> Told<'x>
+    ensures { told_text result ≡ verify_reason why }
+{
+    match why {
+        VerifyWhy::JumpOut => only(b"JumpOut"),
+        VerifyWhy::BackToNoTick => only(b"BackToNoTick"),
+        VerifyWhy::Height => only(b"Height"),
+        VerifyWhy::Slot => only(b"Slot"),
+        VerifyWhy::CallOrder => only(b"CallOrder"),
+        VerifyWhy::EdgeToNoTick => only(b"EdgeToNoTick"),
+        VerifyWhy::FallsOff => only(b"FallsOff"),
+        VerifyWhy::Stretch => only(b"Stretch"),
+        VerifyWhy::Shape => only(b"Shape"),
+        VerifyWhy::Commands => only(b"Commands"),
+    }
+}
+
 /// The pieces of the reason of a refused detector line.
 pub(crate) fn stream_reason<'x>(why: StreamWhy, digits: &'x mut Buffer) -> Told<'x>
     ensures { told_text result ≡ stream_reason why }
@@ -186,5 +217,7 @@ pub(crate) fn reason<'x>(reason: &'x Reason, digits: &'x mut Buffer) -> Told<'x>
         Reason::Lex(why) => lex_reason(*why),
         Reason::Parse(why) => parse_reason(*why),
         Reason::Check(why) => check_reason(*why),
+        Reason::Code(why) => code_reason(*why),
+        Reason::Verify(why) => verify_reason(*why),
     }
 }

@@ -1,4 +1,4 @@
-use Rattle.std.proofs.Common.{◌≡◌, ◌∙◌, ◌++◌, ◌∷◌, [], List, ℕ, Err, sym, subst}
+use Rattle.std.proofs.Common.{◌∙◌, ◌++◌, ◌∷◌, [], List, ℕ, Err, sym, subst}
 use Rattle.junction_run.specs.Form.{SiteWords, site_files}
 use Rattle.junction_run.specs.FormWords.{site_in}
 use Rattle.junction_run.specs.Notes.{IsNote, stop_note}

@@ -1,23 +1,31 @@
-use Rattle.std.proofs.Common.{◌≡◌, ◌∙◌, ◌<◌, ◌++◌, ◌∷◌, [], ℕ, List, arith, refl}
-use Rattle.junction_run.specs.Form.{SiteWords, site_files}
+use Rattle.std.proofs.Common.{◌∙◌, ◌<◌, ◌++◌, ◌∷◌, [], arith, refl}
+use Rattle.junction_run.specs.Form.{site_files}
 use Rattle.junction_run.specs.FormWords.{site_in}
+use Rattle.junction_run.specs.Loading.{IsJudged, text_limit, program_at}
+use Rattle.junction_run.specs.Programs.{ProgramIs}
 use Rattle.junction_run.specs.Sites.{site_of_tables}
 use Rattle.junction_run.proofs.Ends.{among, among_more}
-use Rattle.junction_run.proofs.Texts.{no_site, no_program, program_loaded}
+use Rattle.junction_run.proofs.Texts.{no_site, no_last, last_taken}
 use Rattle.junction_run.proofs.load.load_program.Goals as goal
 
 pub returns-in-Err-clause-loaded : goal.returns-in-Err-clause-loaded
-returns-in-Err-clause-loaded g c = λ file e. no_site c.args.program.now (site_in c.args.words.now) file c.in-Err.stop (c.in-Err.ensures.site file e)
+returns-in-Err-clause-loaded g c = λ file e.
+    no_site program_at (IsJudged ProgramIs text_limit c.args.program.now (file c.args.program.now)) c.args.program.now (site_in c.args.words.now) file c.in-Err.stop (c.in-Err.ensures.site file e)
 
 pub returns-in-Err-clause-word : goal.returns-in-Err-clause-word
 returns-in-Err-clause-word g c = among_more (site_files (site_in c.args.words.now)) (c.args.program.now ∷ []) c.in-Err.stop c.in-Err.ensures.word
 
 pub returns-in-Err-take_program-clause-loaded : goal.returns-in-Err-take_program-clause-loaded
 returns-in-Err-take_program-clause-loaded g c = λ file e.
-    no_program c.args.program.now (site_in c.args.words.now) file (site_of_tables c.in-Ok.tables) c.in-Err-take_program.stop (c.in-Ok.ensures.site file e)
+    no_last program_at (IsJudged ProgramIs text_limit c.args.program.now (file c.args.program.now)) c.args.program.now (site_in c.args.words.now) file (site_of_tables c.in-Ok.tables) c.in-Err-take_program.stop (c.in-Ok.ensures.site file e)
     (c.in-Err-take_program.ensures.program file (c.take_site.ensures.contents_stay ∙ e))
 
 pub returns-in-Err-take_program-clause-word : goal.returns-in-Err-take_program-clause-word
 returns-in-Err-take_program-clause-word g c =
     let third : 3 < 4 = omega arith in
     among (site_files (site_in c.args.words.now) ++ c.args.program.now ∷ []) c.args.program.now c.in-Err-take_program.stop (3, third, refl) c.in-Err-take_program.ensures.word
+
+pub returns-in-Ok-take_program-clause-loaded : goal.returns-in-Ok-take_program-clause-loaded
+returns-in-Ok-take_program-clause-loaded g c = λ file e.
+    let taken = c.in-Ok-take_program.ensures.program file (c.take_site.ensures.contents_stay ∙ e) in
+    (taken.0, last_taken program_at (IsJudged ProgramIs text_limit c.args.program.now (file c.args.program.now)) c.args.program.now (site_in c.args.words.now) file (site_of_tables c.in-Ok.tables) taken.0 (c.in-Ok.ensures.site file e) taken.1, taken.2)

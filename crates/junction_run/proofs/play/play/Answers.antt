@@ -1,6 +1,5 @@
 use Rattle.std.proofs.Common.{◌≡◌, ◌∙◌, List, ℕ, Option, [], ap, sym, subst}
 use Rattle.sig_io.specs.Draft.{IsDraft}
-use Rattle.sig_types.specs.Pass.{Store}
 use Rattle.controller.specs.Controls.{site_of}
 use Rattle.det_stream.specs.Answers.{name_of}
 use Rattle.det_stream.specs.Stream.{stream_of}

@@ -1,13 +1,12 @@
-use Rattle.std.proofs.Common.{◌≡◌, ◌∙◌, ◌++◌, ◌∷◌, [], List, Ok, Err, ap, sym, subst, refl, arith}
-use Rattle.sig_types.specs.Counts.{Counts, Takes}
-use Rattle.controller.specs.Controls.{StandsFor, site_of}
-use Rattle.det_stream.specs.Answers.{Gave, Reads, IsNext, name_of, frame_in}
+use Rattle.std.proofs.Common.{◌∙◌, ◌++◌, ◌∷◌, [], Ok, Err, ap, sym, subst, refl, arith}
+use Rattle.sig_types.specs.Counts.{Takes}
+use Rattle.det_stream.specs.Answers.{Gave, Reads, IsNext, name_of}
 use Rattle.det_stream.proofs.Steps.{reads_front}
 use Rattle.junction_run.specs.Loading.{Playing}
 use Rattle.junction_run.specs.Played.{playing_of}
 use Rattle.junction_run.proofs.Ends.{fails_on}
 use Rattle.junction_run.proofs.Logs.{past_at}
-use Rattle.junction_run.proofs.Plays.{Underway, one_more, takes_next}
+use Rattle.junction_run.proofs.Plays.{one_more, takes_next}
 use Rattle.junction_run.proofs.play.put_seconds.Goals as goal
 
 pub returns-in-Ok-false-clause-played : goal.returns-in-Ok-false-clause-played

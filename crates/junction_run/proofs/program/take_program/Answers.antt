@@ -1,9 +1,12 @@
 use Rattle.std.proofs.Common.{◌≤◌, ◌∙◌, ℕ, List, length, sym, subst}
-use Rattle.junction_run.proofs.Texts.{unread_program, program_file}
+use Rattle.junction_run.specs.Loading.{text_limit}
+use Rattle.junction_run.specs.Programs.{ProgramIs}
+use Rattle.junction_run.proofs.Texts.{unread_file, program_file}
 use Rattle.junction_run.proofs.program.take_program.Goals as goal
 
 pub returns-in-Err-clause-program : goal.returns-in-Err-clause-program
-returns-in-Err-clause-program g c = λ file e. unread_program c.args.word.now (file c.args.word.now) c.in-Err.stop (c.in-Err.ensures.unread file e) c.in-Err.ensures.word
+returns-in-Err-clause-program g c = λ file e.
+    unread_file ProgramIs text_limit c.args.word.now (file c.args.word.now) c.in-Err.stop (c.in-Err.ensures.unread file e) c.in-Err.ensures.word
 
 pub returns-clause-program : goal.returns-clause-program
 returns-clause-program g c = λ file e.

@@ -1,11 +1,10 @@
-use Rattle.std.proofs.Common.{◌≡◌, ◌∙◌, ◌<◌, ap, subst, arith, refl, sym, Ok, Err, List, ℕ, [], ◌∷◌}
-use Rattle.pua_model.specs.Plan.{PlanOf}
+use Rattle.std.proofs.Common.{◌≡◌, ◌∙◌, ◌<◌, subst, arith, refl}
 use Rattle.junction_run.specs.Form.{SiteWords, site_files}
 use Rattle.junction_run.specs.FormWords.{site_in}
 use Rattle.junction_run.specs.Loading.{intergreens_at}
 use Rattle.junction_run.specs.Stop.{IsLoadStop}
 use Rattle.junction_run.proofs.Ends.{among}
-use Rattle.junction_run.proofs.Loads.{no_plan, no_times, no_intergreens, site_taken}
+use Rattle.junction_run.proofs.Loads.{no_plan, no_times, no_intergreens}
 use Rattle.junction_run.proofs.site.take_site.Goals as goal
 
 pub returns-in-Err-clause-site : goal.returns-in-Err-clause-site

@@ -1,12 +1,11 @@
 use Rattle.std.proofs.Common.{◌≡◌, ◌∙◌, [], sym, subst, refl}
-use Rattle.junction_run.specs.declared.status.Status.TheVariants.{Done, Words, ReadFault, WriteFault}
 use Rattle.junction_run.specs.Answer.{Meets}
 use Rattle.junction_run.specs.Form.{Form, files_of}
 use Rattle.junction_run.specs.FormWords.{form_in}
 use Rattle.junction_run.specs.Notes.{IsNote, NoteMeets, stop_note}
 use Rattle.junction_run.specs.Stop.{status_of}
 use Rattle.junction_run.proofs.Ends.{append_known-nil, note_is, no_words}
-use Rattle.junction_run.proofs.run.answer_form.Goals as goal
+use Rattle.junction_run.proofs.top.answer_form.Goals as goal
 
 pub returns-in-Ok-clause-answer : goal.returns-in-Ok-clause-answer
 returns-in-Ok-clause-answer g c = record {

@@ -2,7 +2,7 @@ use Rattle.std.proofs.Common.{List, ℕ, sym, subst, refl}
 use Rattle.sig_io.specs.Outside.{Contents}
 use Rattle.junction_run.specs.declared.status.Status.TheVariants.{Words}
 use Rattle.junction_run.specs.Answers.{AnswersTo, Seen}
-use Rattle.junction_run.proofs.run.junction.Goals as goal
+use Rattle.junction_run.proofs.top.junction.Goals as goal
 
 pub returns-in-Some-clause-answers : goal.returns-in-Some-clause-answers
 returns-in-Some-clause-answers g c =

@@ -1,0 +1,34 @@
+use Rattle.std.proofs.Common.{◌∙◌, ◌<◌, ◌∷◌, [], arith, refl}
+use Rattle.det_stream.specs.Stream.{stream_of}
+use Rattle.junction_run.specs.Answer.{loaded_answer}
+use Rattle.junction_run.specs.Form.{files_of, Exec}
+use Rattle.junction_run.specs.FormWords as words
+use Rattle.junction_run.specs.Loading.{Playing, LoadsCode, Reached, ReachedInPlay}
+use Rattle.junction_run.specs.Sites as sites
+use Rattle.junction_run.proofs.Ends.{stopped_loading, stopped_before, ended_at, stops_among, stops_playing, no_write}
+use Rattle.junction_run.proofs.run.exec.Goals as goal
+
+pub returns-in-Err-clause-ended : goal.returns-in-Err-clause-ended
+returns-in-Err-clause-ended g c = λ file e.
+    stopped_loading (LoadsCode c.args.code.now (words.site_in c.args.words.now) file) (loaded_answer (Exec c.args.code.now (words.site_in c.args.words.now) c.args.detectors.now) file) (Reached (Exec c.args.code.now (words.site_in c.args.words.now) c.args.detectors.now) file) c.in-Err.stop _ _
+    (stopped_before c.args.code.now (words.site_in c.args.words.now) c.args.detectors.now file (LoadsCode c.args.code.now (words.site_in c.args.words.now) file) c.in-Err.stop (c.in-Err.ensures.loaded file e)) refl
+
+pub returns-in-Err-clause-word : goal.returns-in-Err-clause-word
+returns-in-Err-clause-word g c =
+    stops_among (c.args.words.now.plan.now ∷ c.args.words.now.times.now ∷ c.args.words.now.intergreens.now ∷ c.args.code.now ∷ []) (c.args.detectors.now ∷ []) c.in-Err.stop c.in-Err.ensures.word
+
+pub returns-in-Err-clause-write : goal.returns-in-Err-clause-write
+returns-in-Err-clause-write g c = λ is.
+    absurd (no_write (c.args.words.now.plan.now ∷ c.args.words.now.times.now ∷ c.args.words.now.intergreens.now ∷ c.args.code.now ∷ []) c.in-Err.stop c.in-Err.ensures.word is)
+
+pub returns-clause-ended : goal.returns-clause-ended
+returns-clause-ended g c = λ file e.
+    let loaded = c.in-Ok.ensures.loaded file e in
+    let playing : Playing = sites.playing_in c.in-Ok.site in
+    ended_at (LoadsCode c.args.code.now (words.site_in c.args.words.now) file) (Reached (Exec c.args.code.now (words.site_in c.args.words.now) c.args.detectors.now) file) c.args.detectors.now (stream_of (file c.args.detectors.now)) playing
+    c.play_site.result _ _ loaded (ReachedInPlay.at_detectors playing loaded) (c.play_site.ensures.played file (c.load_code.ensures.contents_stay ∙ e))
+
+pub returns-clause-word : goal.returns-clause-word
+returns-clause-word g c =
+    let fourth : 4 < 5 = omega arith in
+    stops_playing (files_of (Exec c.args.code.now (words.site_in c.args.words.now) c.args.detectors.now)) c.args.detectors.now c.play_site.result (4, fourth, refl) c.play_site.ensures.word

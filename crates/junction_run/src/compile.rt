@@ -1,0 +1,43 @@
+// The command that writes a code file.
+ghost use Rattle.std.specs.Prelude.{◌≡◌, ◌≤◌, IfErr};
+ghost use Rattle.std.specs.Option.{ForSome};
+ghost use Rattle.sig_io.specs.Outside.{Rose};
+ghost use Rattle.junction_run.specs.Ended.{IsEnded};
+ghost use Rattle.junction_run.specs.Form.{Compile, files_of};
+ghost use Rattle.junction_run.specs.Stop.{StopsAmong, StopsWith};
+ghost use Rattle.junction_run.specs.declared.status.Status.TheVariants as status;
+
+use crate::program::take_program;
+use crate::stop::Stop;
+use code_file::{code_has_text, write_code};
+use sig_io::{Files, Sink};
+use std::alloc::Global;
+
+/// Compiles a program, and writes the text of its code. All memory is taken before the first byte is written.
+pub(crate) fn compile_file<'a, F: Files, O: Sink>(
+    alloc: Global,
+    program: &'a str,
+    files: &mut F,
+    out: &mut O,
+) -> Result<(), Stop<'a>>
+    ensures ended { ForSome (F.told files.old) (λ file.
+        IsEnded (Compile program.now) file result (O.taken out.old) (O.taken out.new)) }
+    ensures word { IfErr result (λ stop. StopsAmong (files_of (Compile program.now)) stop) }
+    ensures contents_stay { F.told files.new ≡ F.told files.old }
+    ensures later_files { F.faults files.old ≤ F.faults files.new }
+    ensures later_out { O.faults out.old ≤ O.faults out.new }
+    ensures read { StopsWith status.ReadFault result → Rose (F.faults files.old) (F.faults files.new) }
+    ensures write { StopsWith status.WriteFault result → Rose (O.faults out.old) (O.faults out.new) }
+{
+    let compiled = match take_program(alloc, program, files) {
+        Ok(compiled) => compiled,
+        Err(stop) => return Err(stop),
+    };
+    // Their contracts tell that the code is valid, and that its text is read again as this code.
+    compiled.code();
+    code_has_text(&compiled);
+    match write_code(&compiled, out) {
+        Ok(()) => Ok(()),
+        Err(_fault) => Err(Stop::WriteFault),
+    }
+}
