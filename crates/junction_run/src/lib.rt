@@ -24,5 +24,8 @@ mod stop;
 mod top;
 
 pub use load::{Site, load_site};
+pub use notes::{write_stop, write_words};
+pub use run::make_controller;
 pub use status::{Status, exit_status};
+pub use stop::{Reason, Stop, status_of};
 pub use top::junction;

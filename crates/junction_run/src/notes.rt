@@ -24,7 +24,7 @@ fn write_pieces<N: Sink>(pieces: &[&[u8]], notes: &mut N)
 }
 
 /// Writes the note of words that are no form.
-pub(crate) fn write_words<N: Sink>(notes: &mut N)
+pub fn write_words<N: Sink>(notes: &mut N)
     ensures { (Rose (N.faults notes.old) (N.faults notes.new) → ⊥) →
         N.taken notes.new ≡ append_known (N.taken notes.old) (note_of (codes "Words")) }
 {
@@ -67,7 +67,7 @@ fn write_refusal<'x, N: Sink>(word: &'x [u8], line: &'x [u8], told: &Told<'x>, n
 }
 
 /// Writes the note of a stop. A note that fails changes nothing else.
-pub(crate) fn write_stop<N: Sink>(stop: &Stop<'_>, notes: &mut N)
+pub fn write_stop<N: Sink>(stop: &Stop<'_>, notes: &mut N)
     ensures { (Rose (N.faults notes.old) (N.faults notes.new) → ⊥) →
         N.taken notes.new ≡ append_known (N.taken notes.old) (stop_note stop.now) }
 {

@@ -30,8 +30,8 @@ use sig_io::{Files, Sink};
 use sig_types::Memory;
 use std::alloc::Global;
 
-// A controller of a site, before its first second.
-fn make_controller(alloc: Global, site: Site) -> Result<Controller, Memory>
+/// A controller of a site, before its first second. The tables were read against the plan.
+pub fn make_controller(alloc: Global, site: Site) -> Result<Controller, Memory>
     requires times { length site.times ≡ groups_in site.plan }
     requires intergreens { site.intergreens.count ≡ groups_in site.plan }
     ensures site { IfOk result (λ c. site_of c ≡ sites.site_in site) }
