@@ -80,6 +80,8 @@ fn load_named<'a, F: Files, N: Sink>(
     ensures intergreens { IfOk result (λ s. s.intergreens.count ≡ groups_in s.plan) }
     ensures quiet { IfOk result (λ s. notes.new ≡ notes.old) }
     ensures read_fault { IfErr result (λ s. s ≡ Status.ReadFault → Rose (F.faults files.old) (F.faults files.new)) }
+    ensures no_words { IfErr result (λ s. s ≡ Status.Words → ⊥) }
+    ensures no_write { IfErr result (λ s. s ≡ Status.WriteFault → ⊥) }
     ensures note { IfErr result (λ s. (Rose (N.faults notes.old) (N.faults notes.new) → ⊥) →
         (note : List ℕ) × (N.taken notes.new ≡ append_known (N.taken notes.old) note)
         × IsNote (site_files (site_in words.now) ++ program.now ∷ []) s note
@@ -114,6 +116,9 @@ pub fn load_site<F: Files, N: Sink>(
     ensures intergreens { IfOk result (λ s. s.intergreens.count ≡ groups_in s.plan) }
     ensures quiet { IfOk result (λ s. notes.new ≡ notes.old) }
     ensures read_fault { IfErr result (λ s. s ≡ Status.ReadFault → Rose (F.faults files.old) (F.faults files.new)) }
+    // It judges no words and writes no log, whether the files tell or not.
+    ensures no_words { IfErr result (λ s. s ≡ Status.Words → ⊥) }
+    ensures no_write { IfErr result (λ s. s ≡ Status.WriteFault → ⊥) }
     // Notes has taken the status's note, unless it failed; where the files tell what they hold, it is theirs.
     ensures note { IfErr result (λ s. (Rose (N.faults notes.old) (N.faults notes.new) → ⊥) →
         (note : List ℕ) × (N.taken notes.new ≡ append_known (N.taken notes.old) note)

@@ -3,7 +3,7 @@ use Rattle.junction_run.specs.Form.{SiteWords, site_files}
 use Rattle.junction_run.specs.FormWords.{site_in}
 use Rattle.junction_run.specs.Notes.{IsNote, stop_note}
 use Rattle.junction_run.specs.SiteAnswer.{IsSiteLoad, IsSiteNote}
-use Rattle.junction_run.proofs.Ends.{note_among, site_stop, site_note}
+use Rattle.junction_run.proofs.Ends.{note_among, no_words, no_write, site_stop, site_note}
 use Rattle.junction_run.proofs.load.load_named.Goals as goal
 
 pub returns-in-Ok-clause-loaded : goal.returns-in-Ok-clause-loaded
@@ -16,6 +16,13 @@ returns-in-Err-clause-loaded g c = λ file e.
 
 pub returns-in-Err-clause-read_fault : goal.returns-in-Err-clause-read_fault
 returns-in-Err-clause-read_fault g c = λ at. c.in-Err.ensures.cause (sym c.status_of.ensures ∙ at)
+
+pub returns-in-Err-clause-no_words : goal.returns-in-Err-clause-no_words
+returns-in-Err-clause-no_words g c = λ at. no_words c.in-Err.stop (sym c.status_of.ensures ∙ at)
+
+pub returns-in-Err-clause-no_write : goal.returns-in-Err-clause-no_write
+returns-in-Err-clause-no_write g c = λ at.
+    no_write (site_files (site_in c.args.words.now) ++ c.args.program.now ∷ []) c.in-Err.stop c.in-Err.ensures.word (sym c.status_of.ensures ∙ at)
 
 pub returns-in-Err-clause-note : goal.returns-in-Err-clause-note
 returns-in-Err-clause-note g c = λ clean.
