@@ -10,6 +10,8 @@ use Rattle.sig_types.specs.Counts.{Counts, Takes}
 use Rattle.junction_live.specs.Play.{Loaded, Played, NeverAhead, SameSums, NoMore, all_fronts, all_rears, fronts_in, rears_in}
 use Rattle.junction_live.proofs.Bridge.{takes_from}
 use Rattle.junction_live.proofs.Loads.{never_ahead, fronts_sum, rears_sum}
+use Rattle.junction_live.proofs.Printable.{printable_frame, loaded_printable, printable_push}
+use Rattle.signal_log.specs.Laws.{ArePrintable}
 
 index_of : (xs : List Feeding) (k : ℕ) (x d : Feeding) → slice_get xs k ≡ Some x → slice_index_or xs k d ≡ x
 index_of [] k x d e = absurd (cc)
@@ -75,6 +77,13 @@ ahead_closed board fs old new tick tick' made closing r n d le low = part (dec_l
         let s = same_sums board fs old new tick tick' made closing r d low in let o = own board fs old new tick tick' made closing r d low in
         subst (λ (l : List Counts). all_rears d l ≤ all_fronts d l) (sym whole) (omega (arith, s.0, s.1, o.2))
 
+-- all frames, the closing one with them, can be told apart in a text
+pub closed_printable : (board : Boarded) (fs : List Counts) (old new : List Feeding) (tick tick' : Ticking) (made : List Counts) (closing : Counts) →
+    Ready board fs old new tick tick' made closing → ArePrintable (made ++ closing ∷ [])
+closed_printable board fs old new tick tick' made closing r =
+    printable_push made closing (loaded_printable tick' made r.loaded) (printable_frame closing r.closes.size (λ d low.
+    let o = own board fs old new tick tick' made closing r d low in (omega (arith, o.0, o.3), omega (arith, o.1, o.2, o.3))))
+
 inside_of : (xs : List Feeding) (k : ℕ) (x : Feeding) → slice_get xs k ≡ Some x → k < length xs
 inside_of [] k x e = absurd (cc)
 inside_of (y ∷ ys) zero x e = omega arith
@@ -97,3 +106,15 @@ all_passes board fs old new tick tick' opening played count same = record {
         let is : Played fs first (slice_index_or new k first) = subst (λ (q : Feeding). Played fs q (slice_index_or new k first)) was (played k first low) in
         let here : p ≡ slice_index_or new k first = sym (index_of new k p first got) in
         (ap (λ (q : Feeding). q.table) (here ∙ is), ap (λ (q : Feeding). q.place) (here ∙ is))
+
+-- the passes of a board as it is made are all of it
+pub opening_all : (board : Boarded) (feeders : List Feeding) (tick : Ticking) → IsOpening 64 board feeders tick → AreAll board feeders tick
+opening_all board feeders tick opening = record {
+  count = opening.count ∙ sym opening.detectors_are;
+  each = λ k p got.
+      let first : Feeding = record { table = board.table; place = k; fronts = 0; rears = 0 } in
+      let low : k < 64 = (let inside = inside_of feeders k p got in omega (arith, inside, opening.count)) in
+      let here : p ≡ first = sym (index_of feeders k p first got) ∙ index_of feeders k first first (opening.each k low) in
+      (ap (λ (q : Feeding). q.table) here, ap (λ (q : Feeding). q.place) here);
+  of_tick = opening.of_tick;
+}

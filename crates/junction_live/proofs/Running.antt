@@ -4,7 +4,7 @@ use Rattle.std.specs.Prelude.{slice_index_or}
 use Rattle.std.proofs.lemmas.List.{append-nil}
 use Rattle.std.proofs.Math.Seq.{take-append-add}
 use Rattle.std.specs.Io.KnownBytes.{append_known}
-use Rattle.sig_io.specs.Draft.{IsCut}
+use Rattle.sig_io.specs.Draft.{Held, IsCut, IsDraft}
 use Rattle.sig_types.specs.Counts.{Counts, Takes}
 use Rattle.sig_types.specs.Pass.{Logic}
 use Rattle.sig_types.specs.declared.record.Record.{Record}
@@ -19,21 +19,18 @@ use Rattle.junction_live.specs.Play.{Loaded}
 use Rattle.junction_live.specs.Outcome.{log_of}
 use Rattle.junction_live.proofs.Loads.{loaded_none, loaded_more, takes_next}
 
--- k seconds were made, of these frames, and their records were written
-pub record Running (k : ℕ) (tick : Ticking) (start now : Controller) (old new : Option (List ℕ)) : Type 0 where
+-- k seconds were made, of these frames, and their records were put
+pub record Running (k : ℕ) (tick : Ticking) (start now : Controller) (old new : Option (List ℕ)) (first later : Held) : Type 0 where
   pub made : List Counts
   pub loaded : Loaded tick made
   pub count : length made ≡ k
   pub site : site_of now ≡ site_of start
   pub logic_is : logic_of now ≡ logic_of start
   pub stands : (past : Past) → StandsFor start past → past.frames ≡ [] → StandsFor now (past_of (logic_of start) (site_of start) past made)
-  pub written : (past : Past) → StandsFor start past → past.frames ≡ [] → new ≡ append_known old (log_of (logic_of start) (site_of start) past made)
+  pub put : (past : Past) (begin : Option (List ℕ)) → StandsFor start past → past.frames ≡ [] → IsDraft begin old first [] →
+      IsDraft begin new later (log_of (logic_of start) (site_of start) past made)
 
-known-nil : (o : Option (List ℕ)) → o ≡ append_known o []
-known-nil None = refl
-known-nil (Some xs) = ap Some (sym (append-nil xs))
-
-known-twice : (o : Option (List ℕ)) (a b : List ℕ) → append_known (append_known o a) b ≡ append_known o (a ++ b)
+pub known-twice : (o : Option (List ℕ)) (a b : List ℕ) → append_known (append_known o a) b ≡ append_known o (a ++ b)
 known-twice None a b = refl
 known-twice (Some xs) a b = ap Some (append_assoc xs a b)
 
@@ -74,7 +71,7 @@ unfolding plan_of site_of
 plan_is c = refl
 
 -- a text cut in its last piece
-cut_later : (start mid new : Option (List ℕ)) (n : ℕ) (front piece whole : List ℕ) → mid ≡ append_known start front →
+pub cut_later : (start mid new : Option (List ℕ)) (n : ℕ) (front piece whole : List ℕ) → mid ≡ append_known start front →
     whole ≡ front ++ piece → IsCut mid new n piece → IsCut start new (length front + n) whole
 cut_later start mid new n front piece whole so_far is cut =
     let taken : take (length front + n) whole ≡ front ++ take n piece
@@ -85,21 +82,23 @@ cut_later start mid new n front piece whole so_far is cut =
           ∙ ap (λ bs. append_known start bs) (sym taken);
     }
 
-pub running_none : (tick : Ticking) (c : Controller) (out : Option (List ℕ)) → ((w : ℕ) → slice_index_or tick.loads w [] ≡ []) → Running 0 tick c c out out
-running_none tick c out unread = record {
+pub running_none : (tick : Ticking) (c : Controller) (out : Option (List ℕ)) (draft : Held) → ((w : ℕ) → slice_index_or tick.loads w [] ≡ []) →
+    Running 0 tick c c out out draft draft
+running_none tick c out draft unread = record {
   made = [];
   loaded = loaded_none tick unread;
   count = refl;
   site = refl;
   logic_is = refl;
   stands = λ past s none. s;
-  written = λ past s none. known-nil out ∙ ap (append_known out) (sym (log_none (logic_of c) (site_of c) past));
+  put = λ past begin s none d. subst (λ t. IsDraft begin out draft t) (sym (log_none (logic_of c) (site_of c) past)) d;
 }
 
 -- the frame just taken makes a second
-pub running_takes : (k : ℕ) (tick tick' : Ticking) (start now : Controller) (old new : Option (List ℕ)) (f : Counts) (r : Running k tick start now old new) → TickTakes 64 tick tick' f → k < 604801 →
+pub running_takes : (k : ℕ) (tick tick' : Ticking) (start now : Controller) (old new : Option (List ℕ)) (first later : Held) (f : Counts)
+    (r : Running k tick start now old new first later) → TickTakes 64 tick tick' f → k < 604801 →
     (past : Past) → past.frames ≡ [] → Takes (past_of (logic_of start) (site_of start) past r.made).frames f
-running_takes k tick tick' start now old new f r t few past none =
+running_takes k tick tick' start now old new first later f r t few past none =
     subst (λ fs. Takes fs f) (sym (frames_are (logic_of start) (site_of start) past r.made none)) (takes_next tick tick' r.made f r.loaded t (omega (arith, r.count, few)))
 
 -- what `second` promises, said of the start's logic and site
@@ -142,9 +141,12 @@ cut_more start now after past made f rec names old mid new n m site logic s is n
           so_far (log_more (logic_of start) (site_of start) past made f) (subst (λ bs. IsCut mid new n bs) piece cut),
     )
 
-pub running_more : (k : ℕ) (tick tick' : Ticking) (start now after : Controller) (old new new' : Option (List ℕ)) (f : Counts) (rec : Record) (names : List (List ℕ)) → Running k tick start now old new →
-    TickTakes 64 tick tick' f → Made now after f → rec ≡ last_record after → names ≡ (plan_of after).names → new' ≡ append_known new (record_text names rec) → Running (k + 1) tick' start after old new'
-running_more k tick tick' start now after old new new' f rec names r t m is named text = record {
+-- one second more
+pub running_more : (k : ℕ) (tick tick' : Ticking) (start now after : Controller) (old new new' : Option (List ℕ)) (first held later : Held) (f : Counts) (rec : Record) (names : List (List ℕ)) →
+    Running k tick start now old new first held → TickTakes 64 tick tick' f → Made now after f → rec ≡ last_record after → names ≡ (plan_of after).names →
+    ((begin : Option (List ℕ)) (text : List ℕ) → IsDraft begin new held text → IsDraft begin new' later (text ++ record_text names rec)) →
+    Running (k + 1) tick' start after old new' first later
+running_more k tick tick' start now after old new new' first held later f rec names r t m is named put = record {
   made = r.made ++ f ∷ [];
   loaded = loaded_more tick tick' r.made f r.loaded t;
   count = length-append r.made (f ∷ []) ∙ ap (λ n. n + 1) r.count;
@@ -155,18 +157,10 @@ running_more k tick tick' start now after old new new' f rec names r t m is name
       let on : longer (logic_of now) (site_of now) p f ≡ past_of (logic_of start) (site_of start) past (r.made ++ f ∷ []) =
       (λ i. longer (r.logic_is i) (r.site i) p f) ∙ sym (past_of-more (logic_of start) (site_of start) past r.made f) in
       subst (λ q. StandsFor after q) on (m.stands p (r.stands past s none));
-  written = λ past s none. written_more start now after past r.made f rec names old new new' m r.site r.logic_is (r.stands past s none) is named (r.written past s none) text;
+  put = λ past begin s none d.
+      let p = past_of (logic_of start) (site_of start) past r.made in
+      let so_far : List ℕ = log_of (logic_of start) (site_of start) past r.made in
+      let piece = text_is start now after f p rec names m r.site r.logic_is (r.stands past s none) is named in
+      subst (λ t. IsDraft begin new' later t) (ap (λ t. so_far ++ t) piece ∙ sym (log_more (logic_of start) (site_of start) past r.made f))
+      (put begin so_far (r.put past begin s none d));
 }
-
--- after a fault of the sink, in the text of the second just made
-pub running_fault : (k : ℕ) (tick tick' : Ticking) (start now after : Controller) (old new new' : Option (List ℕ)) (f : Counts) (rec : Record) (names : List (List ℕ)) (n : ℕ) (r : Running k tick start now old new) →
-    Made now after f → rec ≡ last_record after → names ≡ (plan_of after).names → IsCut new new' n (record_text names rec) →
-    (past : Past) → StandsFor start past → past.frames ≡ [] →
-    StandsFor after (past_of (logic_of start) (site_of start) past (r.made ++ f ∷ [])) × ((n : ℕ) × IsCut old new' n (log_of (logic_of start) (site_of start) past (r.made ++ f ∷ [])))
-running_fault k tick tick' start now after old new new' f rec names n r m is named cut past s none =
-    let p = past_of (logic_of start) (site_of start) past r.made in
-    let on : longer (logic_of now) (site_of now) p f ≡ past_of (logic_of start) (site_of start) past (r.made ++ f ∷ []) =
-    (λ i. longer (r.logic_is i) (r.site i) p f) ∙ sym (past_of-more (logic_of start) (site_of start) past r.made f) in (
-      subst (λ q. StandsFor after q) on (m.stands p (r.stands past s none)),
-      cut_more start now after past r.made f rec names old new new' n m r.site r.logic_is (r.stands past s none) is named (r.written past s none) cut,
-    )

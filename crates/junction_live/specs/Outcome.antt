@@ -1,10 +1,11 @@
 -- What a status says of the seconds that were made and of what was written.
 use Rattle.std.specs.Prelude.{◌≡◌, ℕ, ◌+◌, ◌≤◌, Bool, true, false, List, [], length, Option}
 use Rattle.std.specs.Io.KnownBytes.{append_known}
-use Rattle.sig_io.specs.Draft.{IsCut}
+use Rattle.sig_io.specs.Draft.{IsCut, Held, IsDraft}
 use Rattle.sig_types.specs.Counts.{Counts}
 use Rattle.sig_types.specs.Pass.{Logic}
 use Rattle.signal_log.specs.Log.{records_text}
+use Rattle.signal_log.specs.Laws.{ArePrintable}
 use Rattle.controller.specs.declared.controller.Controller.{Controller}
 use Rattle.controller.specs.Controls.{StandsFor, site_of, logic_of}
 use Rattle.controller.specs.Past.{Site, Past}
@@ -52,10 +53,19 @@ SecondsMade seconds status start now tick old new =
     StandsFor now (past_of (logic_of start) (site_of start) past made)
     × Written status seconds (logic_of start) (site_of start) past made old new)
 
+-- the same, with the records put into a draft; where it hasn't failed, all seconds were made
+abbrev pub SecondsPut : ℕ → Controller → Controller → Ticking → Held → Held → Option (List ℕ) → Option (List ℕ) → Type 0
+SecondsPut seconds start now tick first later old new =
+    (made : List Counts) × Loaded tick made × (length made ≤ seconds) × (later.failed ≡ false → length made ≡ seconds)
+    × ((past : Past) → StandsFor start past → past.frames ≡ [] →
+    StandsFor now (past_of (logic_of start) (site_of start) past made)
+    × ((begin : Option (List ℕ)) → IsDraft begin old first [] → IsDraft begin new later (log_of (logic_of start) (site_of start) past made)))
+
 -- a whole live run over these frames: each of their events is in one of the seconds, and none is ahead of its time
 abbrev pub Live : Status → List Counts → Logic → Site → Past → Option (List ℕ) → Option (List ℕ) → Type 0
 Live Done frames logic site past old new =
-    (made : List Counts) × (length made ≡ length frames + 1) × (new ≡ append_known old (log_of logic site past made)) × NeverAhead made × SameSums frames made
+    (made : List Counts) × (length made ≡ length frames + 1) × ArePrintable made × (new ≡ append_known old (log_of logic site past made))
+    × NeverAhead made × SameSums frames made
 Live WriteFault frames logic site past old new =
     (made : List Counts) × (length made ≤ length frames + 1) × ((n : ℕ) × IsCut old new n (log_of logic site past made)) × NeverAhead made × NoMore frames made
 Live Memory frames logic site past old new = ⊥

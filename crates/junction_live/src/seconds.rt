@@ -1,17 +1,53 @@
 // The controller's side.
-ghost use Rattle.std.specs.Prelude.{◌≡◌, ℕ, ◌≤◌, [], slice_index_or};
+ghost use Rattle.std.specs.Prelude.{◌≡◌, ◌<◌, ◌≤◌, ◌^◌, ℕ, [], slice_index_or};
+ghost use Rattle.sig_io.specs.Draft.{FailsOnly};
 ghost use Rattle.sig_io.specs.Outside.{Rose};
 ghost use Rattle.controller.specs.Controls.{site_of, logic_of};
-ghost use Rattle.junction_live.specs.Outcome.{HasMadeNone, SecondsMade};
+ghost use Rattle.junction_live.specs.Outcome.{HasMadeNone, SecondsMade, SecondsPut};
 
 use controller::Controller;
 use det_board::{Board, TickPass};
 use junction_run::Status;
-use sig_io::{Gate, Sink};
+use sig_io::{Draft, Gate, Sink};
 use sig_types::Frame;
-use signal_log::write_second;
+use signal_log::put_second;
 
-/// Takes a frame and makes a second, `seconds` times. After a fault of the sink no further second is made.
+// Takes a frame, makes a second and puts its record, `seconds` times. After a fault of the sink no further second is made.
+fn put_seconds<O: Sink, G: Gate>(
+    controller: &mut Controller,
+    tick: &mut TickPass,
+    board: &Board,
+    seconds: u32,
+    draft: &mut Draft,
+    out: &mut O,
+    gate: &G,
+)
+    requires board { (tick.old.table ≡ board.now.table) × (board.now.detectors ≡ 64) }
+    requires none_made { HasMadeNone controller.old }
+    requires unread { (w : ℕ) → slice_index_or tick.old.loads w [] ≡ [] }
+    requires at_most { seconds ≤ 604800 }
+    requires nothing_gone { draft.old.gone ≡ 0 }
+    ensures table { tick.new.table ≡ tick.old.table }
+    ensures put { SecondsPut seconds controller.old controller.new tick.new draft.old draft.new (O.taken out.old) (O.taken out.new) }
+    ensures room { draft.new.gone < 2 ^ 60 }
+    ensures site { site_of controller.new ≡ site_of controller.old }
+    ensures logic { logic_of controller.new ≡ logic_of controller.old }
+    ensures cause { FailsOnly (O.faults out.old) (O.faults out.new) draft.old.failed draft.new.failed }
+{
+    let mut frame = Frame::empty();
+    for k in 0..seconds {
+        gate.pass(0, k);
+        tick.take(board, &mut frame);
+        controller.second(&frame);
+        put_second(controller.last(), controller.plan(), draft, out);
+        if draft.failed() {
+            return;
+        }
+    }
+}
+
+/// Takes a frame and makes a second, `seconds` times. After a fault of the sink no further second is made. All records go
+/// through one draft, and what is held goes out before it returns.
 pub fn run_seconds<O: Sink, G: Gate>(
     controller: &mut Controller,
     tick: &mut TickPass,
@@ -31,15 +67,13 @@ pub fn run_seconds<O: Sink, G: Gate>(
     ensures later { O.faults out.old ≤ O.faults out.new }
     ensures cause { result ≡ Status.WriteFault → Rose (O.faults out.old) (O.faults out.new) }
 {
-    let mut frame = Frame::empty();
-    for k in 0..seconds {
-        gate.pass(0, k);
-        tick.take(board, &mut frame);
-        controller.second(&frame);
-        match write_second(controller.last(), controller.plan(), out) {
-            Ok(()) => {}
-            Err(_) => return Status::WriteFault,
-        }
+    let mut draft = Draft::new();
+    put_seconds(controller, tick, board, seconds, &mut draft, out, gate);
+    if draft.failed() {
+        return Status::WriteFault;
     }
-    Status::Done
+    match draft.finish(out) {
+        Ok(()) => Status::Done,
+        Err(_fault) => Status::WriteFault,
+    }
 }

@@ -4,7 +4,7 @@ use Rattle.controller.specs.Controls.{site_of, logic_of}
 use Rattle.controller.specs.Second.{past_of}
 use Rattle.junction_live.specs.Outcome.{Written}
 use Rattle.junction_live.proofs.Ended.{cut_live, done_is}
-use Rattle.junction_live.proofs.ClosingSecond.{Ready, takes_close, same_sums, no_more, ahead_closed, all_passes}
+use Rattle.junction_live.proofs.ClosingSecond.{Ready, takes_close, same_sums, no_more, ahead_closed, closed_printable, all_passes}
 use Rattle.junction_live.proofs.Loads.{never_ahead}
 use Rattle.junction_live.proofs.Running.{Made, frames_are, written_more, cut_more}
 use Rattle.junction_live.proofs.closing.play_out.Goals as goal
@@ -51,6 +51,7 @@ returns-in-Ok-clause-live g c = λ past s none.
     let w = subst (λ st. Written st (length c.args.frames.now) (logic_of c.args.controller) (site_of c.args.controller) past m.0 (g.O.Sink.taken c.args.out.now) (g.O.Sink.taken p.new.out)) (done_is _ (sym c.is_done.ensures ∙ c.if-not-is_done.false)) (m.3 past s none).1 in (
       m.0 ++ f ∷ [],
       omega (arith, length-append m.0 (f ∷ []), w.0),
+      closed_printable _ _ _ _ _ _ m.0 f ready,
       written_more c.args.controller p.result.1 c.second.new.self past m.0 f c.last.result.now c.plan.result.now.names _ _ _ made' e.site e.logic (m.3 past s none).0 c.last.ensures (ap (λ q. q.names) c.plan.ensures) w.1 c.in-Ok.ensures.ok,
       ahead_closed _ _ _ _ _ _ m.0 f ready,
       same_sums _ _ _ _ _ _ m.0 f ready,
