@@ -1,6 +1,8 @@
+pub mod Answering
 pub mod Bridge
 pub mod ClosingSecond
 pub mod Ended
+pub mod LiveLogs
 pub mod Loads
 pub mod Printable
 pub mod Running

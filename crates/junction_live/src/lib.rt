@@ -4,13 +4,18 @@
 //! no detector has more rears than fronts at any time.
 #![tactic(auto)]
 
+mod answer;
 mod apart;
 mod beside;
 mod closing;
 mod feed;
 mod feeders;
+mod form;
+pub mod laws;
+mod log;
 mod seconds;
 
+pub use answer::live;
 pub use apart::play_apart;
 pub use beside::play;
 pub use closing::play_out;

@@ -1,0 +1,160 @@
+// The call `live`, and what its parts answer.
+ghost use Rattle.std.specs.Prelude.{◌≡◌, ◌≤◌, IfOk, IfErr, false, length, map, string_bytes};
+ghost use Rattle.std.specs.Option.{ForSome};
+ghost use Rattle.sig_io.specs.Outside.{Rose};
+ghost use Rattle.sig_types.specs.Counts.{AreFrames};
+ghost use Rattle.pua_model.specs.Plan.{groups_in};
+ghost use Rattle.vap_ast.specs.Syntax.{Program};
+ghost use Rattle.junction_run.specs.Guarded.{IsGuardedLog};
+ghost use Rattle.junction_run.specs.Loading.{program_at};
+ghost use Rattle.junction_run.specs.Sites.{Runs, site_in};
+ghost use Rattle.junction_run.specs.Stop.{status_of as status_of_stop, IsAt, StopsAt, StopsWith};
+ghost use Rattle.junction_run.specs.declared.status.Status.TheVariants as status;
+ghost use Rattle.junction_live.specs.Answer.{may_write};
+ghost use Rattle.junction_live.specs.Answers.{LiveAnswer, LiveAnswers};
+ghost use Rattle.junction_live.specs.Ended.{IsTaken, IsPlayed};
+ghost use Rattle.junction_live.specs.FormWords.{form_in};
+
+use crate::closing::is_done;
+use crate::form::{LiveWords, live_form};
+use crate::log::write_live;
+use det_board::make_board;
+use det_stream::{Frames, StreamRefusal, read_all};
+use junction_run::{
+    Site, Status, Stop, load_site, make_controller, status_of, write_stop, write_words,
+};
+use sig_io::{Files, Gate, Sink};
+use std::alloc::Global;
+use std::thread::Threads;
+
+// Reads the whole detector file.
+fn take_frames<'a, F: Files>(
+    alloc: Global,
+    word: &'a str,
+    files: &mut F,
+) -> Result<Frames, Stop<'a>>
+    ensures frames { IfOk result (λ f. AreFrames f) }
+    ensures taken { ForSome (F.told files.old) (λ file. IsTaken word.now (file word.now) result) }
+    ensures word { IfErr result (λ stop. IsAt word.now stop) }
+    ensures contents_stay { F.told files.new ≡ F.told files.old }
+    ensures later { F.faults files.old ≤ F.faults files.new }
+    ensures cause { StopsWith status.ReadFault result → Rose (F.faults files.old) (F.faults files.new) }
+{
+    match read_all(alloc, files, word) {
+        Ok(frames) => Ok(frames),
+        Err(StreamRefusal::Memory) => Err(Stop::Memory),
+        Err(StreamRefusal::Fault) => Err(Stop::ReadFault(word)),
+        Err(StreamRefusal::At { line, why }) => Err(Stop::RefusedLine { word, line, why }),
+    }
+}
+
+// Plays a detector file at a site. All memory is taken before the first byte is written.
+fn play_site<'a, R: Threads + Sync, F: Files, O: Sink + Send, G: Gate>(
+    rt: &R,
+    alloc: Global,
+    site: Site,
+    detectors: &'a str,
+    files: &mut F,
+    out: &mut O,
+    gate: &G,
+) -> Result<(), Stop<'a>>
+    requires times { length site.times ≡ groups_in site.plan }
+    requires intergreens { site.intergreens.count ≡ groups_in site.plan }
+    ensures played { (program : Program) → Runs site.code program → ForSome (F.told files.old) (λ file.
+        IsPlayed detectors.now (file detectors.now) (program_at (site_in site) program) result (O.taken out.old) (O.taken out.new)) }
+    ensures unwritten { IfErr result (λ stop. may_write (status_of_stop stop) ≡ false → O.taken out.new ≡ O.taken out.old) }
+    ensures guarded { IsGuardedLog (O.taken out.old) (O.taken out.new) }
+    ensures word { IfErr result (λ stop. StopsAt detectors.now stop) }
+    ensures contents_stay { F.told files.new ≡ F.told files.old }
+    ensures later_files { F.faults files.old ≤ F.faults files.new }
+    ensures later_out { O.faults out.old ≤ O.faults out.new }
+    ensures read { StopsWith status.ReadFault result → Rose (F.faults files.old) (F.faults files.new) }
+    ensures write { StopsWith status.WriteFault result → Rose (O.faults out.old) (O.faults out.new) }
+{
+    let frames = match take_frames(alloc, detectors, files) {
+        Ok(frames) => frames,
+        Err(stop) => return Err(stop),
+    };
+    let controller = match make_controller(alloc, site) {
+        Ok(controller) => controller,
+        Err(_memory) => return Err(Stop::Memory),
+    };
+    let (board, feeders, tick) = match make_board(alloc, 64) {
+        Ok(made) => made,
+        Err(_memory) => return Err(Stop::Memory),
+    };
+    let status = write_live(rt, controller, &frames, board, feeders, tick, out, gate);
+    if is_done(status) {
+        Ok(())
+    } else {
+        Err(Stop::WriteFault)
+    }
+}
+
+// Loads a program at its site and plays it, and writes the note unless all was done.
+fn answer_form<R: Threads + Sync, F: Files, O: Sink + Send, N: Sink, G: Gate>(
+    rt: &R,
+    alloc: Global,
+    form: &LiveWords<'_>,
+    files: &mut F,
+    out: &mut O,
+    notes: &mut N,
+    gate: &G,
+) -> Status
+    requires { length form.now.names.now ≡ 4 }
+    ensures answer { LiveAnswer (form_in form.now)
+        (record { old = F.told files.old; new = F.told files.new; before = F.faults files.old; after = F.faults files.new })
+        (record { old = O.taken out.old; new = O.taken out.new; before = O.faults out.old; after = O.faults out.new })
+        (record { old = N.taken notes.old; new = N.taken notes.new; before = N.faults notes.old; after = N.faults notes.new })
+        result }
+    ensures no_words { result ≡ Status.Words → ⊥ }
+    ensures contents_stay { F.told files.new ≡ F.told files.old }
+{
+    let site = match load_site(alloc, form.names, files, notes) {
+        Ok(site) => site,
+        Err(status) => return status,
+    };
+    match play_site(rt, alloc, site, form.detectors, files, out, gate) {
+        Ok(()) => Status::Done,
+        Err(stop) => {
+            write_stop(&stop, notes);
+            status_of(&stop)
+        }
+    }
+}
+
+/// Does what the words say, over these files: `out` gains the log of the played stream, and `notes` one line unless all was
+/// done.
+///
+/// The words are those of the command line without the program's name: `live PROGRAM PUA TIMES INTERGREENS DETECTORS`.
+/// The files are read in the order PUA, TIMES, INTERGREENS, PROGRAM, at most 1,048,576 bytes of each, and then the whole of
+/// DETECTORS; each is judged before the next one is read, and all memory is taken before the header is written. A feeder for
+/// each of 64 detectors plays its events line by line, while the controller takes a frame and makes a second for each line;
+/// when all feeders have returned, a closing second has what no take has read. Before each event its actor calls
+/// `gate.pass`. Where no thread can be had the caller does the work itself.
+pub fn live<R: Threads + Sync, F: Files, O: Sink + Send, N: Sink, G: Gate>(
+    rt: &R,
+    alloc: Global,
+    words: &[String],
+    files: &mut F,
+    out: &mut O,
+    notes: &mut N,
+    gate: &G,
+) -> Status
+    ensures answers { LiveAnswers (map string_bytes words.now)
+        (record { old = F.told files.old; new = F.told files.new; before = F.faults files.old; after = F.faults files.new })
+        (record { old = O.taken out.old; new = O.taken out.new; before = O.faults out.old; after = O.faults out.new })
+        (record { old = N.taken notes.old; new = N.taken notes.new; before = N.faults notes.old; after = N.faults notes.new })
+        result }
+    ensures unread { result ≡ Status.Words → files.new ≡ files.old }
+    ensures unwritten { result ≡ Status.Words → out.new ≡ out.old }
+    ensures contents_stay { F.told files.new ≡ F.told files.old }
+{
+    match live_form(words) {
+        Some(form) => answer_form(rt, alloc, &form, files, out, notes, gate),
+        None => {
+            write_words(notes);
+            Status::Words
+        }
+    }
+}
