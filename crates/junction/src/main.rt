@@ -1,15 +1,18 @@
 //! A traffic signal controller on the command line: what its words ask for, over the files of the system.
 //!
-//! Its exit status is the number of the `Status` that the top call `junction` answers.
+//! Its exit status is the number of the `Status` that the top call `program` answers.
 #![tactic(auto)]
 
-use junction_run::{Status, exit_status, junction};
-use sig_io::{DiskFiles, ErrSink, OutSink, put_all};
+mod top;
+
+use junction_run::{Status, exit_status};
+use sig_io::{DiskFiles, ErrSink, FreeGate, OutSink, put_all};
 use std::alloc::{AllocError, Global};
 use std::env::Args;
 use std::io::ErrorKind;
 use std::process::ExitCode;
 use std::{env, io};
+use top::program;
 
 // The words after the program's name. A word that is no UTF-8 makes the words no form, and none stand for it.
 fn words_of(alloc: Global, args: io::Result<Args>) -> Result<Vec<String>, AllocError> {
@@ -28,7 +31,9 @@ fn main(rt: HostRuntime) -> ExitCode {
     let mut out = OutSink::new(&stdout);
     let mut notes = ErrSink::new(&stderr);
     let status = match words_of(alloc, env::args(&rt)) {
-        Ok(words) => junction(alloc, &words, &mut files, &mut out, &mut notes),
+        Ok(words) => program(
+            &rt, alloc, &words, &mut files, &mut out, &mut notes, &FreeGate,
+        ),
         Err(_) => {
             // A note that fails changes no status.
             let _ = put_all(&mut notes, b"junction: Memory\n");
