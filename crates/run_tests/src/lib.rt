@@ -2,4 +2,6 @@
 #![tactic(auto)]
 
 #[cfg(test)]
+mod live_runs;
+#[cfg(test)]
 mod runs;

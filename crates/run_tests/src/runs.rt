@@ -45,7 +45,7 @@ const FAULTS: &[u8] =
 
 const BOTH_SIDES: &[u8] = b"PROGRAM a;\nx := 0 AND (1 / 0);\nPROG_ENDE: .\n";
 
-const DECIMAL: &[u8] = b"PROGRAM d;\nIF Headway(1) > 2.5 THEN END;\nPROG_ENDE: .\n";
+pub(crate) const DECIMAL: &[u8] = b"PROGRAM d;\nIF Headway(1) > 2.5 THEN END;\nPROG_ENDE: .\n";
 
 const CALLS: &[u8] =
     b"PROGRAM g;\nSUBROUTINE s;\nPROG_ENDE: .\nx := 0; x := 0; x := 0;\nL: GOSUB s;\nx := 1;\nGOTO L;\nPROG_ENDE: .\n";
@@ -60,35 +60,35 @@ const ROWS: &[u8] =
 const WRONG_ROWS: &[u8] =
     b"$SIGNAL_GROUPS\nK1 1\nK2 2\n$STAGES\nS1 K1\nS2 K1 K2\n$STARTING_STAGE\nS1\n$INTERSTAGE\nto_stage 2\nLENGTH 6\nFrom Stage = S1\nK1 5 127\nk2 4 127\n";
 
-const FOUR_ARMS: &[u8] =
+pub(crate) const FOUR_ARMS: &[u8] =
     b"PROGRAM j;\nVAP_FREQUENCY 1;\nCONST most = 30, least = 10, gap = 3;\nIF NOT Any_interstage_active THEN\n  IF Stage_active(1) AND Stage_duration(1) >= least THEN\n    IF Headway(1) > gap AND Headway(2) > gap AND Headway(3) > gap OR Stage_duration(1) >= most THEN\n      Interstage(1, 2)\n    END\n  END;\n  IF Stage_active(2) AND Stage_duration(2) >= least THEN\n    IF Headway(4) > gap AND Headway(5) > gap AND Headway(6) > gap OR Stage_duration(2) >= most THEN\n      Interstage(2, 3)\n    END\n  END;\n  IF Stage_active(3) AND Stage_duration(3) >= least THEN\n    IF Headway(7) > gap AND Headway(8) > gap AND Headway(9) > gap OR Stage_duration(3) >= most THEN\n      Interstage(3, 4)\n    END\n  END;\n  IF Stage_active(4) AND Stage_duration(4) >= least THEN\n    IF Headway(10) > gap AND Headway(11) > gap AND Headway(12) > gap OR Stage_duration(4) >= most THEN\n      Interstage(4, 1)\n    END\n  END;\nEND;\nPROG_ENDE: .\n";
 
-const FOUR_ARMS_PLAN: &[u8] =
+pub(crate) const FOUR_ARMS_PLAN: &[u8] =
     b"$SIGNAL_GROUPS\nK1 1\nK2 2\nK3 3\nK4 4\nK5 5\nK6 6\nK7 7\nK8 8\n$STAGES\nS1 K1 K2\nS2 K3 K4\nS3 K5 K6\nS4 K7 K8\n$STARTING_STAGE\nS1\n$INTERSTAGE1\nLength [s]: 6\nFrom Stage: 1\nTo Stage: 2\nK1 -127 0\nK2 -127 0\nK3 4 127\nK4 4 127\n$INTERSTAGE2\nLength [s]: 6\nFrom Stage: 1\nTo Stage: 3\nK1 -127 0\nK2 -127 0\nK5 4 127\nK6 4 127\n$INTERSTAGE3\nLength [s]: 6\nFrom Stage: 1\nTo Stage: 4\nK1 -127 0\nK2 -127 0\nK7 4 127\nK8 4 127\n$INTERSTAGE4\nLength [s]: 6\nFrom Stage: 2\nTo Stage: 1\nK3 -127 0\nK4 -127 0\nK1 4 127\nK2 4 127\n$INTERSTAGE5\nLength [s]: 6\nFrom Stage: 2\nTo Stage: 3\nK3 -127 0\nK4 -127 0\nK5 4 127\nK6 4 127\n$INTERSTAGE6\nLength [s]: 6\nFrom Stage: 2\nTo Stage: 4\nK3 -127 0\nK4 -127 0\nK7 4 127\nK8 4 127\n$INTERSTAGE7\nLength [s]: 6\nFrom Stage: 3\nTo Stage: 1\nK5 -127 0\nK6 -127 0\nK1 4 127\nK2 4 127\n$INTERSTAGE8\nLength [s]: 6\nFrom Stage: 3\nTo Stage: 2\nK5 -127 0\nK6 -127 0\nK3 4 127\nK4 4 127\n$INTERSTAGE9\nLength [s]: 6\nFrom Stage: 3\nTo Stage: 4\nK5 -127 0\nK6 -127 0\nK7 4 127\nK8 4 127\n$INTERSTAGE10\nLength [s]: 6\nFrom Stage: 4\nTo Stage: 1\nK7 -127 0\nK8 -127 0\nK1 4 127\nK2 4 127\n$INTERSTAGE11\nLength [s]: 6\nFrom Stage: 4\nTo Stage: 2\nK7 -127 0\nK8 -127 0\nK3 4 127\nK4 4 127\n$INTERSTAGE12\nLength [s]: 6\nFrom Stage: 4\nTo Stage: 3\nK7 -127 0\nK8 -127 0\nK5 4 127\nK6 4 127\n$END\n";
 
-const FOUR_ARMS_TIMES: &[u8] =
+pub(crate) const FOUR_ARMS_TIMES: &[u8] =
     b"group,min_green,red_amber,amber\nK1,5,1,3\nK2,5,1,3\nK3,5,1,3\nK4,5,1,3\nK5,5,1,3\nK6,5,1,3\nK7,5,1,3\nK8,5,1,3\n";
 
-const FOUR_ARMS_INTERGREENS: &[u8] =
+pub(crate) const FOUR_ARMS_INTERGREENS: &[u8] =
     b"from,to,seconds\nK1,K3,5\nK1,K4,5\nK1,K5,5\nK1,K6,5\nK1,K7,5\nK1,K8,5\nK2,K3,5\nK2,K4,5\nK2,K5,5\nK2,K6,5\nK2,K7,5\nK2,K8,5\nK3,K1,5\nK3,K2,5\nK3,K5,5\nK3,K6,5\nK3,K7,5\nK3,K8,5\nK4,K1,5\nK4,K2,5\nK4,K5,5\nK4,K6,5\nK4,K7,5\nK4,K8,5\nK5,K1,5\nK5,K2,5\nK5,K3,5\nK5,K4,5\nK5,K7,5\nK5,K8,5\nK6,K1,5\nK6,K2,5\nK6,K3,5\nK6,K4,5\nK6,K7,5\nK6,K8,5\nK7,K1,5\nK7,K2,5\nK7,K3,5\nK7,K4,5\nK7,K5,5\nK7,K6,5\nK8,K1,5\nK8,K2,5\nK8,K3,5\nK8,K4,5\nK8,K5,5\nK8,K6,5\n";
 
-const ONE_WAY: &[u8] = b"from,to,seconds\nK1,K2,5\n";
+pub(crate) const ONE_WAY: &[u8] = b"from,to,seconds\nK1,K2,5\n";
 
 // A run over the files p.vap, p.pua, t.csv, g.csv and d.txt, and what it must answer.
 #[derive(Clone, Copy)]
-struct Case<'a> {
-    program: &'a [u8],
-    plan: &'a [u8],
-    times: &'a [u8],
-    intergreens: &'a [u8],
-    detectors: &'a [u8],
-    status: Status,
+pub(crate) struct Case<'a> {
+    pub(crate) program: &'a [u8],
+    pub(crate) plan: &'a [u8],
+    pub(crate) times: &'a [u8],
+    pub(crate) intergreens: &'a [u8],
+    pub(crate) detectors: &'a [u8],
+    pub(crate) status: Status,
     // what follows the header; None where nothing was written
-    records: Option<&'a [u8]>,
-    note: &'a [u8],
+    pub(crate) records: Option<&'a [u8]>,
+    pub(crate) note: &'a [u8],
 }
 
-const DONE: Case<'static> = Case {
+pub(crate) const DONE: Case<'static> = Case {
     program: EMPTY,
     plan: DARK,
     times: TIMES,
@@ -99,7 +99,7 @@ const DONE: Case<'static> = Case {
     note: b"",
 };
 
-const REFUSED: Case<'static> = Case {
+pub(crate) const REFUSED: Case<'static> = Case {
     status: Status::RefusedFile,
     records: None,
     ..DONE
@@ -256,7 +256,7 @@ fn file(alloc: Global, name: &str, bytes: &[u8]) -> Result<(String, Vec<u8>), Al
     ))
 }
 
-fn texts(alloc: Global, words: &[&str]) -> Result<Vec<String>, AllocError> {
+pub(crate) fn texts(alloc: Global, words: &[&str]) -> Result<Vec<String>, AllocError> {
     let mut texts = Vec::new(alloc);
     for word in words {
         texts.push(String::from_str(alloc, word)?)?;
@@ -264,7 +264,7 @@ fn texts(alloc: Global, words: &[&str]) -> Result<Vec<String>, AllocError> {
     Ok(texts)
 }
 
-fn files(alloc: Global, case: &Case<'_>) -> Result<Vec<(String, Vec<u8>)>, AllocError> {
+pub(crate) fn files(alloc: Global, case: &Case<'_>) -> Result<Vec<(String, Vec<u8>)>, AllocError> {
     let mut files = Vec::new(alloc);
     files.push(file(alloc, "p.vap", case.program)?)?;
     files.push(file(alloc, "p.pua", case.plan)?)?;

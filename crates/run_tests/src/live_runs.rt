@@ -1,0 +1,305 @@
+// Live runs, over files and sinks in memory.
+ghost use Rattle.std.specs.Prelude.{◌<◌};
+
+use crate::runs::{
+    Case, DECIMAL, DONE, FOUR_ARMS, FOUR_ARMS_INTERGREENS, FOUR_ARMS_PLAN, FOUR_ARMS_TIMES,
+    ONE_WAY, REFUSED, files, texts,
+};
+use junction_live::live;
+use junction_run::Status;
+use layer_tests::texts::TWO_STAGES;
+use sig_io::{FreeGate, Gate, MemFiles, MemSink};
+use sig_types::text::cut_at;
+use std::alloc::Global;
+use std::hint;
+use std::sync::atomic::{AtomicU64, Ordering};
+use std::test::Fail;
+use std::thread::Threads;
+
+const LIVE: [&str; 6] = ["live", "p.vap", "p.pua", "t.csv", "g.csv", "d.txt"];
+
+const HEADER: &[u8] = b"VAPLOG 1 K1 K2";
+
+// The fronts and the rears of each detector.
+type Sums = [(u32, u32); 64];
+
+fn number(digits: &[u8]) -> u32 {
+    let mut n = 0u32;
+    for digit in digits {
+        n = n
+            .wrapping_mul(10)
+            .wrapping_add(u32::from(digit.wrapping_sub(b'0')));
+    }
+    n
+}
+
+// Adds the counts of a second, DETECTOR:FRONTS:REARS with blanks between.
+fn add_counts(counts: &[u8], sums: &mut Sums) {
+    for entry in counts.split(|b| *b == b' ') {
+        if let Some((detector, rest)) = cut_at(b':', entry)
+            && let Some((fronts, rears)) = cut_at(b':', rest)
+        {
+            let place = number(detector).wrapping_sub(1) as usize;
+            if place < 64 {
+                let (fronts_so_far, rears_so_far) = sums[place];
+                sums[place] = (
+                    fronts_so_far.wrapping_add(number(fronts)),
+                    rears_so_far.wrapping_add(number(rears)),
+                );
+            }
+        }
+    }
+}
+
+// The sums of a detector file.
+fn file_sums(bytes: &[u8]) -> Sums {
+    let mut sums = [(0, 0); 64];
+    for line in bytes.split(|b| *b == b'\n') {
+        add_counts(line, &mut sums);
+    }
+    sums
+}
+
+// The sums of a log, and the number of its lines.
+fn log_sums(bytes: &[u8]) -> (Sums, usize) {
+    let mut sums = [(0, 0); 64];
+    let mut lines = 0usize;
+    for line in bytes.split(|b| *b == b'\n') {
+        if !line.is_empty() {
+            lines = lines.wrapping_add(1);
+        }
+        if let Some(counts) = line.split(|b| *b == b'|').nth(3) {
+            add_counts(counts, &mut sums);
+        }
+    }
+    (sums, lines)
+}
+
+// What a live run of a case answers, with so much room for its log.
+fn play<R: Threads + Sync, G: Gate>(
+    rt: &R,
+    alloc: Global,
+    case: &Case<'_>,
+    room: usize,
+    gate: &G,
+) -> Result<(Status, MemSink, MemSink), Fail> {
+    let words = texts(alloc, &LIVE)?;
+    let mut files = MemFiles::new(files(alloc, case)?, Vec::new(alloc), 50);
+    let mut out = MemSink::new(alloc, room, Vec::new(alloc))?;
+    let mut notes = MemSink::new(alloc, 1000, Vec::new(alloc))?;
+    let status = live(rt, alloc, &words, &mut files, &mut out, &mut notes, gate);
+    Ok((status, out, notes))
+}
+
+#[test]
+fn two_fronts_stand_in_two_seconds(rt: HostRuntime) -> Result<(), Fail> {
+    let case = Case {
+        detectors: b"1:2:0\n",
+        ..DONE
+    };
+    let (status, out, notes) = play(&rt, rt.alloc(), &case, 2000, &FreeGate)?;
+    let (sums, lines) = log_sums(out.bytes());
+    assert_eq!(rt; status, Status::Done);
+    assert_eq!(rt; lines, 3);
+    assert!(rt; out.bytes().starts_with(HEADER));
+    assert!(rt; sums == file_sums(b"1:2:0\n"));
+    assert!(rt; notes.bytes().is_empty());
+    Ok(())
+}
+
+const TRAFFIC: &[u8] =
+    b"12:1:1\n6:1:1\n3:1:1 11:1:1\n\n1:1:1 5:1:1 10:1:1\n\n2:1:0 9:1:1\n2:1:1 4:1:1\n2:0:1 8:1:1\n\n1:1:1 3:1:1 7:1:1\n1:99:3\n1:0:96 64:7:7\n";
+
+#[test]
+fn four_arms_keep_their_sums(rt: HostRuntime) -> Result<(), Fail> {
+    let case = Case {
+        program: FOUR_ARMS,
+        plan: FOUR_ARMS_PLAN,
+        times: FOUR_ARMS_TIMES,
+        intergreens: FOUR_ARMS_INTERGREENS,
+        detectors: TRAFFIC,
+        ..DONE
+    };
+    let (status, out, _notes) = play(&rt, rt.alloc(), &case, 5000, &FreeGate)?;
+    let (sums, lines) = log_sums(out.bytes());
+    assert_eq!(rt; status, Status::Done);
+    assert_eq!(rt; lines, 15);
+    assert!(rt; sums == file_sums(TRAFFIC));
+    Ok(())
+}
+
+// What is refused, before the header is written.
+const REFUSALS: [Case<'static>; 4] = [
+    Case {
+        program: DECIMAL,
+        detectors: b"x\n",
+        note: b"junction: p.vap:2: Decimal\n",
+        ..REFUSED
+    },
+    Case {
+        intergreens: ONE_WAY,
+        note: b"junction: g.csv:2: OneWay K1 K2\n",
+        ..REFUSED
+    },
+    Case {
+        detectors: b"\n\n\n\n\n\n1:0:1\n",
+        status: Status::RefusedLine,
+        note: b"junction: d.txt:7: RearsAhead 1\n",
+        ..REFUSED
+    },
+    Case {
+        detectors: b"65:0:0\n",
+        status: Status::RefusedLine,
+        note: b"junction: d.txt:1: Unknown\n",
+        ..REFUSED
+    },
+];
+
+#[test]
+fn refusals_write_nothing(rt: HostRuntime) -> Result<(), Fail> {
+    let alloc = rt.alloc();
+    for (i, case) in REFUSALS.iter().enumerate() {
+        let (status, out, notes) = play(&rt, alloc, case, 2000, &FreeGate)?;
+        assert_eq!(rt; status, case.status, "case {i}");
+        assert!(rt; out.bytes().is_empty(), "case {i}");
+        assert!(rt; notes.bytes() == case.note, "case {i}");
+    }
+    Ok(())
+}
+
+const WRONG_WORDS: [&[&str]; 3] = [
+    &["run", "p.vap", "p.pua", "t.csv", "g.csv", "d.txt"],
+    &["live", "a"],
+    &[],
+];
+
+#[test]
+fn words_are_judged_and_missing_files_told(rt: HostRuntime) -> Result<(), Fail> {
+    let alloc = rt.alloc();
+    for (i, words) in WRONG_WORDS.iter().enumerate() {
+        let words = texts(alloc, words)?;
+        let mut none = MemFiles::new(Vec::new(alloc), Vec::new(alloc), 50);
+        let mut out = MemSink::new(alloc, 10, Vec::new(alloc))?;
+        let mut notes = MemSink::new(alloc, 100, Vec::new(alloc))?;
+        let status = live(
+            &rt, alloc, &words, &mut none, &mut out, &mut notes, &FreeGate,
+        );
+        assert_eq!(rt; status, Status::Words, "words {i}");
+        assert!(rt; out.bytes().is_empty());
+        assert_eq!(rt; notes.bytes(), b"junction: Words\n".as_slice());
+    }
+    // All files but the last one.
+    let words = texts(alloc, &LIVE)?;
+    let mut some = files(alloc, &DONE)?;
+    some.pop();
+    let mut some = MemFiles::new(some, Vec::new(alloc), 50);
+    let mut out = MemSink::new(alloc, 10, Vec::new(alloc))?;
+    let mut notes = MemSink::new(alloc, 100, Vec::new(alloc))?;
+    let status = live(
+        &rt, alloc, &words, &mut some, &mut out, &mut notes, &FreeGate,
+    );
+    assert_eq!(rt; status, Status::ReadFault);
+    assert!(rt; out.bytes().is_empty());
+    assert_eq!(rt; notes.bytes(), b"junction: d.txt: ReadFault\n".as_slice());
+    Ok(())
+}
+
+#[test]
+fn a_log_is_cut_where_the_sink_has_no_room(rt: HostRuntime) -> Result<(), Fail> {
+    let case = Case {
+        plan: TWO_STAGES,
+        detectors: b"\n\n\n\n",
+        ..DONE
+    };
+    let (status, out, notes) = play(&rt, rt.alloc(), &case, 50, &FreeGate)?;
+    assert_eq!(rt; status, Status::WriteFault);
+    assert_eq!(rt;
+        out.bytes(),
+        b"VAPLOG 1 K1 K2\n1|S1|RR|-|K1:Intergreen:K2|-\n2|S1|R".as_slice()
+    );
+    assert_eq!(rt; notes.bytes(), b"junction: WriteFault\n".as_slice());
+    Ok(())
+}
+
+const TURNS: u32 = 100_000_000;
+
+// Three pairs of calls, each of which returns only once the other of its pair was called.
+#[derive(Drop)]
+struct PairGate {
+    called: [AtomicU64; 6],
+    gave_up: AtomicU64,
+}
+
+impl PairGate {
+    fn new() -> PairGate {
+        PairGate {
+            called: [
+                AtomicU64::new(0),
+                AtomicU64::new(0),
+                AtomicU64::new(0),
+                AtomicU64::new(0),
+                AtomicU64::new(0),
+                AtomicU64::new(0),
+            ],
+            gave_up: AtomicU64::new(0),
+        }
+    }
+
+    fn meet(&self, own: usize, other: usize)
+        requires { (own < 6) × (other < 6) }
+    {
+        self.called[own].store(1, Ordering::SeqCst);
+        for _turn in 0..TURNS {
+            if self.called[other].load(Ordering::SeqCst) == 1 {
+                return;
+            }
+            hint::spin_loop();
+        }
+        self.gave_up.fetch_add(1, Ordering::SeqCst);
+    }
+}
+
+impl Gate for PairGate {
+    fn pass(&self, who: u8, step: u32) {
+        match (who, step) {
+            (1, 0) => self.meet(0, 1),
+            (2, 0) => self.meet(1, 0),
+            (0, 0) => self.meet(2, 3),
+            (1, 1) => self.meet(3, 2),
+            (0, 1) => self.meet(4, 5),
+            (2, 1) => self.meet(5, 4),
+            _ => {}
+        }
+    }
+}
+
+// The counts of the first record of a log.
+fn first_sums(bytes: &[u8]) -> Sums {
+    let mut sums = [(0, 0); 64];
+    if let Some(line) = bytes.split(|b| *b == b'\n').nth(1)
+        && let Some(counts) = line.split(|b| *b == b'|').nth(3)
+    {
+        add_counts(counts, &mut sums);
+    }
+    sums
+}
+
+// Feeders and controller run at once: the first take waits for the first detector's front and for no rear of the second one.
+#[test]
+fn all_actors_run_at_once(rt: HostRuntime) -> Result<(), Fail> {
+    let case = Case {
+        detectors: b"1:1:1 2:1:1\n\n",
+        ..DONE
+    };
+    let gate = PairGate::new();
+    let (status, out, _notes) = play(&rt, rt.alloc(), &case, 2000, &gate)?;
+    assert_eq!(rt; status, Status::Done);
+    assert_eq!(rt; gate.gave_up.load(Ordering::SeqCst), 0);
+    let first = first_sums(out.bytes());
+    assert_eq!(rt; first[0].0, 1);
+    assert_eq!(rt; first[1].1, 0);
+    let (sums, lines) = log_sums(out.bytes());
+    assert_eq!(rt; lines, 4);
+    assert!(rt; sums == file_sums(b"1:1:1 2:1:1\n\n"));
+    Ok(())
+}
