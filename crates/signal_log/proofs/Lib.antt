@@ -4,4 +4,6 @@ pub mod Lists
 pub mod LogLaws
 pub mod Pieces
 mod Sample
+pub mod Summed
+pub mod Tallies
 pub mod Without

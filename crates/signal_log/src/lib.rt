@@ -8,6 +8,8 @@ mod fields;
 pub mod laws;
 mod log;
 mod refused;
+mod summary;
 mod words;
 
 pub use log::{put_header, put_second, write_header, write_second};
+pub use summary::{Summary, put_summary};
