@@ -102,14 +102,19 @@ module _ (code : CodeOf) (program : Program) (runs : Runs code program) where
     no_commands = refl;
   }
 
-  -- the same records, and so the same log
+  -- the same records
+  pub same_records : Valid code → (site : Site) (frames : List Counts) →
+      records_of (code_at site code) frames ≡ records_of (program_at site program) frames
+  unfolding records_of
+  same_records valid site frames =
+      ap (λ store. run_from (machine code) site (opening site store) frames) first_is
+      ∙ runs_agree (Fits program) (machine code) (logic_of program) site (opening site (store_of program)) frames (keeps valid) runs.same first_fits
+
+  -- and so the same log
   pub same_log : Valid code → (site : Site) (frames : List Counts) →
       log_of (code_at site code) frames ≡ log_of (program_at site program) frames
-  unfolding log_of records_of
-  same_log valid site frames =
-      ap (λ store. log_text site.plan.names (run_from (machine code) site (opening site store) frames)) first_is
-      ∙ ap (λ rs. log_text site.plan.names rs)
-      (runs_agree (Fits program) (machine code) (logic_of program) site (opening site (store_of program)) frames (keeps valid) runs.same first_fits)
+  unfolding log_of
+  same_log valid site frames = ap (λ rs. log_text site.plan.names rs) (same_records valid site frames)
 
 -- its text, which spells it, is one that compiling may give
 pub compiled_text : (code : CodeOf) (program : Program) → Valid code → code_of (code_text code) ≡ Ok code → Runs code program → IsCompiled program (code_text code)
@@ -119,3 +124,8 @@ compiled_text code program valid spells runs = record { code = code; valid = val
 pub log_is : (code : CodeOf) (controller : Controller) (site : Site) (frames : List Counts) → controller_logic controller ≡ machine code → site_of controller ≡ site →
     log_of (playing_of controller (first_store code)) frames ≡ log_of (code_at site code) frames
 log_is code controller site frames logic is = λ j. log_of (record { logic = logic j; store = first_store code; site = is j }) frames
+
+-- and so are its records
+pub records_are : (code : CodeOf) (controller : Controller) (site : Site) (frames : List Counts) → controller_logic controller ≡ machine code → site_of controller ≡ site →
+    records_of (playing_of controller (first_store code)) frames ≡ records_of (code_at site code) frames
+records_are code controller site frames logic is = λ j. records_of (record { logic = logic j; store = first_store code; site = is j }) frames

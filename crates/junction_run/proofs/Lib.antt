@@ -1,4 +1,5 @@
 pub mod Agree
+pub mod Drawing
 pub mod Ends
 pub mod Guards
 pub mod LoadedRuns
@@ -7,5 +8,6 @@ pub mod Logs
 pub mod Once
 pub mod Pieces
 pub mod Plays
+pub mod Sampling
 pub mod Tables
 pub mod Texts

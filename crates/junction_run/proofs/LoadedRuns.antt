@@ -16,7 +16,7 @@ use Rattle.controller.specs.Guarded.{IsGuardedRun}
 use Rattle.controller.specs.Past.{Site}
 use Rattle.controller.proofs.Guarded.{runs_are_guarded}
 use Rattle.junction_run.specs.Codes.{CodeIs}
-use Rattle.junction_run.specs.Form.{SiteWords, Run, Compile, Exec}
+use Rattle.junction_run.specs.Form.{SiteWords, Run, Compile, Exec, Sample}
 use Rattle.junction_run.specs.Laws.{LoadedRunsAreGuarded}
 use Rattle.junction_run.specs.Loading.{Unloaded, Refusal, TooLong, unless_refused, judged, table_refusal, plan_at, times_at, intergreens_at, site_of, ◌>>=◌, Playing, program_at, code_at, map_ok, AfterSite, IsJudged, text_limit, code_limit}
 use Rattle.junction_run.specs.Programs.{ProgramIs}
@@ -116,3 +116,6 @@ loaded_runs_are_guarded (Compile program) file source frames loads = tt
 loaded_runs_are_guarded (Exec code words detectors) file playing frames loads =
     guarded playing frames
     (loaded_sound code_at (λ site v. refl) (site_of words file) (IsJudged CodeIs code_limit code (file code)) playing (site_sound words file) loads)
+loaded_runs_are_guarded (Sample program words seed seconds) file playing frames loads =
+    guarded playing frames
+    (loaded_sound program_at (λ site v. refl) (site_of words file) (IsJudged ProgramIs text_limit program (file program)) playing (site_sound words file) loads)

@@ -18,13 +18,13 @@ use Rattle.vap_code.specs.Codes.{CodeOf}
 use Rattle.vap_code.specs.Valid.{Valid, FirstBroken}
 use Rattle.controller.specs.Past.{Site}
 use Rattle.junction_run.specs.Codes.{CodeIs, no_code, unsound, is_code, instr_line}
-use Rattle.junction_run.specs.Form.{Form, Run, Compile, Exec}
+use Rattle.junction_run.specs.Form.{Form, Run, Compile, Exec, Sample}
 use Rattle.junction_run.specs.Loading.{Unloaded, Refusal, IsJudged, long, refused, accepted, Playing, map_ok, AfterSite, Loaded, Loads, site_of, text_limit, code_limit, program_at, code_at}
 use Rattle.junction_run.specs.Loading as loading
 use Rattle.junction_run.specs.Programs.{ProgramIs, no_token, no_tree, unchecked, is_program}
 use Rattle.junction_run.specs.Reasons.{lex_reason, parse_reason, check_reason, code_reason, verify_reason}
-use Rattle.junction_run.specs.Laws.{LoadsOnce, IsComplete, RefusedOnlyWhere}
-use Rattle.junction_run.specs.Answer.{answer_to, IsAnswered, stream_status}
+use Rattle.junction_run.specs.Laws.{LoadsOnce, IsComplete, RefusedOnlyWhere, SamplesRefuseNoLine}
+use Rattle.junction_run.specs.Answer.{answer_to, IsAnswered, stream_status, unloaded_answer, answered, sample_answer}
 use Rattle.det_stream.specs.declared.refusal.StreamWhy.{StreamWhy}
 use Rattle.det_stream.specs.Stream.{stream_of}
 use Rattle.junction_run.specs.declared.status.Status.{Status}
@@ -151,6 +151,9 @@ loads_once stages (Compile word) file r s a b = judged_once ProgramIs text_limit
 loads_once stages (Exec word site detectors) file r s a b =
     after_once code_at (site_of site file) (IsJudged CodeIs code_limit word (file word))
     (judged_once CodeIs code_limit word (file word) (code_once stages.first stages.none (file word))) r s a b
+loads_once stages (Sample word site seed seconds) file r s a b =
+    after_once program_at (site_of site file) (IsJudged ProgramIs text_limit word (file word))
+    (judged_once ProgramIs text_limit word (file word) (program_once stages.checked (file word))) r s a b
 
 -- the answer's own status is that of the files
 status_is : StagesOnce → (form : Form) (file : Contents) (loaded : Loaded form) (status : Status) (old new : Option (List ℕ)) → Loads form file (Ok loaded) →
@@ -188,6 +191,21 @@ refused_case form file (Err u) status loads is which = (u, loads)
 refused_case (Run word site detectors) file (Ok playing) status loads is which = absurd (stream_refuses_none status (stream_of (file detectors)).refusal is which)
 refused_case (Compile word) file (Ok source) status loads is which = absurd (done_refuses_none status is which)
 refused_case (Exec word site detectors) file (Ok playing) status loads is which = absurd (stream_refuses_none status (stream_of (file detectors)).refusal is which)
+refused_case (Sample word site seed seconds) file (Ok playing) status loads is which = absurd (done_refuses_none status is which)
 
 pub refused_only_where : RefusedOnlyWhere
 refused_only_where form file old new = (λ is. refused_case form file is.0 RefusedFile is.1 is.2 (inl refl), λ is. refused_case form file is.0 TooLong is.1 is.2 (inr refl))
+
+unloaded_refuses_no_line : (u : Unloaded) → (unloaded_answer u).status ≡ RefusedLine → ⊥
+unloaded_refuses_no_line (loading.TooLong word) e = cc
+unloaded_refuses_no_line (loading.Refused word line reason) e = cc
+
+done_refuses_no_line : Done ≡ RefusedLine → ⊥
+done_refuses_no_line e = cc
+
+no_line_case : (seed seconds : ℕ) (r : Result Playing Unloaded) → (answered (sample_answer seed seconds) r).status ≡ RefusedLine → ⊥
+no_line_case seed seconds (Ok playing) e = done_refuses_no_line e
+no_line_case seed seconds (Err u) e = unloaded_refuses_no_line u e
+
+pub samples_refuse_no_line : SamplesRefuseNoLine
+samples_refuse_no_line program words seed seconds file old new is = no_line_case seed seconds is.0 is.2

@@ -10,10 +10,11 @@ use Rattle.vap_ast.specs.Syntax.{Program}
 use Rattle.junction_run.specs.declared.status.Status.{Status}
 use Rattle.junction_run.specs.declared.status.Status.TheVariants as status
 use Rattle.junction_run.specs.Codes.{IsCompiled}
-use Rattle.junction_run.specs.Form.{Form, Run, Compile, Exec}
+use Rattle.junction_run.specs.Form.{Form, Run, Compile, Exec, Sample}
 use Rattle.junction_run.specs.Loading.{Unloaded, TooLong, Refused, Loaded, Loads, Playing}
 use Rattle.junction_run.specs.Reasons.{stream_reason}
 use Rattle.junction_run.specs.Records.{log_of}
+use Rattle.junction_run.specs.Sampled.{sample_text}
 
 -- What is answered where memory is found and nothing fails: the status; which text out may have gained after the first piece
 -- and so many more; the number of pieces; how many of them may come before the last read; and the note.
@@ -72,11 +73,22 @@ code_answer program = record {
   note = [];
 }
 
+-- the summary of the seconds over the drawn frames, in one piece, and no byte before the last read
+abbrev pub sample_answer : (seed seconds : ℕ) → Playing → Answer
+sample_answer seed seconds playing = record {
+  status = status.Done;
+  Gained = λ k text. text ≡ sample_text seed seconds playing;
+  pieces = 1;
+  before_reads = 0;
+  note = [];
+}
+
 -- the answer to a form that works on this
 abbrev pub loaded_answer : (form : Form) → Contents → Loaded form → Answer
 loaded_answer (Run program site detectors) file playing = log_answer detectors playing (stream_of (file detectors))
 loaded_answer (Compile program) file source = code_answer source
 loaded_answer (Exec code site detectors) file playing = log_answer detectors playing (stream_of (file detectors))
+loaded_answer (Sample program site seed seconds) file playing = sample_answer seed seconds playing
 
 -- this answer, or that to the first file that is not as it must be
 abbrev pub answered : {A : Type 0} → (A → Answer) → Result A Unloaded → Answer

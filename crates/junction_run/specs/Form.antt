@@ -1,6 +1,7 @@
 -- The words of a command.
-use Rattle.std.specs.Prelude.{ℕ, nat_eq, List, [], ◌∷◌, codes, Bool, Option, None, Some, if◌then◌else◌}
+use Rattle.std.specs.Prelude.{ℕ, ◌-◌, ◌^◌, nat_eq, List, [], ◌∷◌, codes, Bool, Option, None, Some, if◌then◌else◌}
 use lib.Pointwise.{pointwise}
+use Rattle.sig_types.specs.Text.{number_of, within}
 
 -- the names of the files of a site
 pub record SiteWords : Type 0 where
@@ -13,6 +14,7 @@ pub data Form : Type 0 where
   Run : (program : List ℕ) (site : SiteWords) (detectors : List ℕ) → Form
   Compile : (program : List ℕ) → Form
   Exec : (code : List ℕ) (site : SiteWords) (detectors : List ℕ) → Form
+  Sample : (program : List ℕ) (site : SiteWords) (seed seconds : ℕ) → Form
 
 abbrev pub is_word : List ℕ → List ℕ → Bool
 is_word word name = pointwise nat_eq word name
@@ -27,11 +29,25 @@ form_of_play command file site detectors =
     if is_word command (codes "run") then Some (Run file site detectors)
     else (if is_word command (codes "exec") then Some (Exec file site detectors) else None)
 
--- compile PROGRAM; run PROGRAM PUA TIMES INTERGREENS DETECTORS; exec CODE PUA TIMES INTERGREENS DETECTORS
+-- a sample by its two numbers, if there are both
+abbrev pub sample_by : (program : List ℕ) (site : SiteWords) (seed seconds : Option ℕ) → Option Form
+sample_by program site None seconds = None
+sample_by program site (Some seed) None = None
+sample_by program site (Some seed) (Some seconds) = Some (Sample program site seed seconds)
+
+-- COMMAND PROGRAM PUA TIMES INTERGREENS SEED SECONDS: decimal numbers of 0 to 2^64 - 1 and of 0 to 604,800
+abbrev pub form_of_sample : (command program : List ℕ) (site : SiteWords) (seed seconds : List ℕ) → Option Form
+form_of_sample command program site seed seconds =
+    if is_word command (codes "sample") then sample_by program site (within 0 (2 ^ 64 - 1) (number_of seed)) (within 0 604800 (number_of seconds)) else None
+
+-- compile PROGRAM; run PROGRAM PUA TIMES INTERGREENS DETECTORS; exec CODE PUA TIMES INTERGREENS DETECTORS;
+-- sample PROGRAM PUA TIMES INTERGREENS SEED SECONDS
 abbrev pub form_of : List (List ℕ) → Option Form
 form_of (command ∷ program ∷ []) = form_of_one command program
 form_of (command ∷ file ∷ plan ∷ times ∷ intergreens ∷ detectors ∷ []) =
     form_of_play command file (record { plan = plan; times = times; intergreens = intergreens }) detectors
+form_of (command ∷ program ∷ plan ∷ times ∷ intergreens ∷ seed ∷ seconds ∷ []) =
+    form_of_sample command program (record { plan = plan; times = times; intergreens = intergreens }) seed seconds
 form_of _ = None
 
 -- the files that a site is read from, in their order
@@ -43,3 +59,4 @@ abbrev pub files_of : Form → List (List ℕ)
 files_of (Run program site detectors) = site.plan ∷ site.times ∷ site.intergreens ∷ program ∷ detectors ∷ []
 files_of (Compile program) = program ∷ []
 files_of (Exec code site detectors) = site.plan ∷ site.times ∷ site.intergreens ∷ code ∷ detectors ∷ []
+files_of (Sample program site seed seconds) = site.plan ∷ site.times ∷ site.intergreens ∷ program ∷ []

@@ -2,7 +2,7 @@
 use Rattle.junction_run.specs.declared.form.SiteWords.{SiteWords as Words}
 use Rattle.junction_run.specs.declared.form.Form.{Form as Asked}
 use Rattle.junction_run.specs.declared.form.Form.TheVariants as asked
-use Rattle.junction_run.specs.Form.{SiteWords, Form, Run, Compile, Exec}
+use Rattle.junction_run.specs.Form.{SiteWords, Form, Run, Compile, Exec, Sample}
 
 abbrev pub site_in : Words → SiteWords
 site_in words = record { plan = words.plan.now; times = words.times.now; intergreens = words.intergreens.now }
@@ -11,3 +11,4 @@ abbrev pub form_in : Asked → Form
 form_in (asked.Run program site detectors) = Run program.now (site_in site) detectors.now
 form_in (asked.Compile program) = Compile program.now
 form_in (asked.Exec code site detectors) = Exec code.now (site_in site) detectors.now
+form_in (asked.Sample program site seed seconds) = Sample program.now (site_in site) seed seconds.count

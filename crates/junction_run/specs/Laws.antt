@@ -4,8 +4,8 @@ use Rattle.sig_io.specs.Outside.{Contents}
 use Rattle.sig_types.specs.Counts.{Counts}
 use Rattle.controller.specs.Guarded.{IsGuardedRun}
 use Rattle.junction_run.specs.declared.status.Status.{Status}
-use Rattle.junction_run.specs.declared.status.Status.TheVariants.{Done, Memory, ReadFault, WriteFault, RefusedFile, TooLong}
-use Rattle.junction_run.specs.Form.{Form}
+use Rattle.junction_run.specs.declared.status.Status.TheVariants.{Done, Memory, ReadFault, WriteFault, RefusedFile, RefusedLine, TooLong}
+use Rattle.junction_run.specs.Form.{SiteWords, Form, Sample}
 use Rattle.junction_run.specs.Loading.{Unloaded, Loaded, Loads, plays}
 use Rattle.junction_run.specs.Answer.{answer_to, Meets}
 
@@ -31,3 +31,9 @@ abbrev pub LoadedRunsAreGuarded : Type 0
 LoadedRunsAreGuarded =
     (form : Form) (file : Contents) (loaded : Loaded form) (frames : List Counts) → Loads form file (Ok loaded) →
     IfSome (plays form loaded) (λ playing. IsGuardedRun playing.logic playing.site playing.store frames)
+
+-- a sample reads no lines: none of them is refused
+abbrev pub SamplesRefuseNoLine : Type 0
+SamplesRefuseNoLine =
+    (program : List ℕ) (words : SiteWords) (seed seconds : ℕ) (file : Contents) (old new : Option (List ℕ)) →
+    Meets (Sample program words seed seconds) file RefusedLine old new → ⊥

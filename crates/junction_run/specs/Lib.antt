@@ -1,6 +1,7 @@
 pub mod Answer
 pub mod Answers
 pub mod Codes
+pub mod Drawn
 pub mod Ended
 pub mod Form
 pub mod FormWords
@@ -12,6 +13,7 @@ pub mod Played
 pub mod Programs
 pub mod Reasons
 pub mod Records
+pub mod Sampled
 pub mod SiteAnswer
 pub mod Sites
 pub mod Statuses

@@ -12,7 +12,7 @@ use Rattle.sig_tables.specs.TimesTable.{times_refusal, times_of}
 use Rattle.sig_tables.specs.IntergreenTable.{intergreens_refusal, intergreen_of}
 use Rattle.controller.specs.Past.{Site}
 use Rattle.junction_run.specs.Codes.{CodeIs}
-use Rattle.junction_run.specs.Form.{SiteWords, Form, Run, Compile, Exec}
+use Rattle.junction_run.specs.Form.{SiteWords, Form, Run, Compile, Exec, Sample}
 use Rattle.junction_run.specs.Programs.{ProgramIs, logic_of, store_of}
 use Rattle.junction_run.specs.Reasons.{plan_reason, table_reason}
 use Rattle.vap_ast.specs.Syntax.{Program}
@@ -124,12 +124,14 @@ abbrev pub Loaded : Form → Type 0
 Loaded (Run program site detectors) = Playing
 Loaded (Compile program) = Program
 Loaded (Exec code site detectors) = Playing
+Loaded (Sample program site seed seconds) = Playing
 
 -- what a form plays of it, if anything
 abbrev pub plays : (form : Form) → Loaded form → Option Playing
 plays (Run program site detectors) playing = Some playing
 plays (Compile program) source = None
 plays (Exec code site detectors) playing = Some playing
+plays (Sample program site seed seconds) playing = Some playing
 
 -- what the files of a form give, each of which is read, measured and judged before the next one: what the form works on, or
 -- the first file that is not as it must be
@@ -137,6 +139,7 @@ abbrev pub Loads : (form : Form) → Contents → Result (Loaded form) Unloaded 
 Loads (Run program site detectors) file r = LoadsProgram program site file r
 Loads (Compile program) file r = IsJudged ProgramIs text_limit program (file program) r
 Loads (Exec code site detectors) file r = LoadsCode code site file r
+Loads (Sample program site seed seconds) file r = LoadsProgram program site file r
 
 -- ---- which file is read
 
@@ -163,3 +166,4 @@ Reached (Run program site detectors) file word =
 Reached (Compile program) file word = word ≡ program
 Reached (Exec code site detectors) file word =
     ReachedInPlay code site detectors file (λ playing. LoadsCode code site file (Ok playing)) word
+Reached (Sample program site seed seconds) file word = ReachedAfterSite program site file word

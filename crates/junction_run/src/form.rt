@@ -1,13 +1,21 @@
 // The words of a command.
 ghost use Rattle.std.specs.Prelude.{◌≡◌, None, Some, MatchOption, map, string_bytes};
-ghost use Rattle.junction_run.specs.Form.{form_of, form_of_one, form_of_play};
+ghost use Rattle.sig_types.specs.Text.{number_of, within};
+ghost use Rattle.junction_run.specs.Form.{form_of, form_of_one, form_of_play, form_of_sample};
 ghost use Rattle.junction_run.specs.FormWords.{site_in, form_in};
+
+use crate::seconds::SampleSeconds;
+use sig_types::text::{number, number64};
 
 const RUN: &str = "run";
 
 const COMPILE: &str = "compile";
 
 const EXEC: &str = "exec";
+
+const SAMPLE: &str = "sample";
+
+const MOST_SECONDS: u32 = 604800;
 
 /// The names of the files of a site.
 #[derive(Clone, Copy)]
@@ -32,6 +40,12 @@ pub(crate) enum Form<'a> {
         code: &'a str,
         site: SiteWords<'a>,
         detectors: &'a str,
+    },
+    Sample {
+        program: &'a str,
+        site: SiteWords<'a>,
+        seed: u64,
+        seconds: SampleSeconds,
     },
 }
 
@@ -74,6 +88,42 @@ fn form_of_play<'a>(
     }
 }
 
+// A number of seconds for a sample.
+fn seconds_of(word: &str) -> Option<SampleSeconds>
+    ensures { MatchOption result (within 0 604800 (number_of word.now) ≡ None)
+        (λ seconds. within 0 604800 (number_of word.now) ≡ Some seconds.count) }
+{
+    match number(word.as_bytes(), 0, MOST_SECONDS) {
+        Some(count) => Some(SampleSeconds { count }),
+        None => None,
+    }
+}
+
+// COMMAND PROGRAM PUA TIMES INTERGREENS SEED SECONDS
+fn form_of_sample<'a>(
+    command: &str,
+    program: &'a str,
+    site: SiteWords<'a>,
+    seed: &str,
+    seconds: &str,
+) -> Option<Form<'a>>
+    ensures { MatchOption result (form_of_sample command.now program.now (site_in site.entry) seed.now seconds.now ≡ None)
+        (λ form. form_of_sample command.now program.now (site_in site.entry) seed.now seconds.now ≡ Some (form_in form)) }
+{
+    if command != SAMPLE {
+        return None;
+    }
+    match (number64(seed.as_bytes(), 0, u64::MAX), seconds_of(seconds)) {
+        (Some(seed), Some(seconds)) => Some(Form::Sample {
+            program,
+            site,
+            seed,
+            seconds,
+        }),
+        (None, _) | (Some(_), None) => None,
+    }
+}
+
 /// What the words ask for; None where they are no form.
 pub(crate) fn form_of(words: &[String]) -> Option<Form<'_>>
     ensures { MatchOption result (form_of (map string_bytes words.now) ≡ None)
@@ -88,6 +138,20 @@ pub(crate) fn form_of(words: &[String]) -> Option<Form<'_>>
                 intergreens: intergreens.as_str(),
             };
             form_of_play(command.as_str(), file.as_str(), site, detectors.as_str())
+        }
+        [command, program, plan, times, intergreens, seed, seconds] => {
+            let site = SiteWords {
+                plan: plan.as_str(),
+                times: times.as_str(),
+                intergreens: intergreens.as_str(),
+            };
+            form_of_sample(
+                command.as_str(),
+                program.as_str(),
+                site,
+                seed.as_str(),
+                seconds.as_str(),
+            )
         }
         _ => None,
     }

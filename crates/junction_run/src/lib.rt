@@ -3,12 +3,13 @@
 //! `specs/Answers` has the clause of the top call in one record. `specs/Form` says what the words ask for, `specs/Loading` what
 //! the files give, `specs/Answer` what is answered with ample memory and where nothing fails, and what a call may answer in its
 //! place; `specs/Programs` when a text is a program, `specs/Codes` when it is a code and which text compiling gives,
-//! `specs/Records` which log is written, `specs/Guarded` which rules it keeps, and `specs/Notes` and `specs/Reasons` have the
-//! notes.
+//! `specs/Records` which log is written, `specs/Guarded` which rules it keeps, `specs/Drawn` which frames a sample has and
+//! `specs/Sampled` what it writes, and `specs/Notes` and `specs/Reasons` have the notes.
 #![tactic(auto)]
 
 mod code;
 mod compile;
+mod draw;
 mod file;
 mod form;
 pub mod laws;
@@ -18,6 +19,8 @@ mod play;
 mod program;
 mod reasons;
 mod run;
+mod sample;
+mod seconds;
 mod site;
 mod status;
 mod stop;

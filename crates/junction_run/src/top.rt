@@ -14,6 +14,7 @@ use crate::compile::compile_file;
 use crate::form::{Form, form_of};
 use crate::notes::{write_stop, write_words};
 use crate::run::{exec, run};
+use crate::sample::sample;
 use crate::status::Status;
 use crate::stop::{Stop, status_of};
 use sig_io::{Files, Sink};
@@ -48,6 +49,12 @@ fn do_form<'a, F: Files, O: Sink>(
             site,
             detectors,
         } => exec(alloc, code, site, detectors, files, out),
+        Form::Sample {
+            program,
+            site,
+            seed,
+            seconds,
+        } => sample(alloc, program, site, *seed, *seconds, files, out),
     }
 }
 
@@ -88,6 +95,9 @@ fn answer_form<F: Files, O: Sink, N: Sink>(
 ///   does.
 /// - `exec CODE PUA TIMES INTERGREENS DETECTORS` writes the log of a code, whoever wrote it, as `run` writes that of a program.
 ///   After PUA, TIMES and INTERGREENS the code is read and verified.
+/// - `sample PROGRAM PUA TIMES INTERGREENS SEED SECONDS` writes what the records of SECONDS seconds, 0 to 604,800, add up to,
+///   in which detectors 1 to 12 have fronts and rears drawn from SEED, 0 to 18,446,744,073,709,551,615. The files are read as
+///   by `run`.
 pub fn junction<F: Files, O: Sink, N: Sink>(
     alloc: Global,
     words: &[String],

@@ -1,4 +1,4 @@
-use Rattle.junction_run.proofs.Once.{loads_once, complete, refused_only_where}
+use Rattle.junction_run.proofs.Once.{loads_once, complete, refused_only_where, samples_refuse_no_line}
 use Rattle.junction_run.proofs.LoadedRuns.{loaded_runs_are_guarded}
 use Rattle.junction_run.proofs.laws.answers_are_right.Goals as goal
 
@@ -13,3 +13,6 @@ returns-clause-refused c = refused_only_where
 
 pub returns-clause-guarded : goal.returns-clause-guarded
 returns-clause-guarded c = loaded_runs_are_guarded
+
+pub returns-clause-samples : goal.returns-clause-samples
+returns-clause-samples c = samples_refuse_no_line

@@ -19,3 +19,7 @@ returns-in-Exec-clause-ended g c = λ file e.
 pub returns-in-Exec-clause-safe : goal.returns-in-Exec-clause-safe
 returns-in-Exec-clause-safe g c =
     subst (λ f. IsSafe (form_in f) (g.O.Sink.taken c.args.out.now) (g.O.Sink.taken c.exec.new.out)) (sym c.in-Exec.is) c.exec.ensures.guarded
+
+pub returns-in-Sample-clause-ended : goal.returns-in-Sample-clause-ended
+returns-in-Sample-clause-ended g c = λ file e.
+    subst (λ f. IsEnded (form_in f) file c.sample.result (g.O.Sink.taken c.args.out.now) (g.O.Sink.taken c.sample.new.out)) (sym c.in-Sample.is) (c.sample.ensures.ended file e)

@@ -1,0 +1,57 @@
+-- Frames as they are drawn.
+use Rattle.std.proofs.Common.{◌≡◌, ◌∙◌, ℕ, zero, suc, ◌+◌, ◌-◌, ◌<◌, List, [], ◌∷◌, ◌++◌, length, map, replicate, set, refl, sym, ap, arith, append_assoc, add-one}
+use Rattle.std.proofs.lemmas.List.{length-map, map-append}
+use Rattle.std.proofs.Math.Seq.{set-append_seam}
+use Rattle.rand_pcg.specs.Lcg.{Lcg}
+use Rattle.rand_pcg.specs.Pcg.{pcg32}
+use Rattle.sig_types.specs.Counts.{Counts}
+use Rattle.junction_run.specs.Drawn.{words_from, after_words, drawn_pair, after_frame, after_frames, frames_from, frame_from, generator_of, drawn}
+
+-- one word more
+words_from-more : (n : ℕ) (g : Lcg) → words_from (suc n) g ≡ words_from n g ++ (pcg32 (after_words n g)).0 ∷ []
+words_from-more zero g = refl
+words_from-more (suc n) g = ap (λ ws. (pcg32 g).0 ∷ ws) (words_from-more n (pcg32 g).1)
+
+pub after_words-more : (n : ℕ) (g : Lcg) → after_words (suc n) g ≡ (pcg32 (after_words n g)).1
+after_words-more zero g = refl
+after_words-more (suc n) g = after_words-more n (pcg32 g).1
+
+pub length-words : (n : ℕ) (g : Lcg) → length (words_from n g) ≡ n
+length-words zero g = refl
+length-words (suc n) g = ap suc (length-words n (pcg32 g).1)
+
+-- a frame whose first n detectors are drawn
+abbrev pub drawn_to : ℕ → Lcg → Counts
+drawn_to n g = map drawn_pair (words_from n g) ++ replicate (64 - n) (0, 0)
+
+-- one detector more
+pub drawn_to-more : (n : ℕ) (g : Lcg) → n < 64 → set (drawn_to n g) n (drawn_pair (pcg32 (after_words n g)).0) ≡ drawn_to (n + 1) g
+drawn_to-more n g lt =
+    let front : Counts = map drawn_pair (words_from n g) in
+    let pair : ℕ × ℕ = drawn_pair (pcg32 (after_words n g)).0 in
+    let rest : Counts = replicate (64 - (n + 1)) (0, 0) in
+    let left : 64 - n ≡ suc (64 - (n + 1)) = omega arith in
+    let size : length front ≡ n = length-map (words_from n g) drawn_pair ∙ length-words n g in
+    let longer : map drawn_pair (words_from (n + 1) g) ≡ front ++ pair ∷ []
+    = ap (λ k. map drawn_pair (words_from k g)) (add-one n) ∙ ap (map drawn_pair) (words_from-more n g) ∙ map-append drawn_pair (words_from n g) ((pcg32 (after_words n g)).0 ∷ []) in
+    ap (λ k. set (front ++ replicate k (0, 0)) n pair) left
+    ∙ ap (λ k. set (front ++ (0, 0) ∷ rest) k pair) (sym size)
+    ∙ set-append_seam front (0, 0) rest pair
+    ∙ sym (ap (λ l. l ++ rest) longer ∙ append_assoc front (pair ∷ []) rest)
+
+-- one frame more
+pub after_frames-more : (n : ℕ) (g : Lcg) → after_frames (suc n) g ≡ after_frame (after_frames n g)
+after_frames-more zero g = refl
+after_frames-more (suc n) g = after_frames-more n (after_frame g)
+
+frames_from-more : (n : ℕ) (g : Lcg) → frames_from (suc n) g ≡ frames_from n g ++ frame_from (after_frames n g) ∷ []
+frames_from-more zero g = refl
+frames_from-more (suc n) g = ap (λ fs. frame_from g ∷ fs) (frames_from-more n (after_frame g))
+
+pub drawn-more : (seed n : ℕ) → drawn seed (n + 1) ≡ drawn seed n ++ frame_from (after_frames n (generator_of seed)) ∷ []
+unfolding drawn
+drawn-more seed n = ap (λ k. frames_from k (generator_of seed)) (add-one n) ∙ frames_from-more n (generator_of seed)
+
+pub drawn-none : (seed : ℕ) → drawn seed 0 ≡ []
+unfolding drawn
+drawn-none seed = refl
