@@ -5,6 +5,7 @@ pub mod Guards
 pub mod LoadedRuns
 pub mod Loads
 pub mod Logs
+pub mod NoFaults
 pub mod Once
 pub mod Pieces
 pub mod Plays

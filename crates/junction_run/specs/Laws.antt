@@ -1,11 +1,11 @@
 -- Laws over the definitions alone.
-use Rattle.std.specs.Prelude.{◌≡◌, List, ℕ, Option, IfSome, Result, Ok, Err, ◌⊎◌}
+use Rattle.std.specs.Prelude.{◌≡◌, List, ℕ, Option, Some, IfSome, Result, Ok, Err, ◌⊎◌}
 use Rattle.sig_io.specs.Outside.{Contents}
 use Rattle.sig_types.specs.Counts.{Counts}
 use Rattle.controller.specs.Guarded.{IsGuardedRun}
 use Rattle.junction_run.specs.declared.status.Status.{Status}
 use Rattle.junction_run.specs.declared.status.Status.TheVariants.{Done, Memory, ReadFault, WriteFault, RefusedFile, RefusedLine, TooLong}
-use Rattle.junction_run.specs.Form.{SiteWords, Form, Sample}
+use Rattle.junction_run.specs.Form.{SiteWords, Form, Sample, form_of}
 use Rattle.junction_run.specs.Loading.{Unloaded, Loaded, Loads, plays}
 use Rattle.junction_run.specs.Answer.{answer_to, Meets}
 
@@ -19,6 +19,13 @@ IsComplete =
     (form : Form) (file : Contents) (loaded : Loaded form) (status : Status) (old new : Option (List ℕ)) →
     Loads form file (Ok loaded) → (answer_to form file (Ok loaded)).status ≡ Done → Meets form file status old new →
     (status ≡ Done) ⊎ ((status ≡ Memory) ⊎ ((status ≡ ReadFault) ⊎ (status ≡ WriteFault)))
+
+-- where the words are a form whose files hold this, all of them are accepted and the answer is Done, nothing else comes but want
+-- of memory
+abbrev pub EndsSurely : List (List ℕ) → Contents → Status → Type 0
+EndsSurely words file status =
+    (form : Form) (loaded : Loaded form) → form_of words ≡ Some form → Loads form file (Ok loaded) →
+    (answer_to form file (Ok loaded)).status ≡ Done → (status ≡ Done) ⊎ (status ≡ Memory)
 
 -- a file is refused, or too long, only where the files give that
 abbrev pub RefusedOnlyWhere : Type 0

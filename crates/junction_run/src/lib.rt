@@ -24,6 +24,7 @@ mod seconds;
 mod site;
 mod status;
 mod stop;
+mod sure;
 mod top;
 
 pub use load::{Site, load_site};
@@ -31,4 +32,5 @@ pub use notes::{write_stop, write_words};
 pub use run::make_controller;
 pub use status::{Status, exit_status};
 pub use stop::{Reason, Stop, status_of};
+pub use sure::junction_surely;
 pub use top::junction;

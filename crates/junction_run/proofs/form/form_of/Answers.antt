@@ -21,14 +21,14 @@ returns-in_default c =
     let words : List (List ℕ) = map (string_bytes {Z = Global}) c.args.words.now in
     let same : length words ≡ length c.args.words.now = length-map c.args.words.now (string_bytes {Z = Global}) in
     elim c.in_default.branch [
-      in_default-via-then-words-lt2 w ↦
+      | in_default-via-then-words-lt2 w ↦
           let less : length c.args.words.now < 2 = search rules in
           no_form words (λ e. omega (arith, e, same, less)) (λ e. omega (arith, e, same, less)) (λ e. omega (arith, e, same, less))
-    | in_default-via-else-words-lt2+else-words-lt3+then-words-lt6 w ↦
+      | in_default-via-else-words-lt2+else-words-lt3+then-words-lt6 w ↦
           let more : 3 ≤ length c.args.words.now = search rules in
           let less : length c.args.words.now < 6 = search rules in
           no_form words (λ e. omega (arith, e, same, more)) (λ e. omega (arith, e, same, less)) (λ e. omega (arith, e, same, less))
-    | in_default-via-else-words-lt2+else-words-lt3+else-words-lt6+else-words-lt7+else-words-lt8 w ↦
+      | in_default-via-else-words-lt2+else-words-lt3+else-words-lt6+else-words-lt7+else-words-lt8 w ↦
           let more : 8 ≤ length c.args.words.now = search rules in
           no_form words (λ e. omega (arith, e, same, more)) (λ e. omega (arith, e, same, more)) (λ e. omega (arith, e, same, more))
     ]
