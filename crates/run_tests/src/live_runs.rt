@@ -1,13 +1,9 @@
 // Live runs, over files and sinks in memory.
 ghost use Rattle.std.specs.Prelude.{◌<◌};
 
-use crate::runs::{
-    Case, DECIMAL, DONE, FOUR_ARMS, FOUR_ARMS_INTERGREENS, FOUR_ARMS_PLAN, FOUR_ARMS_TIMES,
-    ONE_WAY, REFUSED, files, texts,
-};
+use crate::cases::{Case, DONE, REFUSED, files, texts};
 use junction_live::live;
 use junction_run::Status;
-use layer_tests::texts::TWO_STAGES;
 use sig_io::{FreeGate, Gate, MemFiles, MemSink};
 use sig_types::text::cut_at;
 use std::alloc::Global;
@@ -15,6 +11,10 @@ use std::hint;
 use std::sync::atomic::{AtomicU64, Ordering};
 use std::test::Fail;
 use std::thread::Threads;
+use test_texts::programs::{DECIMAL, FOUR_ARMS};
+use test_texts::sites::{
+    FOUR_ARMS_INTERGREENS, FOUR_ARMS_PLAN, FOUR_ARMS_TIMES, ONE_WAY, TWO_STAGES,
+};
 
 const LIVE: [&str; 6] = ["live", "p.vap", "p.pua", "t.csv", "g.csv", "d.txt"];
 

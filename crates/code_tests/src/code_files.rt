@@ -1,0 +1,29 @@
+// Code files that are read, judged and written again.
+use code_file::{read_code, write_code};
+use code_verify::verify;
+use sig_io::MemSink;
+use std::test::Fail;
+
+const TEXTS: [&[u8]; 2] = [
+    b"VAPCODE 1\nVARS 1\nTIMERS 0\nARRAYS 0\nROUTINES 1\n0\nCODE 5\ntick 1\npush -2147483648\nstore 0\njump 4\nret\nEND\n",
+    b"VAPCODE 1\nVARS 0\nTIMERS 1\nARRAYS 2\n-7 0 12\n5\nROUTINES 2\n0\n3\nCODE 8\ntick 1\nstart 0\nret\ntick 2\ncall 0\ntick 3\nstop 0\nret\nEND\n",
+];
+
+#[test]
+fn a_code_file_is_read_and_written_again(rt: HostRuntime) -> Result<(), Fail> {
+    let alloc = rt.alloc();
+    for text in TEXTS {
+        let Ok(code) = read_code(alloc, text) else {
+            assert!(rt; false, "not read");
+            return Ok(());
+        };
+        let Ok(code) = verify(alloc, code) else {
+            assert!(rt; false, "not valid");
+            return Ok(());
+        };
+        let mut sink = MemSink::new(alloc, 1000, Vec::new(alloc))?;
+        assert_eq!(rt; write_code(&code, &mut sink), Ok(()));
+        assert_eq!(rt; sink.bytes(), text);
+    }
+    Ok(())
+}

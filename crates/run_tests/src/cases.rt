@@ -1,0 +1,138 @@
+// Runs over files in memory, and what they must answer.
+use junction_run::{Status, junction};
+use sig_io::{Files, MemFiles, MemSink, Sink};
+use std::alloc::{AllocError, Global};
+use std::test::Fail;
+use test_texts::programs::EMPTY;
+use test_texts::sites::{DARK, INTERGREENS, TIMES};
+
+const HEADER: &[u8] = b"VAPLOG 1 K1 K2\n";
+
+pub const RUN: &[&str] = &["run", "p.vap", "p.pua", "t.csv", "g.csv", "d.txt"];
+
+pub const EXEC: &[&str] = &["exec", "c.code", "p.pua", "t.csv", "g.csv", "d.txt"];
+
+// A command with a program or a code as its first file, and what it must answer.
+#[derive(Clone, Copy)]
+pub struct Case<'a> {
+    pub words: &'static [&'static str],
+    pub program: &'a [u8],
+    pub plan: &'a [u8],
+    pub times: &'a [u8],
+    pub intergreens: &'a [u8],
+    pub detectors: &'a [u8],
+    pub status: Status,
+    // what follows the header; None where nothing was written
+    pub records: Option<&'a [u8]>,
+    pub note: &'a [u8],
+}
+
+pub const DONE: Case<'static> = Case {
+    words: RUN,
+    program: EMPTY,
+    plan: DARK,
+    times: TIMES,
+    intergreens: INTERGREENS,
+    detectors: b"",
+    status: Status::Done,
+    records: Some(b""),
+    note: b"",
+};
+
+pub const REFUSED: Case<'static> = Case {
+    status: Status::RefusedFile,
+    records: None,
+    ..DONE
+};
+
+fn file(alloc: Global, name: &str, bytes: &[u8]) -> Result<(String, Vec<u8>), AllocError> {
+    Ok((
+        String::from_str(alloc, name)?,
+        Vec::from_slice(alloc, bytes)?,
+    ))
+}
+
+pub fn texts(alloc: Global, words: &[&str]) -> Result<Vec<String>, AllocError> {
+    let mut texts = Vec::new(alloc);
+    for word in words {
+        texts.push(String::from_str(alloc, word)?)?;
+    }
+    Ok(texts)
+}
+
+// The files of a case; the second word names the first one.
+pub fn files(alloc: Global, case: &Case<'_>) -> Result<Vec<(String, Vec<u8>)>, AllocError> {
+    let mut files = Vec::new(alloc);
+    if let Some(first) = case.words.get(1) {
+        files.push(file(alloc, first, case.program)?)?;
+    }
+    files.push(file(alloc, "p.pua", case.plan)?)?;
+    files.push(file(alloc, "t.csv", case.times)?)?;
+    files.push(file(alloc, "g.csv", case.intergreens)?)?;
+    files.push(file(alloc, "d.txt", case.detectors)?)?;
+    Ok(files)
+}
+
+// What words answer over these files and this output, with the notes.
+pub fn answer<F: Files, O: Sink>(
+    alloc: Global,
+    words: &[&str],
+    files: &mut F,
+    out: &mut O,
+) -> Result<(Status, MemSink), Fail> {
+    let words = texts(alloc, words)?;
+    let mut notes = MemSink::new(alloc, 1000, Vec::new(alloc))?;
+    let status = junction(alloc, &words, files, out, &mut notes);
+    Ok((status, notes))
+}
+
+// What a case answers, with an output of so much room, and the notes.
+pub fn run_over(
+    alloc: Global,
+    case: &Case<'_>,
+    room: usize,
+) -> Result<(Status, MemSink, MemSink), Fail> {
+    let mut files = MemFiles::new(files(alloc, case)?, Vec::new(alloc), 65536);
+    let mut out = MemSink::new(alloc, room, Vec::new(alloc))?;
+    let (status, notes) = answer(alloc, case.words, &mut files, &mut out)?;
+    Ok((status, out, notes))
+}
+
+// What follows this front.
+pub fn after<'a>(front: &[u8], bytes: &'a [u8]) -> Option<&'a [u8]> {
+    let (head, rest) = bytes.split_at_checked(front.len())?;
+    if head == front { Some(rest) } else { None }
+}
+
+// Whether these bytes are the first ones of a text.
+fn is_front(front: &[u8], text: &[u8]) -> bool {
+    after(front, text).is_some()
+}
+
+// Whether these bytes are the header with these records, or nothing where none were written.
+pub fn is_log(bytes: &[u8], records: Option<&[u8]>) -> bool {
+    match records {
+        None => bytes.is_empty(),
+        Some(records) => after(HEADER, bytes) == Some(records),
+    }
+}
+
+// Whether these bytes are a front of the header with these records.
+pub fn is_log_front(bytes: &[u8], records: Option<&[u8]>) -> bool {
+    match (after(HEADER, bytes), records) {
+        (Some(front), Some(records)) => is_front(front, records),
+        (Some(_), None) => false,
+        (None, _) => is_front(bytes, HEADER),
+    }
+}
+
+// Whether a case answers otherwise than it must, with this note.
+pub fn fails_with(alloc: Global, case: &Case<'_>, note: &[u8]) -> Result<bool, Fail> {
+    let (status, out, notes) = run_over(alloc, case, 2000)?;
+    Ok(status != case.status || !is_log(out.bytes(), case.records) || notes.bytes() != note)
+}
+
+// Whether a case answers otherwise than it must.
+pub fn fails(alloc: Global, case: &Case<'_>) -> Result<bool, Fail> {
+    fails_with(alloc, case, case.note)
+}

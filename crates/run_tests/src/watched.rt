@@ -1,0 +1,56 @@
+// Files and sinks of a test's own, which watch how they are called.
+ghost use Rattle.std.specs.Prelude.{None};
+
+use sig_io::{Failed, Files, MemFiles, MemSink, Sink};
+
+// Files in memory that don't tell what they hold. They note the first byte of each name that is asked for, once while the same
+// is asked for on and on, and a `!` for each call that fails; a name after a `!` is noted anew.
+#[derive(Drop)]
+pub struct WatchedFiles {
+    pub files: MemFiles,
+    pub asked: Vec<u8>,
+}
+
+impl Files for WatchedFiles {
+    ghost told = { λ m. None };
+
+    ghost faults = { λ m. ⟦<MemFiles as Files>⟧.faults m.files };
+
+    fn read_at(&mut self, name: &str, place: u64, buf: &mut [u8]) -> Result<usize, Failed> {
+        let first = name.as_bytes().first().copied();
+        if let Some(byte) = first
+            && self.asked.last().copied() != first
+        {
+            let _ = self.asked.push(byte);
+        }
+        let read = self.files.read_at(name, place, buf);
+        if read.is_err() {
+            let _ = self.asked.push(b'!');
+        }
+        read
+    }
+}
+
+// A sink that takes at most seven bytes a call, doesn't tell what it took, and counts the calls after one that failed.
+#[derive(Drop)]
+pub struct WatchedSink {
+    pub sink: MemSink,
+    pub failed: bool,
+    pub late: u32,
+}
+
+impl Sink for WatchedSink {
+    ghost taken = { λ s. None };
+
+    ghost faults = { λ s. ⟦<MemSink as Sink>⟧.faults s.sink };
+
+    fn write_some(&mut self, piece: &[u8]) -> Result<usize, Failed> {
+        if self.failed {
+            self.late = self.late.saturating_add(1);
+        }
+        let (front, _) = piece.split_at(piece.len().min(7));
+        let taken = self.sink.write_some(front);
+        self.failed = self.failed || taken.is_err();
+        taken
+    }
+}
