@@ -14,4 +14,6 @@ mod live_runs;
 #[cfg(test)]
 mod runs;
 #[cfg(test)]
+mod samples;
+#[cfg(test)]
 mod watched;

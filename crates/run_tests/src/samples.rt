@@ -1,0 +1,41 @@
+// Samples: drawn detectors of a junction of four arms, and the summary of their records.
+use crate::cases::{Case, DONE, run_over};
+use junction_run::Status;
+use std::alloc::Global;
+use std::test::Fail;
+use test_texts::programs::FOUR_ARMS;
+use test_texts::sites::{FOUR_ARMS_INTERGREENS, FOUR_ARMS_PLAN, FOUR_ARMS_TIMES};
+
+// No interstage begins in nine seconds, so the seed doesn't matter.
+const NINE: &[u8] =
+    b"SAMPLE 7 9\nGREENS K1:1 K2:1 K3:0 K4:0 K5:0 K6:0 K7:0 K8:0\nREFUSED Sequence:0 MinGreen:0 Conflict:0 Intergreen:6 Running:0 WrongStage:0 NoInterstage:0\nFAULTS Budget:0 Overflow:0 ZeroDivisor:0 Index:0 Number:0\n";
+
+const LAST_LINES: &[u8] =
+    b"REFUSED Sequence:0 MinGreen:0 Conflict:0 Intergreen:6 Running:0 WrongStage:0 NoInterstage:0\nFAULTS Budget:0 Overflow:0 ZeroDivisor:0 Index:0 Number:0\n";
+
+// What a sample of so many seconds writes.
+fn sampled(alloc: Global, seconds: &str) -> Result<Vec<u8>, Fail> {
+    let case = Case {
+        words: &["sample", "p.vap", "p.pua", "t.csv", "g.csv", "7", seconds],
+        program: FOUR_ARMS,
+        plan: FOUR_ARMS_PLAN,
+        times: FOUR_ARMS_TIMES,
+        intergreens: FOUR_ARMS_INTERGREENS,
+        ..DONE
+    };
+    let (status, out, notes) = run_over(alloc, &case, 1000)?;
+    if status != Status::Done || !notes.bytes().is_empty() {
+        return Err(Fail::new("no sample"));
+    }
+    Ok(out.bytes().to_vec(alloc)?)
+}
+
+#[test]
+fn samples_are_summed_up(rt: HostRuntime) -> Result<(), Fail> {
+    let alloc = rt.alloc();
+    assert_eq!(rt; sampled(alloc, "9")?.as_slice(), NINE);
+    let hour = sampled(alloc, "3600")?;
+    assert!(rt; hour.ends_with(LAST_LINES));
+    assert_eq!(rt; sampled(alloc, "3600")?, hour);
+    Ok(())
+}
