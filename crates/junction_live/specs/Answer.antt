@@ -47,6 +47,7 @@ pub record IsCutLog (playing : Playing) (frames : List Counts) (old new : Option
 abbrev pub refusal_in : LiveWords → Contents → Option (ℕ × StreamWhy)
 refusal_in form file = (stream_of (file form.detectors)).refusal
 
+-- the frames of the detector file, up to its end or its first refused line
 abbrev pub frames_in : LiveWords → Contents → List Counts
 frames_in form file = (stream_of (file form.detectors)).frames
 

@@ -8,6 +8,7 @@ use Rattle.det_board.specs.Passes.{Boarded, Feeding, Ticking, fronts_loads, rear
 abbrev pub fronts_in : ℕ → Counts → ℕ
 fronts_in d f = (slice_index_or f d (0, 0)).0
 
+-- the rears of the detector at place d in one frame
 abbrev pub rears_in : ℕ → Counts → ℕ
 rears_in d f = (slice_index_or f d (0, 0)).1
 
@@ -15,6 +16,7 @@ rears_in d f = (slice_index_or f d (0, 0)).1
 abbrev pub all_fronts : ℕ → List Counts → ℕ
 all_fronts d fs = sum_by (fronts_in d) fs
 
+-- the rears of the detector at place d in all frames
 abbrev pub all_rears : ℕ → List Counts → ℕ
 all_rears d fs = sum_by (rears_in d) fs
 

@@ -25,9 +25,11 @@ pub record Answer : Type 1 where
   pub before_reads : ℕ
   pub note : List ℕ
 
+-- whatever the number of pieces, the text is empty
 abbrev pub nothing : ℕ → List ℕ → Type 0
 nothing k text = text ≡ []
 
+-- a note, with the name of the program before it and its line feed
 abbrev pub note_of : List ℕ → List ℕ
 note_of text = codes "junction: " ++ text ++ 10 ∷ []
 
@@ -39,6 +41,7 @@ line_note word line reason = note_of (word ++ 58 ∷ decimal line ++ codes ": " 
 abbrev pub stopped : Status → List ℕ → Answer
 stopped status note = record { status = status; Gained = nothing; pieces = 0; before_reads = 0; note = note }
 
+-- the answer where a file is too long or is refused: its status and its note, and nothing for out
 abbrev pub unloaded_answer : Unloaded → Answer
 unloaded_answer (TooLong word) = stopped status.TooLong (note_of (word ++ codes ": TooLong"))
 unloaded_answer (Refused word line reason) = stopped status.RefusedFile (line_note word line reason)
@@ -48,6 +51,7 @@ abbrev pub stream_status : Option (ℕ × StreamWhy) → Status
 stream_status None = status.Done
 stream_status (Some at) = status.RefusedLine
 
+-- the note of a refused line of the detector file; none where the file ends
 abbrev pub stream_note : List ℕ → Option (ℕ × StreamWhy) → List ℕ
 stream_note word None = []
 stream_note word (Some at) = line_note word at.0 (stream_reason at.1)

@@ -16,6 +16,7 @@ pub data Form : Type 0 where
   Exec : (code : List ℕ) (site : SiteWords) (detectors : List ℕ) → Form
   Sample : (program : List ℕ) (site : SiteWords) (seed seconds : ℕ) → Form
 
+-- the word is this name, byte for byte
 abbrev pub is_word : List ℕ → List ℕ → Bool
 is_word word name = pointwise nat_eq word name
 

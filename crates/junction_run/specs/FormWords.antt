@@ -4,9 +4,11 @@ use Rattle.junction_run.specs.declared.form.Form.{Form as Asked}
 use Rattle.junction_run.specs.declared.form.Form.TheVariants as asked
 use Rattle.junction_run.specs.Form.{SiteWords, Form, Run, Compile, Exec, Sample}
 
+-- the names of the files of a site, as the definitions see them
 abbrev pub site_in : Words → SiteWords
 site_in words = record { plan = words.plan.now; times = words.times.now; intergreens = words.intergreens.now }
 
+-- what the words ask for, as the definitions see it
 abbrev pub form_in : Asked → Form
 form_in (asked.Run program site detectors) = Run program.now (site_in site) detectors.now
 form_in (asked.Compile program) = Compile program.now

@@ -39,14 +39,17 @@ code_limit = 2097152
 
 -- ---- the site
 
+-- the line at which a PUA file is refused, with the reason as a note tells it
 abbrev pub plan_refusal : Option (ℕ × PuaWhy) → Option Refusal
 plan_refusal None = None
 plan_refusal (Some at) = Some (at.0, plan_reason at.1)
 
+-- the same of a table, whose reasons may name groups of the plan
 abbrev pub table_refusal : PlanOf → Option (ℕ × TableWhy) → Option Refusal
 table_refusal plan None = None
 table_refusal plan (Some at) = Some (at.0, table_reason plan.names at.1)
 
+-- the value of a text that is not refused
 abbrev pub unless_refused : {A : Type 0} → List ℕ → Option Refusal → A → Result A Unloaded
 unless_refused word None value = Ok value
 unless_refused word (Some at) value = Err (Refused word at.0 at.1)
@@ -56,9 +59,11 @@ abbrev pub judged : {A : Type 0} → List ℕ → List ℕ → Option Refusal �
 judged word bytes refusal value =
     if nat_lt text_limit (length bytes) then Err (TooLong word) else unless_refused word refusal value
 
+-- the plan of the PUA file, or why there is none
 abbrev pub plan_at : Contents → List ℕ → Result PlanOf Unloaded
 plan_at file word = judged word (file word) (plan_refusal (refusal_of (file word))) (plan_of_text (file word))
 
+-- the times of the table, read against the plan
 abbrev pub times_at : Contents → List ℕ → PlanOf → Result (List TimesRow) Unloaded
 times_at file word plan = judged word (file word) (table_refusal plan (times_refusal plan (file word))) (times_of plan (file word))
 
@@ -68,6 +73,7 @@ intergreens_at file word plan =
     judged word (file word) (table_refusal plan (intergreens_refusal plan (file word))) (intergreen_of plan (file word))
 
 infixl 10 ◌>>=◌
+-- the next step on what the one before gave; the first file that is not as it must be ends them all
 abbrev pub ◌>>=◌ : {A B : Type 0} → Result A Unloaded → (A → Result B Unloaded) → Result B Unloaded
 (Ok x) >>= f = f x
 (Err e) >>= f = Err e
@@ -96,12 +102,15 @@ pub record Playing : Type 0 where
   pub store : Store
   pub site : Site
 
+-- what is played of a program at a site: its own meaning, from its first store on
 abbrev pub program_at : Site → Program → Playing
 program_at site program = record { logic = logic_of program; store = store_of program; site = site }
 
+-- what is played of a code at a site: the meaning of the code, from its first store on
 abbrev pub code_at : Site → CodeOf → Playing
 code_at site code = record { logic = machine code; store = machines.first_store code; site = site }
 
+-- the value that a function makes of what was loaded
 abbrev pub map_ok : {A B : Type 0} → (A → B) → Result A Unloaded → Result B Unloaded
 map_ok f (Ok x) = Ok (f x)
 map_ok f (Err u) = Err u

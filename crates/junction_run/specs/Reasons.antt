@@ -37,6 +37,7 @@ plan_reason pua.PairTwice = codes "PairTwice"
 plan_reason (pua.Inconsistent inter group name) = codes "Inconsistent " ++ decimal inter ++ codes " " ++ name
 plan_reason pua.Limit = codes "Limit"
 
+-- the name of a group; no bytes where there is no such group
 abbrev pub name_of : List (List ℕ) → GroupNo → List ℕ
 name_of names group = slice_index_or names group.0 []
 
@@ -51,12 +52,14 @@ table_reason names (table.Missing group) = codes "Missing " ++ name_of names gro
 table_reason names (table.OneWay from to) = codes "OneWay " ++ name_of names from ++ codes " " ++ name_of names to
 table_reason names table.SelfConflict = codes "SelfConflict"
 
+-- the reason why a text has no tokens from a place on
 abbrev pub lex_reason : LexWhy → List ℕ
 lex_reason lex.Byte = codes "Byte"
 lex_reason lex.OpenComment = codes "OpenComment"
 lex_reason lex.Decimal = codes "Decimal"
 lex_reason lex.NumberRange = codes "NumberRange"
 
+-- the reason why tokens are no program
 abbrev pub parse_reason : ParseWhy → List ℕ
 parse_reason (parse.Unexpected place) = codes "Unexpected"
 parse_reason parse.Frequency = codes "Frequency"
@@ -71,6 +74,7 @@ which_name which.Cells = codes "Cells"
 which_name which.Subroutines = codes "Subroutines"
 which_name which.Labels = codes "Labels"
 
+-- the reason why a program fails its checks
 abbrev pub check_reason : CheckWhy → List ℕ
 check_reason check.ConstTwice = codes "ConstTwice"
 check_reason check.NameKind = codes "NameKind"

@@ -14,6 +14,7 @@ use Rattle.junction_run.specs.Codes.{CodeIs}
 use Rattle.junction_run.specs.Form.{SiteWords}
 use Rattle.junction_run.specs.Loading.{Playing, LoadsProgram, LoadsCode, program_at, code_at, ReachedAfterSite, IsJudged, text_limit, code_limit}
 use Rattle.junction_run.specs.Programs.{ProgramIs}
+-- a code that does what a program does
 pub use Rattle.junction_run.specs.Programs.{Runs}
 use Rattle.junction_run.specs.Stop.{IsRefusedBy, IsUnloadedBy}
 
@@ -21,6 +22,7 @@ use Rattle.junction_run.specs.Stop.{IsRefusedBy, IsUnloadedBy}
 abbrev pub site_of_tables : SiteTables → Site
 site_of_tables tables = record { plan = tables.plan; rules = rules_of tables.times tables.intergreens }
 
+-- the site that was loaded, by its plan and its tables
 abbrev pub site_in : Loaded → Site
 site_in s = record { plan = s.plan; rules = rules_of s.times s.intergreens }
 

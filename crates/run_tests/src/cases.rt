@@ -8,11 +8,13 @@ use test_texts::sites::{DARK, INTERGREENS, TIMES};
 
 const HEADER: &[u8] = b"VAPLOG 1 K1 K2\n";
 
+/// The words of a run over the files of a case.
 pub const RUN: &[&str] = &["run", "p.vap", "p.pua", "t.csv", "g.csv", "d.txt"];
 
+/// The words of a run of a code file.
 pub const EXEC: &[&str] = &["exec", "c.code", "p.pua", "t.csv", "g.csv", "d.txt"];
 
-// A command with a program or a code as its first file, and what it must answer.
+/// A command with a program or a code as its first file, and what it must answer.
 #[derive(Clone, Copy)]
 pub struct Case<'a> {
     pub words: &'static [&'static str],
@@ -27,6 +29,7 @@ pub struct Case<'a> {
     pub note: &'a [u8],
 }
 
+/// A run of no second, which is done.
 pub const DONE: Case<'static> = Case {
     words: RUN,
     program: EMPTY,
@@ -39,6 +42,7 @@ pub const DONE: Case<'static> = Case {
     note: b"",
 };
 
+/// A run over a file that is refused, so that nothing is written.
 pub const REFUSED: Case<'static> = Case {
     status: Status::RefusedFile,
     records: None,
@@ -52,6 +56,7 @@ fn file(alloc: Global, name: &str, bytes: &[u8]) -> Result<(String, Vec<u8>), Al
     ))
 }
 
+/// The words as the calls take them.
 pub fn texts(alloc: Global, words: &[&str]) -> Result<Vec<String>, AllocError> {
     let mut texts = Vec::new(alloc);
     for word in words {
@@ -60,7 +65,7 @@ pub fn texts(alloc: Global, words: &[&str]) -> Result<Vec<String>, AllocError> {
     Ok(texts)
 }
 
-// The files of a case; the second word names the first one.
+/// The files of a case; the second word names the first one.
 pub fn files(alloc: Global, case: &Case<'_>) -> Result<Vec<(String, Vec<u8>)>, AllocError> {
     let mut files = Vec::new(alloc);
     if let Some(first) = case.words.get(1) {
@@ -73,7 +78,7 @@ pub fn files(alloc: Global, case: &Case<'_>) -> Result<Vec<(String, Vec<u8>)>, A
     Ok(files)
 }
 
-// What words answer over these files and this output, with the notes.
+/// What words answer over these files and this output, with the notes.
 pub fn answer<F: Files, O: Sink>(
     alloc: Global,
     words: &[&str],
@@ -86,7 +91,7 @@ pub fn answer<F: Files, O: Sink>(
     Ok((status, notes))
 }
 
-// What a case answers, with an output of so much room, and the notes.
+/// What a case answers, with an output of so much room, and the notes.
 pub fn run_over(
     alloc: Global,
     case: &Case<'_>,
@@ -98,7 +103,7 @@ pub fn run_over(
     Ok((status, out, notes))
 }
 
-// What follows this front.
+/// What follows this front.
 pub fn after<'a>(front: &[u8], bytes: &'a [u8]) -> Option<&'a [u8]> {
     let (head, rest) = bytes.split_at_checked(front.len())?;
     if head == front { Some(rest) } else { None }
@@ -109,7 +114,7 @@ fn is_front(front: &[u8], text: &[u8]) -> bool {
     after(front, text).is_some()
 }
 
-// Whether these bytes are the header with these records, or nothing where none were written.
+/// Whether these bytes are the header with these records, or nothing where none were written.
 pub fn is_log(bytes: &[u8], records: Option<&[u8]>) -> bool {
     match records {
         None => bytes.is_empty(),
@@ -117,7 +122,7 @@ pub fn is_log(bytes: &[u8], records: Option<&[u8]>) -> bool {
     }
 }
 
-// Whether these bytes are a front of the header with these records.
+/// Whether these bytes are a front of the header with these records.
 pub fn is_log_front(bytes: &[u8], records: Option<&[u8]>) -> bool {
     match (after(HEADER, bytes), records) {
         (Some(front), Some(records)) => is_front(front, records),
@@ -126,13 +131,13 @@ pub fn is_log_front(bytes: &[u8], records: Option<&[u8]>) -> bool {
     }
 }
 
-// Whether a case answers otherwise than it must, with this note.
+/// Whether a case answers otherwise than it must, with this note.
 pub fn fails_with(alloc: Global, case: &Case<'_>, note: &[u8]) -> Result<bool, Fail> {
     let (status, out, notes) = run_over(alloc, case, 2000)?;
     Ok(status != case.status || !is_log(out.bytes(), case.records) || notes.bytes() != note)
 }
 
-// Whether a case answers otherwise than it must.
+/// Whether a case answers otherwise than it must.
 pub fn fails(alloc: Global, case: &Case<'_>) -> Result<bool, Fail> {
     fails_with(alloc, case, case.note)
 }

@@ -8,7 +8,7 @@ use test_texts::programs::JUMP;
 
 const COMPILE: &[&str] = &["compile", "p.vap"];
 
-// The bytes that a program is compiled to.
+/// The bytes that a program is compiled to.
 pub fn compiled(alloc: Global, program: &[u8]) -> Result<Vec<u8>, Fail> {
     let case = Case {
         words: COMPILE,

@@ -14,7 +14,7 @@ use test_texts::sites::{
     ONE_WAY, ROWS, TWO_STAGES, WRONG_ROWS,
 };
 
-// A jump into a branch.
+/// A jump into a branch.
 pub const JUMP_RUN: Case<'static> = Case {
     program: JUMP,
     plan: TWO_STAGES,
@@ -25,7 +25,7 @@ pub const JUMP_RUN: Case<'static> = Case {
     ..DONE
 };
 
-// A timer that two fronts start.
+/// A timer that two fronts start.
 pub const TIMER_RUN: Case<'static> = Case {
     program: TIMER,
     plan: TWO_STAGES,

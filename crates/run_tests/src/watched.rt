@@ -3,8 +3,8 @@ ghost use Rattle.std.specs.Prelude.{None};
 
 use sig_io::{Failed, Files, MemFiles, MemSink, Sink};
 
-// Files in memory that don't tell what they hold. They note the first byte of each name that is asked for, once while the same
-// is asked for on and on, and a `!` for each call that fails; a name after a `!` is noted anew.
+/// Files in memory that don't tell what they hold. They note the first byte of each name that is asked for, once while the same
+/// is asked for on and on, and a `!` for each call that fails; a name after a `!` is noted anew.
 #[derive(Drop)]
 pub struct WatchedFiles {
     pub files: MemFiles,
@@ -31,7 +31,7 @@ impl Files for WatchedFiles {
     }
 }
 
-// A sink that takes at most seven bytes a call, doesn't tell what it took, and counts the calls after one that failed.
+/// A sink that takes at most seven bytes a call, doesn't tell what it took, and counts the calls after one that failed.
 #[derive(Drop)]
 pub struct WatchedSink {
     pub sink: MemSink,
