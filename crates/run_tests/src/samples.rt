@@ -13,10 +13,14 @@ const NINE: &[u8] =
 const LAST_LINES: &[u8] =
     b"REFUSED Sequence:0 MinGreen:0 Conflict:0 Intergreen:6 Running:0 WrongStage:0 NoInterstage:0\nFAULTS Budget:0 Overflow:0 ZeroDivisor:0 Index:0 Number:0\n";
 
-// What a sample of so many seconds writes.
-fn sampled(alloc: Global, seconds: &str) -> Result<Vec<u8>, Fail> {
+const NINE_SECONDS: &[&str] = &["sample", "p.vap", "p.pua", "t.csv", "g.csv", "7", "9"];
+
+const AN_HOUR: &[&str] = &["sample", "p.vap", "p.pua", "t.csv", "g.csv", "7", "3600"];
+
+// What these words write over the files of the four arms.
+fn sampled(alloc: Global, words: &'static [&'static str]) -> Result<Vec<u8>, Fail> {
     let case = Case {
-        words: &["sample", "p.vap", "p.pua", "t.csv", "g.csv", "7", seconds],
+        words,
         program: FOUR_ARMS,
         plan: FOUR_ARMS_PLAN,
         times: FOUR_ARMS_TIMES,
@@ -33,9 +37,9 @@ fn sampled(alloc: Global, seconds: &str) -> Result<Vec<u8>, Fail> {
 #[test]
 fn samples_are_summed_up(rt: HostRuntime) -> Result<(), Fail> {
     let alloc = rt.alloc();
-    assert_eq!(rt; sampled(alloc, "9")?.as_slice(), NINE);
-    let hour = sampled(alloc, "3600")?;
+    assert_eq!(rt; sampled(alloc, NINE_SECONDS)?.as_slice(), NINE);
+    let hour = sampled(alloc, AN_HOUR)?;
     assert!(rt; hour.ends_with(LAST_LINES));
-    assert_eq!(rt; sampled(alloc, "3600")?, hour);
+    assert_eq!(rt; sampled(alloc, AN_HOUR)?, hour);
     Ok(())
 }
