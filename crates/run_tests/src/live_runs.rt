@@ -2,6 +2,7 @@
 ghost use Rattle.std.specs.Prelude.{◌<◌};
 
 use crate::cases::{Case, DONE, REFUSED, files, texts};
+use crate::watched::{WatchedFiles, WatchedSink};
 use junction_live::live;
 use junction_run::Status;
 use sig_io::{FreeGate, Gate, MemFiles, MemSink};
@@ -91,13 +92,15 @@ fn play<R: Threads + Sync, G: Gate>(
     Ok((status, out, notes))
 }
 
+// Two fronts of one detector in one line.
+const TWO_FRONTS: Case<'static> = Case {
+    detectors: b"1:2:0\n",
+    ..DONE
+};
+
 #[test]
 fn two_fronts_stand_in_two_seconds(rt: HostRuntime) -> Result<(), Fail> {
-    let case = Case {
-        detectors: b"1:2:0\n",
-        ..DONE
-    };
-    let (status, out, notes) = play(&rt, rt.alloc(), &case, 2000, &FreeGate)?;
+    let (status, out, notes) = play(&rt, rt.alloc(), &TWO_FRONTS, 2000, &FreeGate)?;
     let (sums, lines) = log_sums(out.bytes());
     assert_eq!(rt; status, Status::Done);
     assert_eq!(rt; lines, 3);
@@ -155,14 +158,21 @@ const REFUSALS: [Case<'static>; 4] = [
     },
 ];
 
+// Whether a live run of a case is refused as it must be, with this note, and writes nothing.
+fn is_refused<R: Threads + Sync>(
+    rt: &R,
+    alloc: Global,
+    case: &Case<'_>,
+    note: &[u8],
+) -> Result<bool, Fail> {
+    let (status, out, notes) = play(rt, alloc, case, 2000, &FreeGate)?;
+    Ok(status == case.status && out.bytes().is_empty() && notes.bytes() == note)
+}
+
 #[test]
 fn refusals_write_nothing(rt: HostRuntime) -> Result<(), Fail> {
-    let alloc = rt.alloc();
     for (i, case) in REFUSALS.iter().enumerate() {
-        let (status, out, notes) = play(&rt, alloc, case, 2000, &FreeGate)?;
-        assert_eq!(rt; status, case.status, "case {i}");
-        assert!(rt; out.bytes().is_empty(), "case {i}");
-        assert!(rt; notes.bytes() == case.note, "case {i}");
+        assert!(rt; is_refused(&rt, rt.alloc(), case, case.note)?, "case {i}");
     }
     Ok(())
 }
@@ -218,6 +228,87 @@ fn a_log_is_cut_where_the_sink_has_no_room(rt: HostRuntime) -> Result<(), Fail> 
         b"VAPLOG 1 K1 K2\n1|S1|RR|-|K1:Intergreen:K2|-\n2|S1|R".as_slice()
     );
     assert_eq!(rt; notes.bytes(), b"junction: WriteFault\n".as_slice());
+    Ok(())
+}
+
+// More calls than a live run of one line makes.
+const MOST: u64 = 500;
+
+// A live run over files that give one byte a call, of which the call of that number fails: nothing is asked for after the
+// failure, and nothing is written.
+fn with_read_fault<R: Threads + Sync>(
+    rt: &R,
+    alloc: Global,
+    case: &Case<'_>,
+    call: u64,
+) -> Result<(Status, bool), Fail> {
+    let words = texts(alloc, &LIVE)?;
+    let mut files = WatchedFiles {
+        files: MemFiles::new(files(alloc, case)?, vec![in alloc; call]?, 1),
+        asked: Vec::new(alloc),
+    };
+    let mut out = MemSink::new(alloc, 2000, Vec::new(alloc))?;
+    let mut notes = MemSink::new(alloc, 1000, Vec::new(alloc))?;
+    let status = live(
+        rt, alloc, &words, &mut files, &mut out, &mut notes, &FreeGate,
+    );
+    let stopped = files.asked.last().copied() == Some(b'!');
+    Ok((status, stopped && out.bytes().is_empty()))
+}
+
+// The same with a sink that takes a few bytes a call: nothing is written after the failure, and no event is counted twice.
+fn with_write_fault<R: Threads + Sync>(
+    rt: &R,
+    alloc: Global,
+    case: &Case<'_>,
+    call: u64,
+) -> Result<(Status, bool), Fail> {
+    let words = texts(alloc, &LIVE)?;
+    let mut files = MemFiles::new(files(alloc, case)?, Vec::new(alloc), 50);
+    let mut out = WatchedSink {
+        sink: MemSink::new(alloc, 2000, vec![in alloc; call]?)?,
+        failed: false,
+        late: 0,
+    };
+    let mut notes = MemSink::new(alloc, 1000, Vec::new(alloc))?;
+    let status = live(
+        rt, alloc, &words, &mut files, &mut out, &mut notes, &FreeGate,
+    );
+    let (sums, _lines) = log_sums(out.sink.bytes());
+    Ok((
+        status,
+        out.failed && out.late == 0 && sums[0].0 <= 2 && sums[0].1 == 0,
+    ))
+}
+
+// How many calls fail one after the other, each as it must, until a live run meets no failure.
+fn failing_calls<R: Threads + Sync>(rt: &R, alloc: Global, writes: bool) -> Result<u64, Fail> {
+    for call in 0..MOST {
+        let (status, as_wanted) = if writes {
+            with_write_fault(rt, alloc, &TWO_FRONTS, call)?
+        } else {
+            with_read_fault(rt, alloc, &TWO_FRONTS, call)?
+        };
+        let wanted = if writes {
+            Status::WriteFault
+        } else {
+            Status::ReadFault
+        };
+        if status == Status::Done {
+            return Ok(call);
+        }
+        if status != wanted || !as_wanted {
+            return Err(Fail::new("answers otherwise than it must"));
+        }
+    }
+    Err(Fail::new("never ends"))
+}
+
+#[test]
+fn each_call_of_a_live_run_fails_in_turn(rt: HostRuntime) -> Result<(), Fail> {
+    let reads = failing_calls(&rt, rt.alloc(), false)?;
+    let writes = failing_calls(&rt, rt.alloc(), true)?;
+    assert!(rt; 100 < reads && 5 < writes, "{reads} {writes}");
     Ok(())
 }
 
