@@ -1,27 +1,19 @@
 // The active stage, counted on from second to second.
-ghost use Rattle.std.specs.Prelude.{◌≡◌, ℕ, ◌+◌, ◌<◌, ◌≤◌, List, [], ◌∷◌, length, slice_index_or, false, IfSome, MatchResult, None, Some};
-ghost use Rattle.pua_model.specs.Plan.{PlanOf, HasStage, groups_in, length_between};
+ghost use Rattle.std.specs.Prelude.{◌≡◌, ℕ, ◌+◌, ◌<◌, ◌≤◌, List, [], ◌∷◌, length, slice_index_or, false, MatchResult, None, Some};
+ghost use Rattle.pua_model.specs.Plan.{PlanOf, HasStage, groups_in};
 
 use pua_model::Plan;
-use sig_types::{GroupNo, Rule, Second, StageNo, StagePlace, Wishes};
+use sig_types::{InterNo, Rule, Second, StageNo, StagePlace, Wishes};
 
+// The number and the length of the interstage are kept while it runs, so that no second looks them up again.
 /// The stage that is active, or the interstage that runs, in some second.
 #[derive(Drop)]
 pub struct StageState {
     place: StagePlace,
     since: u32,
     second: u32,
-}
-
-// The length of the interstage of a pair of stages.
-fn length_between(plan: &Plan, from: StageNo, to: StageNo) -> Option<u8>
-    ensures length { result ≡ length_between plan.now from.0 to.0 }
-    ensures range { IfSome result (λ n. (1 ≤ n) × (n ≤ 126)) }
-{
-    match plan.interstage(from, to) {
-        None => None,
-        Some(interstage) => Some(plan.length(interstage)),
-    }
+    running: InterNo,
+    length: u8,
 }
 
 impl StageState {
@@ -37,6 +29,8 @@ impl StageState {
             place: StagePlace::Stage(start),
             since: 0,
             second: 0,
+            running: InterNo(0),
+            length: 0,
         }
     }
 
@@ -48,14 +42,11 @@ impl StageState {
     {
         self.second += 1;
         if let StagePlace::Inter { from, to, t } = self.place {
-            match length_between(plan, from, to) {
-                Some(length) if t < length - 1 => {
-                    self.place = StagePlace::Inter { from, to, t: t + 1 };
-                }
-                _ => {
-                    self.place = StagePlace::Stage(to);
-                    self.since = self.second;
-                }
+            if t < self.length - 1 {
+                self.place = StagePlace::Inter { from, to, t: t + 1 };
+            } else {
+                self.place = StagePlace::Stage(to);
+                self.since = self.second;
             }
         }
     }
@@ -73,12 +64,12 @@ impl StageState {
     {
         match self.place {
             StagePlace::Inter { .. } => Err(Rule::Running),
-            StagePlace::Stage(active) if active.0 == from.0 => match length_between(
-                plan, from, to,
-            ) {
+            StagePlace::Stage(active) if active.0 == from.0 => match plan.interstage(from, to) {
                 None => Err(Rule::NoInterstage),
-                Some(_) => {
+                Some(interstage) => {
                     self.place = StagePlace::Inter { from, to, t: 0 };
+                    self.running = interstage;
+                    self.length = plan.length(interstage);
                     Ok(())
                 }
             },
@@ -115,10 +106,7 @@ impl StageState {
         match self.place {
             StagePlace::NoPlan => *out = Wishes::all_red(groups),
             StagePlace::Stage(stage) => plan.stage_wishes(stage, out),
-            StagePlace::Inter { from, to, t } => match plan.interstage(from, to) {
-                None => *out = Wishes::all_red(groups),
-                Some(interstage) => plan.interstage_wishes(interstage, t, out),
-            },
+            StagePlace::Inter { t, .. } => plan.interstage_wishes(self.running, t, out),
         }
     }
 }
