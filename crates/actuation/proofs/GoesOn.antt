@@ -1,8 +1,8 @@
 -- How what is kept of a detector goes on by one second.
-use Rattle.std.proofs.Common.{◌≡◌, ◌∙◌, ℕ, ◌+◌, ◌-◌, ◌<◌, ◌≤◌, ◌==◌, ◌&&◌, ◌||◌, Bool, true, false, Option, Some, None, nat_lt, if◌then◌else◌, refl, sym, ap, inl, inr, arith}
+use Rattle.std.proofs.Common.{◌≡◌, ◌∙◌, ℕ, ◌+◌, ◌-◌, ◌≤◌, ◌==◌, ◌&&◌, ◌||◌, Bool, true, false, Some, None, nat_lt, if◌then◌else◌, refl, sym, ap, inl, inr, arith}
 use Rattle.std.proofs.lemmas.Bool.{cases_Bool, and_parts, eqb-true, ne_eqb}
 use Rattle.actuation.specs.declared.detector.Detector.{Detector}
-use Rattle.actuation.specs.Detector.{is_on, last_detection, moved, advanced, occupied_at, detected_at, not_zero, IsSized}
+use Rattle.actuation.specs.Detector.{is_on, moved, advanced, occupied_at, detected_at, not_zero, IsSized}
 
 -- y is x after second k + 1, which had these counts
 pub record GoesOn (x y : Detector) (c : ℕ × ℕ) (k : ℕ) : Type 0 where

@@ -1,9 +1,9 @@
 -- What is kept of a detector, from second to second.
-use Rattle.std.proofs.Common.{◌≡◌, ◌∙◌, ℕ, ◌+◌, ◌-◌, ◌<◌, ◌≤◌, ◌||◌, Bool, true, false, List, [], ◌∷◌, ◌++◌, length, Option, Some, None, nat_lt, if◌then◌else◌, ℤ, pos, refl, sym, ap, subst, arith, length-append}
+use Rattle.std.proofs.Common.{◌≡◌, ◌∙◌, ℕ, ◌+◌, ◌-◌, ◌<◌, ◌||◌, Bool, true, false, List, [], ◌∷◌, ◌++◌, length, Option, Some, None, nat_lt, if◌then◌else◌, ℤ, pos, refl, sym, ap, arith, length-append}
 use Rattle.std.specs.Prelude.{unwrap_or}
 use Rattle.sig_types.specs.declared.kinds.ReadingKind.{ReadingKind}
 use Rattle.sig_types.specs.declared.kinds.ReadingKind.TheVariants.{Detection, Occupancy, Headway, FrontEnds, RearEnds, IsRed, IsRedAmber, IsGreen, IsAmber, TGreen, TRed, StageActive, StageDuration, InterstageActive, AnyInterstage}
-use Rattle.sig_types.specs.Counts.{Counts, Kind, fronts, rears, count_in, count_to, Takes}
+use Rattle.sig_types.specs.Counts.{Counts, Kind, fronts, rears, count_in, count_to}
 use Rattle.sig_types.specs.Detectors.{Clear, ClearsUntil, clears_at, detector_of, of_detector, detector_reading, is_detector, is_occupied, is_detected, occupancy, headway, headway_of}
 use Rattle.sig_types.specs.Number.{truth}
 use Rattle.sig_types.specs.Words.{last_below, run_to}

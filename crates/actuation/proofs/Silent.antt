@@ -1,5 +1,5 @@
 -- A second without a front or a rear changes nothing.
-use Rattle.std.proofs.Common.{◌≡◌, ◌∙◌, ℕ, ◌+◌, ◌<◌, ◌≤◌, List, refl, sym, ap, arith}
+use Rattle.std.proofs.Common.{◌≡◌, ℕ, ◌≤◌, List, ap, arith}
 use Rattle.sig_types.specs.Counts.{Counts}
 use Rattle.actuation.specs.declared.detector.Detector.{Detector}
 use Rattle.actuation.specs.Detector.{at, count_at, advanced, HoldsAt}

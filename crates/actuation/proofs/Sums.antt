@@ -1,9 +1,8 @@
 -- The frames that an actuation takes.
-use Rattle.std.proofs.Common.{◌≡◌, ◌∙◌, ℕ, Bool, true, false, nat_lt, if◌then◌else◌, ◌+◌, ◌-◌, ◌<◌, ◌≤◌, List, [], ◌∷◌, ◌++◌, length, sym, ap, subst, arith, length-append}
-use Rattle.sig_types.specs.Counts.{Counts, Kind, fronts, rears, count_of, count_in, count_to, Takes}
+use Rattle.std.proofs.Common.{◌≡◌, ◌∙◌, ℕ, ◌+◌, ◌-◌, ◌<◌, ◌≤◌, List, [], ◌∷◌, ◌++◌, length, sym, ap, subst, arith, length-append}
+use Rattle.sig_types.specs.Counts.{Counts, Kind, fronts, rears, count_of, count_to, Takes}
 use Rattle.sig_types.specs.Detectors.{Clear, ClearsUntil}
 use Rattle.actuation.specs.declared.actuation.Actuation.{Actuation}
-use Rattle.actuation.specs.declared.detector.Detector.{Detector}
 use Rattle.actuation.specs.Detector.{nothing, at, count_at, advanced, HoldsAt, IsSized}
 use Rattle.actuation.specs.Stands.{HasTaken, DetectorStands, StandsFor}
 use Rattle.actuation.proofs.Cleared.{until_later}

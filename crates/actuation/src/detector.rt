@@ -32,19 +32,20 @@ fn last_detection(old: Detector, is_occupied: bool, fronts: u32, second: u32) ->
     }
 }
 
-/// The detector after one second more, which had these fronts and rears.
-pub fn advance(old: Detector, counts: (u32, u32), second: u32) -> Detector
-    requires within { old.rears + counts.1 ≤ old.fronts + counts.0 }
-    requires at_most { old.fronts + counts.0 ≤ 2147483647 }
+/// Takes one second more into a detector, which had these fronts and rears.
+pub fn advance(detector: &mut Detector, counts: (u32, u32), second: u32)
+    requires within { detector.old.rears + counts.1 ≤ detector.old.fronts + counts.0 }
+    requires at_most { detector.old.fronts + counts.0 ≤ 2147483647 }
     requires not_first { 1 ≤ second }
-    ensures { result ≡ advanced old counts second }
+    ensures { detector.new ≡ advanced detector.old counts second }
 {
     if counts.0 == 0 && counts.1 == 0 {
-        return old;
+        return;
     }
+    let old = *detector;
     let fronts = old.fronts + counts.0;
     let rears = old.rears + counts.1;
-    Detector {
+    *detector = Detector {
         fronts,
         rears,
         since: if old.rears < old.fronts {
@@ -54,7 +55,7 @@ pub fn advance(old: Detector, counts: (u32, u32), second: u32) -> Detector
         },
         last: last_detection(old, rears < fronts, counts.0, second),
         ..old
-    }
+    };
 }
 
 // The unbroken occupied seconds up to this one.

@@ -68,7 +68,7 @@ pub fn advance_all(detectors: &mut [Detector; 64], frame: &Frame, second: u32)
 {
     let (low, high) = frame.span();
     for place in low..high {
-        detectors[place as usize] = advance(detectors[place as usize], frame.get(place), second);
+        advance(&mut detectors[place as usize], frame.get(place), second);
     }
 }
 

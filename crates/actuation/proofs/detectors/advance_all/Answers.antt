@@ -1,4 +1,4 @@
-use Rattle.std.proofs.Common.{◌<◌, ◌≤◌, ◌∙◌, inl, inr, refl, sym, arith}
+use Rattle.std.proofs.Common.{◌∙◌, inl, inr, refl, sym, arith}
 use Rattle.std.proofs.lemmas.Bool.{cases_lt}
 use Rattle.actuation.specs.Detector.{at}
 use Rattle.actuation.proofs.Silent.{advanced_silent}

@@ -1,4 +1,4 @@
-use Rattle.std.proofs.Common.{◌<◌, ◌≤◌, inl, inr, arith, rules}
+use Rattle.std.proofs.Common.{◌<◌, inl, inr, arith, rules}
 use Rattle.std.proofs.lemmas.Bool.{cases_lt}
 use Rattle.actuation.proofs.Silent.{holds_silent}
 use Rattle.actuation.proofs.detectors.holds.Goals as goal

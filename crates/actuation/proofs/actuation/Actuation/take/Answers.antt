@@ -1,4 +1,4 @@
-use Rattle.std.proofs.Common.{◌≡◌, ◌+◌, refl, sym, subst, arith}
+use Rattle.std.proofs.Common.{◌+◌, refl, sym, subst, arith}
 use Rattle.actuation.specs.Detector.{at, IsSized, count_at}
 use Rattle.actuation.specs.Stands.{StandsFor}
 use Rattle.actuation.proofs.GoesOn.{sized_next}
