@@ -1,5 +1,5 @@
 -- Runs are guarded, whatever decides their passes.
-use Rattle.std.proofs.Common.{◌≡◌, ◌∙◌, ℕ, zero, suc, ◌+◌, ◌<◌, ◌≤◌, Bool, List, [], ◌∷◌, ◌++◌, length, take, replicate, get_or, Option, Some, None, All, refl, sym, ap, subst, arith}
+use Rattle.std.proofs.Common.{◌≡◌, ◌∙◌, ℕ, zero, suc, ◌<◌, List, [], ◌∷◌, length, take, replicate, get_or, Option, Some, None, All, refl, sym, ap, subst, arith}
 use Rattle.std.proofs.lemmas.List.{get_or-replicate, length-replicate}
 use Rattle.std.proofs.lemmas.List.Elements.{All-append, All-cons, All-nil}
 use Rattle.sig_types.specs.declared.aspect.Aspect.TheVariants.{Red}
@@ -9,7 +9,7 @@ use Rattle.sig_types.specs.declared.numbers.Command.TheVariants.{Interstage, SgG
 use Rattle.sig_types.specs.declared.refused.StageRefusal.{StageRefusal}
 use Rattle.sig_types.specs.declared.record.Record.{Record}
 use Rattle.sig_types.specs.Counts.{Counts}
-use Rattle.sig_types.specs.Pass.{End, Logic, Store, commands_after}
+use Rattle.sig_types.specs.Pass.{End, Logic, commands_after}
 use Rattle.sig_types.specs.Rules.{IsTwoWay}
 use Rattle.pua_model.specs.Plan.{PlanOf, groups_in}
 use Rattle.stage_machine.specs.Orders.{Order, place_at, refused_order}
@@ -19,7 +19,7 @@ use Rattle.sig_guard.proofs.LawProofs.{step_keeps_safe, begins_safe}
 use Rattle.sig_guard.proofs.RedAmberRun.{green_after_intergreen}
 use Rattle.controller.specs.Past.{Site, Past, opening, next}
 use Rattle.controller.specs.Second.{refusal, refused_by, order_by, refusals_of, record_after, past_after, record_of, longer, run_from, past_of, pass_of, wishes_in}
-use Rattle.controller.specs.Guarded.{IsRefusedStage, IsGuardedSecond, IsGuardedRun, RunsAreGuarded, pictures_of, past_at, pass_at}
+use Rattle.controller.specs.Guarded.{IsRefusedStage, IsGuardedSecond, RunsAreGuarded, pictures_of, past_at, pass_at}
 use Rattle.controller.proofs.Runs.{history_of_run}
 
 -- a command before the others

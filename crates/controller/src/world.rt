@@ -3,7 +3,7 @@ ghost use Rattle.std.specs.Prelude.{◌≡◌, ◌-◌, ◌+◌, ◌<◌, ◌≤
 ghost use Rattle.controller.specs.Commanded.{IsCommand};
 ghost use Rattle.sig_types.specs.Number.{truth};
 ghost use Rattle.std.specs.Prelude.{pos, if◌then◌else◌};
-ghost use Rattle.controller.specs.World.{same_aspect, is_stage, is_between, is_inter, command_in};
+ghost use Rattle.controller.specs.World.{is_stage, is_between, is_inter, command_in};
 ghost use Rattle.controller.specs.Standing.{MeansWorld};
 ghost use Rattle.sig_guard.specs.Stands.{rules};
 ghost use Rattle.pua_model.specs.Plan.{groups_in};
@@ -24,7 +24,7 @@ pub struct SecondWorld<'a> {
     pub guard: &'a Guard,
     pub stages: &'a StageState,
     pub actuation: &'a Actuation,
-    ghost few: { second < 2 ^ 31 },
+    ghost fits: { second < 2 ^ 31 },
     ghost groups: { (rules guard.now).count ≡ groups_in plan.now },
 }
 
@@ -32,17 +32,6 @@ fn truth(b: bool) -> i32
     ensures { result ≡ truth b }
 {
     if b { 1 } else { 0 }
-}
-
-fn same_aspect(wanted: Aspect, shown: Aspect) -> bool
-    ensures { result ≡ same_aspect wanted shown }
-{
-    match wanted {
-        Aspect::Red => matches!(shown, Aspect::Red),
-        Aspect::RedAmber => matches!(shown, Aspect::RedAmber),
-        Aspect::Green => matches!(shown, Aspect::Green),
-        Aspect::Amber => matches!(shown, Aspect::Amber),
-    }
 }
 
 fn is_stage(place: StagePlace, stage: StageNo) -> bool
@@ -93,7 +82,7 @@ impl SecondWorld<'_> {
     {
         match self.plan.find_group(number) {
             None => None,
-            Some(group) => Some(truth(same_aspect(aspect, self.last_aspect(group)))),
+            Some(group) => Some(truth(self.last_aspect(group) == aspect)),
         }
     }
 

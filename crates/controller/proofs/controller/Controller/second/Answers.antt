@@ -1,9 +1,8 @@
-use Rattle.std.proofs.Common.{◌≡◌, ◌∙◌, ℕ, ◌+◌, ◌-◌, List, [], ◌∷◌, ◌++◌, length, sym, ap, subst, arith, length-append, slice_index_or, refl, ◌≤◌}
-use Rattle.sig_types.specs.Turns.{History}
-use Rattle.sig_types.specs.Pass.{End, Store, begun, commands_after, without_commands}
+use Rattle.std.proofs.Common.{◌≡◌, ◌∙◌, ◌+◌, ◌-◌, [], ◌∷◌, ◌++◌, length, sym, ap, subst, arith, length-append}
+use Rattle.sig_types.specs.Pass.{begun, commands_after}
 use Rattle.controller.specs.Controls.{StandsFor, site_of, logic_of, last_record}
 use Rattle.sig_types.specs.Detectors.{ClearsUntil}
-use Rattle.controller.specs.Past.{Site, Past, next}
+use Rattle.controller.specs.Past.{next}
 use Rattle.stage_machine.specs.Orders.{place_at}
 use Rattle.stage_machine.specs.Stands.{StandsFor as StagesStand}
 use Rattle.actuation.specs.Stands.{StandsFor as ActuationStands}
@@ -15,7 +14,7 @@ use Rattle.vap_code.specs.Machine.{machine}
 use Rattle.controller.specs.Second.{record_after, past_after, orders_after, clears_after, refusals_of, wishes_of, wishes_in}
 use Rattle.actuation.proofs.Sums.{clears_of}
 use Rattle.controller.proofs.Pictures.{last-append, guard_is_safe}
-use Rattle.controller.proofs.Seconds.{Passed, passed_in}
+use Rattle.controller.proofs.Seconds.{passed_in}
 use Rattle.controller.proofs.controller.Controller.second.Goals as goal
 
 pub returns-clause-record : goal.returns-clause-record
@@ -31,7 +30,7 @@ returns-clause-record c = λ past s.
       stages_stand = stages_k;
       actuation_stands = c.take.ensures past.frames past.clears s.readings;
       seconds = length-append past.frames (frame ∷ []) ∙ sym s.seconds;
-      some = omega (arith, s.seconds);
+      begun = omega (arith, s.seconds);
       until = subst (λ n. ClearsUntil past.clears n) (let n : length past.frames ≡ length frames - 1 = omega (arith, length-append past.frames (frame ∷ [])) in n) (clears_of me.actuation past.frames past.clears s.readings);
     } in
     let second : me.last.second.0 + 1 ≡ next past = ap (λ n. n + 1) s.numbered ∙ sym s.seconds in
@@ -69,7 +68,7 @@ returns-clause-stands c = λ past s.
       stages_stand = stages_k;
       actuation_stands = c.take.ensures past.frames past.clears s.readings;
       seconds = length-append past.frames (frame ∷ []) ∙ sym s.seconds;
-      some = omega (arith, s.seconds);
+      begun = omega (arith, s.seconds);
       until = subst (λ n. ClearsUntil past.clears n) (let n : length past.frames ≡ length frames - 1 = omega (arith, length-append past.frames (frame ∷ [])) in n) (clears_of me.actuation past.frames past.clears s.readings);
     } in
     let second : me.last.second.0 + 1 ≡ next past = ap (λ n. n + 1) s.numbered ∙ sym s.seconds in
@@ -120,7 +119,7 @@ decide-end-requires-clause-stands c =
         stages_stand = subst (λ k. StagesStand c.step.new.self me.plan past.orders k) (sym s.seconds) stages;
         actuation_stands = c.take.ensures past.frames past.clears s.readings;
         seconds = length-append past.frames (frame ∷ []) ∙ sym s.seconds;
-        some = omega (arith, s.seconds);
+        begun = omega (arith, s.seconds);
         until = subst (λ n. ClearsUntil past.clears n) (let n : length past.frames ≡ length frames - 1 = omega (arith, length-append past.frames (frame ∷ [])) in n) (clears_of me.actuation past.frames past.clears s.readings);
       },
       ap (λ n. n + 1) s.numbered ∙ sym s.seconds,
