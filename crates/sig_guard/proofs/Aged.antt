@@ -1,5 +1,5 @@
 -- What the ages say of a trace, and how they go on.
-use Rattle.std.proofs.Common.{◌≡◌, ℕ, zero, suc, ◌+◌, ◌-◌, ◌<◌, ◌≤◌, Bool, true, false, not, ◌&&◌, Some, refl, arith, sym, subst, inl, inr, ap, ◌∙◌, if◌then◌else◌, [], ◌∷◌, ◌++◌, length, slice_index_or}
+use Rattle.std.proofs.Common.{◌≡◌, ℕ, zero, suc, ◌-◌, ◌<◌, ◌≤◌, Bool, true, false, not, ◌&&◌, Some, refl, arith, sym, subst, inl, inr, ap, ◌∙◌, if◌then◌else◌, [], ◌∷◌, ◌++◌, length, slice_index_or}
 use Rattle.std.proofs.lemmas.Bool.{cases_eq, cases_lt, and_from}
 use Rattle.sig_types.specs.declared.aspect.Aspect.{Aspect}
 use Rattle.sig_types.specs.declared.aspect.Aspect.TheVariants.{Red, RedAmber, Green, Amber}
@@ -16,36 +16,36 @@ use Rattle.sig_guard.proofs.RedAmberRun.{before_red_amber}
 use Rattle.sig_types.proofs.Runs.{run_broken, run_whole}
 
 -- in second 0 the group is red, so an aspect that is not red began later
-not_from_zero : (x : GroupAge) (a : ℕ → Aspect) (m : ℕ) → HasAge x a m → a 0 ≡ Red → (a m ≡ Red → ⊥) → x.age < suc m
-not_from_zero x a m has first other = elim (cases_eq x.age (suc m)) [
-  | inl same ↦ absurd (other (sym (has.stays 0 (omega arith) (omega arith)) ∙ first))
-  | inr ne ↦ omega (arith, has.at_most)
+not_from_zero : (x : GroupAge) (a : ℕ → Aspect) (m : ℕ) → HasAge x a m → a 0 ≡ Red → (a m ≡ Red → ⊥) → 0 < x.since
+not_from_zero x a m has first other = elim (cases_eq x.since 0) [
+  | inl same ↦ absurd (other (sym (has.stays 0 (omega (arith, same)) (omega arith)) ∙ first))
+  | inr ne ↦ omega arith
 ]
 
 pub red_amber_since : (x : GroupAge) (a : ℕ → Aspect) (m ra am : ℕ) → HasAge x a m → Sequence ra am a (suc m) → a m ≡ RedAmber →
-    last_below (starts_at a) (suc m) ≡ Some (suc m - x.age)
+    last_below (starts_at a) (suc m) ≡ Some x.since
 red_amber_since x a m ra am has kept is =
-    last_start_at a m (suc m - x.age) starts (omega (arith, has.at_least)) (λ t lo hi. has.stays t (omega arith) hi ∙ is)
+    last_start_at a m x.since starts has.at_most (λ t lo hi. has.stays t lo hi ∙ is)
   where
-    later : x.age < suc m
+    later : 0 < x.since
     later = not_from_zero x a m has kept.first (λ e. (let bad : RedAmber ≡ Red = sym is ∙ e in cc))
 
-    begins : suc m - x.age ≡ suc (m - x.age)
-    begins = omega (arith, later, has.at_least)
+    begins : x.since ≡ suc (x.since - 1)
+    begins = omega (arith, later)
 
-    here : a (suc (m - x.age)) ≡ RedAmber
-    here = has.stays (suc (m - x.age)) (omega (arith, later)) (omega (arith, later, has.at_least)) ∙ is
+    here : a (suc (x.since - 1)) ≡ RedAmber
+    here = has.stays (suc (x.since - 1)) (omega (arith, later)) (omega (arith, later, has.at_most)) ∙ is
 
-    step : IsStep ra am (a (m - x.age)) RedAmber
-    step = rw here at (kept.steps (m - x.age) (omega (arith, later, has.at_least)))
+    step : IsStep ra am (a (x.since - 1)) RedAmber
+    step = rw here at (kept.steps (x.since - 1) (omega (arith, later, has.at_most)))
 
-    was : a (m - x.age) ≡ Red
-    was = elim (before_red_amber ra am (a (m - x.age)) step) [
+    was : a (x.since - 1) ≡ Red
+    was = elim (before_red_amber ra am (a (x.since - 1)) step) [
       | inl red ↦ red
-      | inr amber ↦ absurd (has.began (m - x.age) (omega (arith, later)) (amber ∙ sym is))
+      | inr amber ↦ absurd (has.began (x.since - 1) (omega (arith, later)) (amber ∙ sym is))
     ]
 
-    starts : starts_at a (suc m - x.age) ≡ true
+    starts : starts_at a x.since ≡ true
     starts = rw (begins, was, here) refl
 
 not_green : (y : Aspect) → (y ≡ Green → ⊥) → not (is_green y) ≡ true
@@ -55,27 +55,27 @@ not_green Green h = absurd (h refl)
 not_green Amber h = refl
 
 pub green_since : (x : GroupAge) (a : ℕ → Aspect) (m ra am : ℕ) → HasAge x a m → Sequence ra am a (suc m) → a m ≡ Green →
-    last_below (turns_green_at a) (suc m) ≡ Some (suc m - x.age)
+    last_below (turns_green_at a) (suc m) ≡ Some x.since
 green_since x a m ra am has kept is =
-    last_below-at (turns_green_at a) (suc m) (suc m - x.age) turns (omega (arith, has.at_least)) (quiet a m (suc m - x.age) (λ t lo hi. has.stays t (omega arith) hi ∙ is))
+    last_below-at (turns_green_at a) (suc m) x.since turns (omega (arith, has.at_most)) (quiet a m x.since (λ t lo hi. has.stays t lo hi ∙ is))
   where
     quiet : (a : ℕ → Aspect) (m u : ℕ) → ((t : ℕ) → u ≤ t → t ≤ m → a t ≡ Green) → (j : ℕ) → u < j → j < suc m → turns_green_at a j ≡ false
     quiet a m u stays zero lo hi = absurd (omega arith)
     quiet a m u stays (suc i) lo hi = rw (stays i (omega arith) (omega arith)) refl
 
-    later : x.age < suc m
+    later : 0 < x.since
     later = not_from_zero x a m has kept.first (λ e. (let bad : Green ≡ Red = sym is ∙ e in cc))
 
-    begins : suc m - x.age ≡ suc (m - x.age)
-    begins = omega (arith, later, has.at_least)
+    begins : x.since ≡ suc (x.since - 1)
+    begins = omega (arith, later)
 
-    here : a (suc (m - x.age)) ≡ Green
-    here = has.stays (suc (m - x.age)) (omega (arith, later)) (omega (arith, later, has.at_least)) ∙ is
+    here : a (suc (x.since - 1)) ≡ Green
+    here = has.stays (suc (x.since - 1)) (omega (arith, later)) (omega (arith, later, has.at_most)) ∙ is
 
-    was : a (m - x.age) ≡ Green → ⊥
-    was = λ e. has.began (m - x.age) (omega (arith, later)) (e ∙ sym is)
+    was : a (x.since - 1) ≡ Green → ⊥
+    was = λ e. has.began (x.since - 1) (omega (arith, later)) (e ∙ sym is)
 
-    turns : turns_green_at a (suc m - x.age) ≡ true
+    turns : turns_green_at a x.since ≡ true
     turns = rw (begins, here) (and_from _ _ (not_green _ was) refl)
 
 same_is : (x y : Aspect) → same_aspect x y ≡ true → x ≡ y
@@ -126,24 +126,22 @@ has_age_next x a c m has agree = go (same_aspect (a m) (c (suc m))) refl
     go : (b : Bool) → same_aspect (a m) (c (suc m)) ≡ b → HasAge (next_age x (a m) (c (suc m)) (suc m)) c (suc m)
     go true same =
         let y_is : a m ≡ c (suc m) = same_is _ _ same in
-        let grown : (next_age x (a m) (c (suc m)) (suc m)).age ≡ x.age + 1 = rw same refl in
+        let goes_on : (next_age x (a m) (c (suc m)) (suc m)).since ≡ x.since = rw same refl in
         record {
-          at_least = omega (arith, grown);
-          at_most = omega (arith, grown, has.at_most);
+          at_most = omega (arith, goes_on, has.at_most);
           stays = λ t lo hi. elim (cases_eq t (suc m)) [
             | inl now ↦ ap c now
-            | inr before ↦ sym (agree.at t (omega arith)) ∙ has.stays t (omega (arith, grown)) (omega arith) ∙ y_is
+            | inr before ↦ sym (agree.at t (omega arith)) ∙ has.stays t (omega (arith, goes_on)) (omega arith) ∙ y_is
           ];
-          began = λ t e is. has.began t (omega (arith, grown)) (agree.at t (omega (arith, grown, has.at_least)) ∙ is ∙ sym y_is);
+          began = λ t e is. has.began t (omega (arith, goes_on)) (agree.at t (omega (arith, goes_on, has.at_most)) ∙ is ∙ sym y_is);
           ended_last = last_new _ ends_now;
         }
     go false other =
-        let young : (next_age x (a m) (c (suc m)) (suc m)).age ≡ 1 = rw other refl in
+        let begun : (next_age x (a m) (c (suc m)) (suc m)).since ≡ suc m = rw other refl in
         record {
-          at_least = omega (arith, young);
-          at_most = omega (arith, young);
-          stays = λ t lo hi. (let now : t ≡ suc m = omega (arith, young) in ap c now);
-          began = λ t e is. (let before : t ≡ m = omega (arith, young) in
+          at_most = omega (arith, begun);
+          stays = λ t lo hi. (let now : t ≡ suc m = omega (arith, begun) in ap c now);
+          began = λ t e is. (let before : t ≡ m = omega (arith, begun) in
               differs (a m) (c (suc m)) other (at_m ∙ ap c (sym before) ∙ is));
           ended_last = last_new _ ends_now;
         }
@@ -161,44 +159,33 @@ aged_after x y h p q g m now len has last at is =
 pub first_has_age : (a : ℕ → Aspect) → HasAge first_age a 0
 unfolding last_below
 first_has_age a = record {
-  at_least = omega arith;
   at_most = omega arith;
   stays = λ t lo hi. (let now : t ≡ 0 = omega arith in ap a now);
   began = λ t e is. absurd (omega arith);
   ended_last = refl;
 }
 
--- the numbers stay within the seconds
-pub next_age-most : (x : GroupAge) (b c : Aspect) (now k : ℕ) → x.age ≤ k → (next_age x b c now).age ≤ k + 1
-next_age-most x b c now k le = go (same_aspect b c)
-  where
-    go : (s : Bool) → (if s then x.age + 1 else 1) ≤ k + 1
-    go true = omega (arith, le)
-    go false = omega arith
+-- a group that shows what it showed keeps its numbers
+pub stays_aged : (x : GroupAge) (y : Aspect) (now : ℕ) → x ≡ next_age x y y now
+stays_aged x Red now = refl
+stays_aged x RedAmber now = refl
+stays_aged x Green now = refl
+stays_aged x Amber now = refl
 
-pub next_end-most : (x : GroupAge) (b c : Aspect) (now : ℕ) → x.last_end ≤ now → (next_age x b c now).last_end ≤ now
-next_end-most x b c now le = go (is_green b && not (is_green c))
-  where
-    go : (s : Bool) → (if s then now else x.last_end) ≤ now
-    go true = omega arith
-    go false = le
-
--- the age of an aspect is the run of the seconds that show it
+-- the seconds since an aspect began are the run of the seconds that show it
 run_kept : (p : Aspect → Bool) (x : GroupAge) (a : ℕ → Aspect) (m : ℕ) → HasAge x a m → p (a m) ≡ true → ((y : Aspect) → (y ≡ a m → ⊥) → p y ≡ false) →
-    x.age ≡ run_to (λ t. p (a t)) m
-run_kept p x a m has here other = elim (cases_lt x.age (suc m)) [
+    suc m - x.since ≡ run_to (λ t. p (a t)) m
+run_kept p x a m has here other = elim (cases_lt 0 x.since) [
   | inl lt ↦ (
       let back : suc m - 1 ≡ m = omega arith in
-      let first : suc m - x.age - 1 ≡ m - x.age = omega (arith, lt) in
-      let age : x.age ≡ suc m - (suc m - x.age) = omega (arith, lt, has.at_least) in
-      let broken : p (a (suc m - x.age - 1)) ≡ false = subst (λ (t : ℕ). p (a t) ≡ false) (sym first) (other (a (m - x.age)) (has.began (m - x.age) (omega (arith, lt)))) in
-      age ∙ run_broken (λ t. p (a t)) (suc m) (suc m - x.age) (omega (arith, lt)) (omega arith) broken
-      (λ j lo hi. ap p (has.stays j (omega (arith, lo)) (omega (arith, hi))) ∙ here)
+      let broken : p (a (x.since - 1)) ≡ false = other (a (x.since - 1)) (has.began (x.since - 1) (omega (arith, lt))) in
+      run_broken (λ t. p (a t)) (suc m) x.since lt (omega (arith, has.at_most)) broken
+      (λ j lo hi. ap p (has.stays j lo (omega (arith, hi))) ∙ here)
       ∙ ap (λ (n : ℕ). run_to (λ t. p (a t)) n) back)
   | inr ge ↦ (
       let back : suc m - 1 ≡ m = omega arith in
-      let age : x.age ≡ suc m = omega (arith, ge, has.at_most) in
-      age ∙ run_whole (λ t. p (a t)) (suc m) (omega arith) (λ j lt. ap p (has.stays j (omega (arith, age)) (omega (arith, lt))) ∙ here)
+      let whole : suc m - x.since ≡ suc m = omega (arith, ge) in
+      whole ∙ run_whole (λ t. p (a t)) (suc m) (omega arith) (λ j lt. ap p (has.stays j (omega (arith, ge)) (omega (arith, lt))) ∙ here)
       ∙ ap (λ (n : ℕ). run_to (λ t. p (a t)) n) back)
 ]
 
@@ -209,7 +196,7 @@ run_none p m here =
     none ∙ run_broken p (suc m) (suc m) (omega arith) (omega arith) (subst (λ (t : ℕ). p t ≡ false) (sym back) here) (λ j lo hi. absurd (omega (arith, lo, hi)))
     ∙ ap (λ (n : ℕ). run_to p n) back
 
-pub green_run : (x : GroupAge) (a : ℕ → Aspect) (m : ℕ) → HasAge x a m → a m ≡ Green → x.age ≡ run_to (λ t. is_green (a t)) m
+pub green_run : (x : GroupAge) (a : ℕ → Aspect) (m : ℕ) → HasAge x a m → a m ≡ Green → suc m - x.since ≡ run_to (λ t. is_green (a t)) m
 green_run x a m has is = run_kept is_green x a m has (ap is_green is) (λ y ne. other y (λ e. ne (e ∙ sym is)))
   where
     other : (y : Aspect) → (y ≡ Green → ⊥) → is_green y ≡ false
@@ -227,7 +214,7 @@ no_green_run a m h = run_none (λ t. is_green (a t)) m (other (a m) h)
     other Green h = absurd (h refl)
     other Amber h = refl
 
-pub red_run : (x : GroupAge) (a : ℕ → Aspect) (m : ℕ) → HasAge x a m → a m ≡ Red → x.age ≡ run_to (λ t. is_red (a t)) m
+pub red_run : (x : GroupAge) (a : ℕ → Aspect) (m : ℕ) → HasAge x a m → a m ≡ Red → suc m - x.since ≡ run_to (λ t. is_red (a t)) m
 red_run x a m has is = run_kept is_red x a m has (ap is_red is) (λ y ne. other y (λ e. ne (e ∙ sym is)))
   where
     other : (y : Aspect) → (y ≡ Red → ⊥) → is_red y ≡ false

@@ -9,5 +9,6 @@ pub mod Refusals
 pub mod RefusedBreaks
 pub mod SequenceKept
 pub mod StandsAfter
+pub mod Steady
 pub mod StepKept
 pub mod TwoWay

@@ -1,5 +1,5 @@
-// The guard, over ages.
-ghost use Rattle.std.specs.Prelude.{◌≡◌, ℕ, suc, All, ◌+◌, ◌-◌, ◌<◌, ◌≤◌, [], ◌∷◌, ◌++◌, length, replicate, slice_index_or, true, if◌then◌else◌, IfOk, IfSome, Some};
+// The guard, over its last picture and two numbers of each group.
+ghost use Rattle.std.specs.Prelude.{◌≡◌, ℕ, suc, All, ◌+◌, ◌-◌, ◌<◌, ◌≤◌, [], ◌∷◌, ◌++◌, length, replicate, slice_index_or, true, false, if◌then◌else◌, IfOk, IfSome, Some};
 ghost use Rattle.sig_types.specs.Turns.{History, shown, trace, is_green, is_red};
 ghost use Rattle.sig_types.specs.Words.{last_below, least_below, run_to};
 ghost use Rattle.sig_types.specs.Recorded.{IsTurn};
@@ -9,12 +9,14 @@ ghost use Rattle.sig_tables.specs.SiteRules.{rules_of};
 ghost use Rattle.sig_guard.specs.Step.{guard_picture, guard_refused};
 
 use crate::ages::{GroupAge, age_all, first_ages};
-use crate::turn::{Breach, ended, ends, is_due, is_on, is_short_green, refusal, started};
+use crate::turn::{
+    Breach, ended, ends, is_due, is_on, is_short_green, refusal, shows_wish, started,
+};
 use sig_tables::{Intergreens, Times};
 use sig_types::{Aspect, GroupNo, Memory, Picture, Rule, TurnRefusals, Wishes};
 use std::alloc::Global;
 
-/// The guard of a junction, after some second: what each group shows, for how long, and when it ended last.
+/// The guard of a junction, after some second: what each group shows, since when, and when it ended last.
 #[derive(Drop)]
 pub struct Guard {
     times: Times,
@@ -28,7 +30,7 @@ pub struct Guard {
     ghost pictured: { length picture ≡ length times },
     ghost aged: { length ages.items ≡ length times },
     ghost at_most: { seconds ≤ 604801 },
-    ghost ages_fit: { (g : ℕ) → g < length ages.items → (age_at ages.items g).age ≤ seconds + 1 },
+    ghost since_fits: { (g : ℕ) → g < length ages.items → (age_at ages.items g).since ≤ seconds },
     ghost ends_fit: { (g : ℕ) → g < length ages.items → (age_at ages.items g).last_end ≤ seconds },
 }
 
@@ -68,6 +70,10 @@ impl Guard {
         ensures turns { All (IsTurn (rules self.old).count) out.new }
     {
         out.clear();
+        if self.is_steady(wishes) {
+            self.seconds = self.now();
+            return;
+        }
         let natural = self.natural();
         let mut picture = natural.copy();
         self.show_ends(&natural, wishes, &mut picture, out);
@@ -122,7 +128,7 @@ impl Guard {
     ghost use Rattle.sig_types.specs.Turns.{ends_at};
     ghost use Rattle.sig_guard.specs.Count.{many};
     ghost use Rattle.sig_guard.specs.Stands.{kept_rules, HasPast};
-    ghost use Rattle.sig_guard.specs.Step.{natural_after, end_breach, start_breach, is_in_conflict, is_uncleared, natural as natural_spec, ends_to, starts_to, refused_ends_to, refused_to, refusal as refusal_spec, wants_end, wants_start};
+    ghost use Rattle.sig_guard.specs.Step.{natural_after, end_breach, start_breach, is_in_conflict, is_uncleared, natural as natural_spec, ends_to, starts_to, refused_ends_to, refused_to, refusal as refusal_spec, wants_end, wants_start, shows_wish};
 
     /// The second that comes next.
     fn now(&self) -> u32
@@ -143,20 +149,19 @@ impl Guard {
     /// For how long the group shows that.
     fn age(&self, g: u8) -> u32
         requires { g < (kept_rules self.now).count }
-        ensures age { result ≡ (age_at self.now.ages.items g).age }
-        ensures at_most { result ≤ self.now.seconds + 1 }
-        ensures limit { result ≤ 604802 }
+        ensures age { result ≡ self.now.seconds + 1 - (age_at self.now.ages.items g).since }
+        ensures at_most { result ≤ 604802 }
     {
-        self.ages[g as usize].age
+        self.now() - self.since(g)
     }
 
     /// The second since which it does.
     fn since(&self, g: u8) -> u32
         requires { g < (kept_rules self.now).count }
-        ensures since { result ≡ self.now.seconds + 1 - (age_at self.now.ages.items g).age }
-        ensures at_most { result ≤ 604802 }
+        ensures since { result ≡ (age_at self.now.ages.items g).since }
+        ensures at_most { result ≤ self.now.seconds }
     {
-        self.now() - self.age(g)
+        self.ages[g as usize].since
     }
 
     /// The second of the group's last end.
@@ -166,6 +171,19 @@ impl Guard {
         ensures at_most { result ≤ 604801 }
     {
         self.ages[g as usize].last_end
+    }
+
+    /// Whether every group shows what is wished of it, so that none turns in the next second.
+    fn is_steady(&self, wishes: &Wishes) -> bool
+        requires wished { length wishes.now ≡ (kept_rules self.now).count }
+        ensures { result ≡ true → (g : ℕ) → g < (kept_rules self.now).count → shows_wish (shown self.now.picture g) (slice_index_or wishes.now g false) ≡ true }
+    {
+        for g in 0..self.times.groups() {
+            if !shows_wish(self.aspect(g), wishes.get(g)) {
+                return false;
+            }
+        }
+        true
     }
 
     /// What the group shows in the next second by nature.
