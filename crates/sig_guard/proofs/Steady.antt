@@ -1,9 +1,9 @@
 -- Where every group shows what is wished of it, the next second shows the same picture and refuses nothing.
-use Rattle.std.proofs.Common.{◌≡◌, ℕ, zero, suc, ◌-◌, ◌<◌, ◌≤◌, Bool, true, false, not, ◌&&◌, refl, arith, sym, ap, ◌∙◌, List, [], length, get_or, set, slice_index_or, add-one}
-use Rattle.std.proofs.lemmas.List.{set-get_or}
+use Rattle.std.proofs.Common.{◌≡◌, ◌≢◌, ℕ, zero, suc, ◌+◌, ◌-◌, ◌<◌, ◌≤◌, Bool, true, false, not, ◌&&◌, refl, arith, sym, ap, ◌∙◌, List, [], length, get_or, set, slice_index_or, add-one}
+use Rattle.std.proofs.lemmas.List.{set-get_or, get_or-set_other}
 use Rattle.sig_types.specs.declared.aspect.Aspect.{Aspect}
 use Rattle.sig_types.specs.declared.aspect.Aspect.TheVariants.{Red, RedAmber, Green, Amber}
-use Rattle.sig_types.specs.Turns.{Picture, History, trace, is_on}
+use Rattle.sig_types.specs.Turns.{Picture, History, shown, trace, is_red, is_green, is_on}
 use Rattle.sig_types.specs.Rules.{Rules}
 use Rattle.sig_guard.specs.Step.{shows_wish, natural_after, natural_to, natural, wants_end, wants_start, end_breach, start_breach, ends_to, starts_to, refused_ends_to, refused_to, guard_picture, guard_refused}
 use Rattle.sig_guard.proofs.MachineLemmas.{natural_red, natural_green, ends_unwanted, starts_unwanted, listed_off}
@@ -35,6 +35,32 @@ no_start RedAmber b h = refl
 no_start Green b h = refl
 no_start Amber true h = absurd (cc)
 no_start Amber false h = refl
+
+-- the groups below k are changed first
+natural_to-above : (r : Rules) (h : History) (m k g : ℕ) → k ≤ g → shown (natural_to r h m k) g ≡ trace h g m
+natural_to-above r h m zero g le = refl
+natural_to-above r h m (suc k) g le =
+    let ne : g ≢ k = omega arith in
+    get_or-set_other (natural_to r h m k) k g _ Red ne ∙ natural_to-above r h m k g (omega arith)
+
+lasting : (ra am : ℕ) (a : ℕ → Aspect) (m : ℕ) (x : Aspect) → a m ≡ x → (not (is_red x) && not (is_green x)) ≡ false → x ≡ natural_after ra am a m
+lasting ra am a m Red was h = natural_red ra am a m was
+lasting ra am a m RedAmber was h = absurd (cc)
+lasting ra am a m Green was h = natural_green ra am a m was
+lasting ra am a m Amber was h = absurd (cc)
+
+-- one group more: red and green last
+pub natural_left : (r : Rules) (h : History) (m g : ℕ) (p : Picture) → p ≡ natural_to r h m g →
+    (not (is_red (trace h g m)) && not (is_green (trace h g m))) ≡ false → p ≡ natural_to r h m (g + 1)
+natural_left r h m g p so_far lasts =
+    let above = natural_to-above r h m g g (omega arith) in
+    so_far ∙ sym (set-get_or (natural_to r h m g) g Red)
+    ∙ ap (λ (x : Aspect). set (natural_to r h m g) g x) (above ∙ lasting (r.red_amber g) (r.amber g) (trace h g) m (trace h g m) refl lasts)
+    ∙ sym (ap (λ (k : ℕ). natural_to r h m k) (add-one g))
+
+pub natural_changed : (r : Rules) (h : History) (m g : ℕ) (p : Picture) (x : Aspect) → p ≡ natural_to r h m g →
+    x ≡ natural_after (r.red_amber g) (r.amber g) (trace h g) m → set p g x ≡ natural_to r h m (g + 1)
+natural_changed r h m g p x so_far is = (λ j. set (so_far j) g (is j)) ∙ sym (ap (λ (k : ℕ). natural_to r h m k) (add-one g))
 
 natural_stays : (r : Rules) (h : History) (m : ℕ) (w : List Bool) (k : ℕ) → Steady r h m w → k ≤ r.count → natural_to r h m k ≡ get_or h m []
 natural_stays r h m w zero steady le = refl

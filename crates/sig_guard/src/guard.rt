@@ -10,7 +10,7 @@ ghost use Rattle.sig_guard.specs.Step.{guard_picture, guard_refused};
 
 use crate::ages::{GroupAge, age_all, first_ages};
 use crate::turn::{
-    Breach, ended, ends, is_due, is_on, is_short_green, refusal, shows_wish, started,
+    Breach, ended, ends, is_due, is_on, is_passing, is_short_green, refusal, shows_wish, started,
 };
 use sig_tables::{Intergreens, Times};
 use sig_types::{Aspect, GroupNo, Memory, Picture, Rule, TurnRefusals, Wishes};
@@ -333,7 +333,9 @@ impl Guard {
     {
         let mut picture = self.picture.copy();
         for g in 0..self.times.groups() {
-            picture.set(g, self.natural_aspect(g));
+            if is_passing(self.aspect(g)) {
+                picture.set(g, self.natural_aspect(g));
+            }
         }
         picture
     }

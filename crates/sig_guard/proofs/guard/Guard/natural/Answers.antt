@@ -1,0 +1,21 @@
+use Rattle.std.proofs.Common.{rules, ◌≡◌, ◌∙◌, ◌-◌, ◌&&◌, not, length, sym, ap}
+use Rattle.sig_types.specs.Turns.{trace, is_red, is_green}
+use Rattle.sig_guard.specs.Stands.{kept_rules}
+use Rattle.sig_guard.proofs.StandsAfter.{shows}
+use Rattle.sig_guard.proofs.Steady.{natural_left, natural_changed}
+use Rattle.sig_guard.proofs.guard.Guard.natural.Goals as goal
+use Rattle.sig_guard.proofs.guard.Guard.natural.Goals.{then-is_passing, else-is_passing}
+
+pub loop-g-preserved : goal.loop-g-preserved
+loop-g-preserved c = record {
+  shows = λ h s. elim c.if-is_passing.branch [
+    | then-is_passing w ↦ w.picture-is ∙ w.set.ensures
+        ∙ natural_changed (kept_rules c.args.self.now) h (length h - 1) c.loop-g.g c.loop-g.picture w.natural_aspect.result (c.loop-g.invariant.shows h s) (w.natural_aspect.ensures h s)
+    | else-is_passing w ↦ (
+        let was : trace h c.loop-g.g (length h - 1) ≡ c.aspect.result = sym (c.aspect.ensures ∙ shows c.args.self.now h c.loop-g.g s) in
+        w.picture-is
+        ∙ natural_left (kept_rules c.args.self.now) h (length h - 1) c.loop-g.g c.loop-g.picture (c.loop-g.invariant.shows h s)
+        (ap (λ x. not (is_red x) && not (is_green x)) was ∙ sym c.is_passing.ensures ∙ w.if-is_passing.false))
+  ];
+  size = search rules;
+}
