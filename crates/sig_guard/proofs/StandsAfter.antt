@@ -1,8 +1,7 @@
 -- What the numbers of a guard say of a history for which it stands, and that after a second they stand for the longer one.
-use Rattle.std.proofs.Common.{◌≡◌, ℕ, suc, ◌+◌, ◌-◌, ◌<◌, Bool, true, false, List, [], ◌∷◌, ◌++◌, length, sym, ap, ◌∙◌, subst, arith, Some, slice_index_or}
+use Rattle.std.proofs.Common.{◌≡◌, ℕ, suc, ◌+◌, ◌-◌, ◌<◌, Bool, List, [], ◌∷◌, ◌++◌, length, sym, ap, ◌∙◌, subst, arith, Some, slice_index_or}
 use Rattle.std.proofs.Math.ListN.{length-append}
 use Rattle.std.proofs.Math.Seq.{get_or-append_seam}
-use Rattle.sig_types.specs.declared.aspect.Aspect.{Aspect}
 use Rattle.sig_types.specs.declared.aspect.Aspect.TheVariants.{RedAmber, Green}
 use Rattle.sig_types.specs.Turns.{History, Picture, shown, trace, starts_at, turns_green_at}
 use Rattle.sig_types.specs.Words.{last_below}
@@ -10,11 +9,10 @@ use Rattle.sig_types.specs.Rules.{Rules, IsTwoWay}
 use Rattle.sig_guard.specs.declared.guard.Guard.{Guard}
 use Rattle.sig_guard.specs.Ages.{HasAge, age_at, next_age}
 use Rattle.sig_guard.specs.Safety.{IsHistory, Safe, Sequence}
-use Rattle.sig_guard.specs.Step.{shows_wish, guard_picture}
+use Rattle.sig_guard.specs.Step.{IsSteadyBelow, guard_picture}
 use Rattle.sig_guard.specs.Stands.{kept_rules, HasPast}
 use Rattle.sig_guard.proofs.Aged.{aged_after, red_amber_since, green_since}
 use Rattle.sig_guard.proofs.LawProofs.{step_keeps_safe}
-use Rattle.sig_guard.proofs.Steady.{Steady}
 
 pub length_is : (guard : Guard) (h : History) → HasPast guard h → length h ≡ suc (length h - 1)
 length_is guard h s = omega (arith, s.seconds)
@@ -26,10 +24,9 @@ next_is guard h s = omega (arith, s.seconds)
 pub shows : (guard : Guard) (h : History) (g : ℕ) → HasPast guard h → shown guard.picture g ≡ trace h g (length h - 1)
 shows guard h g s = ap (λ (p : Picture). shown p g) s.last
 
--- every group shows what is wished of it in the last second too
-pub steady_is : (guard : Guard) (h : History) (w : List Bool) → HasPast guard h →
-    ((g : ℕ) → g < (kept_rules guard).count → shows_wish (shown guard.picture g) (slice_index_or w g false) ≡ true) → Steady (kept_rules guard) h (length h - 1) w
-steady_is guard h w s each = record { each = λ g lt. ap (λ (x : Aspect). shows_wish x (slice_index_or w g false)) (sym (shows guard h g s)) ∙ each g lt }
+-- the groups that the guard's picture shows as wished are so in the history's last second
+pub steady_is : (guard : Guard) (h : History) (w : List Bool) (n : ℕ) → HasPast guard h → IsSteadyBelow guard.picture w n → IsSteadyBelow (slice_index_or h (length h - 1) []) w n
+steady_is guard h w n s steady = subst (λ (p : Picture). IsSteadyBelow p w n) s.last steady
 
 sequence_is : (guard : Guard) (h : History) (g : ℕ) → HasPast guard h → g < (kept_rules guard).count →
     Sequence ((kept_rules guard).red_amber g) ((kept_rules guard).amber g) (trace h g) (suc (length h - 1))

@@ -1,24 +1,22 @@
--- Where every group shows what is wished of it, the next second shows the same picture and refuses nothing.
-use Rattle.std.proofs.Common.{◌≡◌, ◌≢◌, ℕ, zero, suc, ◌+◌, ◌-◌, ◌<◌, ◌≤◌, Bool, true, false, not, ◌&&◌, refl, arith, sym, ap, ◌∙◌, List, [], length, get_or, set, slice_index_or, add-one}
+-- Groups that show what is wished of them do not turn; where all do, the next second shows the same picture and refuses nothing.
+use Rattle.std.proofs.Common.{◌≡◌, ◌≢◌, ℕ, zero, suc, ◌+◌, ◌-◌, ◌<◌, ◌≤◌, inl, inr, subst, Bool, true, false, not, ◌&&◌, refl, arith, sym, ap, ◌∙◌, List, [], length, get_or, set, slice_index_or, add-one}
+use Rattle.std.proofs.lemmas.Bool.{cases_eq}
 use Rattle.std.proofs.lemmas.List.{set-get_or, get_or-set_other}
 use Rattle.sig_types.specs.declared.aspect.Aspect.{Aspect}
 use Rattle.sig_types.specs.declared.aspect.Aspect.TheVariants.{Red, RedAmber, Green, Amber}
 use Rattle.sig_types.specs.Turns.{Picture, History, shown, trace, is_red, is_green, is_on}
 use Rattle.sig_types.specs.Rules.{Rules}
-use Rattle.sig_guard.specs.Step.{shows_wish, natural_after, natural_to, natural, wants_end, wants_start, end_breach, start_breach, ends_to, starts_to, refused_ends_to, refused_to, guard_picture, guard_refused}
+use Rattle.sig_guard.specs.Step.{shows_wish, IsSteadyBelow, natural_after, natural_to, natural, wants_end, wants_start, end_breach, start_breach, ends_to, starts_to, refused_ends_to, refused_to, guard_picture, guard_refused}
 use Rattle.sig_guard.proofs.MachineLemmas.{natural_red, natural_green, ends_unwanted, starts_unwanted, listed_off}
 
--- every group shows in second m what is wished of it
-pub record Steady (r : Rules) (h : History) (m : ℕ) (w : List Bool) : Type 0 where
-  pub each : (g : ℕ) → g < r.count → shows_wish (trace h g m) (slice_index_or w g false) ≡ true
-
-no_change : (ra am : ℕ) (a : ℕ → Aspect) (m : ℕ) (x : Aspect) (b : Bool) → a m ≡ x → shows_wish x b ≡ true → natural_after ra am a m ≡ x
-no_change ra am a m Red b was h = sym (natural_red ra am a m was)
-no_change ra am a m RedAmber true was h = absurd (cc)
-no_change ra am a m RedAmber false was h = absurd (cc)
-no_change ra am a m Green b was h = sym (natural_green ra am a m was)
-no_change ra am a m Amber true was h = absurd (cc)
-no_change ra am a m Amber false was h = absurd (cc)
+-- a group that shows what is wished of it is red or green
+pub steady_lasts : (x : Aspect) (b : Bool) → shows_wish x b ≡ true → (not (is_red x) && not (is_green x)) ≡ false
+steady_lasts Red b h = refl
+steady_lasts RedAmber true h = absurd (cc)
+steady_lasts RedAmber false h = absurd (cc)
+steady_lasts Green b h = refl
+steady_lasts Amber true h = absurd (cc)
+steady_lasts Amber false h = absurd (cc)
 
 no_end : (x : Aspect) (b : Bool) → shows_wish x b ≡ true → (is_on x && not b) ≡ false
 no_end Red b h = refl
@@ -62,47 +60,72 @@ pub natural_changed : (r : Rules) (h : History) (m g : ℕ) (p : Picture) (x : A
     x ≡ natural_after (r.red_amber g) (r.amber g) (trace h g) m → set p g x ≡ natural_to r h m (g + 1)
 natural_changed r h m g p x so_far is = (λ j. set (so_far j) g (is j)) ∙ sym (ap (λ (k : ℕ). natural_to r h m k) (add-one g))
 
-natural_stays : (r : Rules) (h : History) (m : ℕ) (w : List Bool) (k : ℕ) → Steady r h m w → k ≤ r.count → natural_to r h m k ≡ get_or h m []
-natural_stays r h m w zero steady le = refl
-natural_stays r h m w (suc k) steady le =
-    let same = no_change (r.red_amber k) (r.amber k) (trace h k) m (trace h k m) (slice_index_or w k false) refl (steady.each k (omega arith)) in
-    let before = natural_stays r h m w k steady (omega arith) in
-    (λ j. set (before j) k (same j)) ∙ set-get_or (get_or h m []) k Red
+-- by nature the groups below n last
+pub natural_stays : (r : Rules) (h : History) (m n k : ℕ) → ((g : ℕ) → g < n → (not (is_red (trace h g m)) && not (is_green (trace h g m))) ≡ false) →
+    k ≤ n → get_or h m [] ≡ natural_to r h m k
+natural_stays r h m n zero lasts le = refl
+natural_stays r h m n (suc k) lasts le =
+    natural_left r h m k (get_or h m []) (natural_stays r h m n k lasts (omega arith)) (lasts k (omega arith)) ∙ ap (λ (g : ℕ). natural_to r h m g) (add-one k)
 
-no_end_wanted : (r : Rules) (h : History) (m : ℕ) (w : List Bool) (g : ℕ) → Steady r h m w → g < r.count → wants_end (natural r h m) w g ≡ false
-no_end_wanted r h m w g steady lt =
-    ap (λ (q : Picture). wants_end q w g) (natural_stays r h m w r.count steady (omega arith)) ∙ no_end (trace h g m) (slice_index_or w g false) (steady.each g lt)
+-- a group that lasts shows in the natural picture what it showed
+natural_keeps : (r : Rules) (h : History) (m k g : ℕ) → (not (is_red (trace h g m)) && not (is_green (trace h g m))) ≡ false →
+    shown (natural_to r h m k) g ≡ trace h g m
+natural_keeps r h m zero g lasts = refl
+natural_keeps r h m (suc k) g lasts = elim (cases_eq g k) [
+  | inl same ↦ (
+      let next = natural_left r h m g (natural_to r h m g) refl lasts ∙ ap (λ (j : ℕ). natural_to r h m j) (add-one g) in
+      subst (λ (j : ℕ). shown (natural_to r h m (suc j)) g ≡ trace h g m) same
+      (ap (λ (q : Picture). shown q g) (sym next) ∙ natural_to-above r h m g g (omega arith)))
+  | inr ne ↦ get_or-set_other (natural_to r h m k) k g _ Red ne ∙ natural_keeps r h m k g lasts
+]
 
-no_start_wanted : (r : Rules) (h : History) (m : ℕ) (w : List Bool) (g : ℕ) → Steady r h m w → g < r.count → wants_start (natural r h m) w g ≡ false
-no_start_wanted r h m w g steady lt =
-    ap (λ (q : Picture). wants_start q w g) (natural_stays r h m w r.count steady (omega arith)) ∙ no_start (trace h g m) (slice_index_or w g false) (steady.each g lt)
+no_end_wanted : (r : Rules) (h : History) (m : ℕ) (w : List Bool) (n g : ℕ) → IsSteadyBelow (get_or h m []) w n → g < n → wants_end (natural r h m) w g ≡ false
+no_end_wanted r h m w n g steady lt =
+    ap (λ (x : Aspect). is_on x && not (slice_index_or w g false)) (natural_keeps r h m r.count g (steady_lasts (trace h g m) (slice_index_or w g false) (steady g lt)))
+    ∙ no_end (trace h g m) (slice_index_or w g false) (steady g lt)
 
-ends_stay : (r : Rules) (h : History) (m : ℕ) (w : List Bool) (k : ℕ) → Steady r h m w → k ≤ r.count → get_or h m [] ≡ ends_to r h m w k
-ends_stay r h m w zero steady le = sym (natural_stays r h m w r.count steady (omega arith))
-ends_stay r h m w (suc k) steady le =
-    ends_unwanted r h m w k (natural r h m) (get_or h m []) refl (ends_stay r h m w k steady (omega arith)) (no_end_wanted r h m w k steady (omega arith))
-    ∙ ap (λ (n : ℕ). ends_to r h m w n) (add-one k)
+no_start_wanted : (r : Rules) (h : History) (m : ℕ) (w : List Bool) (n g : ℕ) → IsSteadyBelow (get_or h m []) w n → g < n → wants_start (natural r h m) w g ≡ false
+no_start_wanted r h m w n g steady lt =
+    ap (λ (x : Aspect). not (is_on x) && slice_index_or w g false) (natural_keeps r h m r.count g (steady_lasts (trace h g m) (slice_index_or w g false) (steady g lt)))
+    ∙ no_start (trace h g m) (slice_index_or w g false) (steady g lt)
 
-starts_stay : (r : Rules) (h : History) (m : ℕ) (w : List Bool) (k : ℕ) → Steady r h m w → k ≤ r.count → get_or h m [] ≡ starts_to r h m w k
-starts_stay r h m w zero steady le = ends_stay r h m w r.count steady (omega arith)
-starts_stay r h m w (suc k) steady le =
-    starts_unwanted r h m w k (natural r h m) (get_or h m []) refl (starts_stay r h m w k steady (omega arith)) (no_start_wanted r h m w k steady (omega arith))
-    ∙ ap (λ (n : ℕ). starts_to r h m w n) (add-one k)
+-- of the groups below n none ends
+pub ends_stay : (r : Rules) (h : History) (m : ℕ) (w : List Bool) (n k : ℕ) → IsSteadyBelow (get_or h m []) w n → k ≤ n → natural r h m ≡ ends_to r h m w k
+ends_stay r h m w n zero steady le = refl
+ends_stay r h m w n (suc k) steady le =
+    ends_unwanted r h m w k (natural r h m) (natural r h m) refl (ends_stay r h m w n k steady (omega arith)) (no_end_wanted r h m w n k steady (omega arith))
+    ∙ ap (λ (g : ℕ). ends_to r h m w g) (add-one k)
 
-no_end_refused : (r : Rules) (h : History) (m : ℕ) (w : List Bool) (k : ℕ) → Steady r h m w → k ≤ r.count → [] ≡ refused_ends_to r h m w k
-no_end_refused r h m w zero steady le = refl
-no_end_refused r h m w (suc k) steady le =
-    listed_off _ k (end_breach r h m k) [] _ (no_end_refused r h m w k steady (omega arith)) (no_end_wanted r h m w k steady (omega arith))
+pub no_end_refused : (r : Rules) (h : History) (m : ℕ) (w : List Bool) (n k : ℕ) → IsSteadyBelow (get_or h m []) w n → k ≤ n → [] ≡ refused_ends_to r h m w k
+no_end_refused r h m w n zero steady le = refl
+no_end_refused r h m w n (suc k) steady le =
+    listed_off _ k (end_breach r h m k) [] _ (no_end_refused r h m w n k steady (omega arith)) (no_end_wanted r h m w n k steady (omega arith))
 
-none_refused : (r : Rules) (h : History) (m : ℕ) (w : List Bool) (k : ℕ) → Steady r h m w → k ≤ r.count → [] ≡ refused_to r h m w k
-none_refused r h m w zero steady le = no_end_refused r h m w r.count steady (omega arith)
-none_refused r h m w (suc k) steady le =
-    listed_off _ k (start_breach r h m (starts_to r h m w k) k) [] _ (none_refused r h m w k steady (omega arith)) (no_start_wanted r h m w k steady (omega arith))
+-- and none starts
+pub starts_stay : (r : Rules) (h : History) (m : ℕ) (w : List Bool) (n k : ℕ) → IsSteadyBelow (get_or h m []) w n → k ≤ n →
+    ends_to r h m w r.count ≡ starts_to r h m w k
+starts_stay r h m w n zero steady le = refl
+starts_stay r h m w n (suc k) steady le =
+    starts_unwanted r h m w k (natural r h m) (ends_to r h m w r.count) refl (starts_stay r h m w n k steady (omega arith)) (no_start_wanted r h m w n k steady (omega arith))
+    ∙ ap (λ (g : ℕ). starts_to r h m w g) (add-one k)
 
-pub steady_picture : (r : Rules) (h : History) (w : List Bool) → Steady r h (length h - 1) w → get_or h (length h - 1) [] ≡ guard_picture r h w
+pub no_start_refused : (r : Rules) (h : History) (m : ℕ) (w : List Bool) (n k : ℕ) → IsSteadyBelow (get_or h m []) w n → k ≤ n →
+    refused_ends_to r h m w r.count ≡ refused_to r h m w k
+no_start_refused r h m w n zero steady le = refl
+no_start_refused r h m w n (suc k) steady le =
+    listed_off _ k (start_breach r h m (starts_to r h m w k) k) (refused_ends_to r h m w r.count) _ (no_start_refused r h m w n k steady (omega arith))
+    (no_start_wanted r h m w n k steady (omega arith))
+
+pub steady_picture : (r : Rules) (h : History) (w : List Bool) → IsSteadyBelow (get_or h (length h - 1) []) w r.count →
+    get_or h (length h - 1) [] ≡ guard_picture r h w
 unfolding guard_picture
-steady_picture r h w steady = starts_stay r h (length h - 1) w r.count steady (omega arith)
+steady_picture r h w steady =
+    natural_stays r h (length h - 1) r.count r.count (λ g lt. steady_lasts (trace h g (length h - 1)) (slice_index_or w g false) (steady g lt)) (omega arith)
+    ∙ ends_stay r h (length h - 1) w r.count r.count steady (omega arith)
+    ∙ starts_stay r h (length h - 1) w r.count r.count steady (omega arith)
 
-pub steady_refused : (r : Rules) (h : History) (w : List Bool) → Steady r h (length h - 1) w → [] ≡ guard_refused r h w
+pub steady_refused : (r : Rules) (h : History) (w : List Bool) → IsSteadyBelow (get_or h (length h - 1) []) w r.count → [] ≡ guard_refused r h w
 unfolding guard_refused
-steady_refused r h w steady = none_refused r h (length h - 1) w r.count steady (omega arith)
+steady_refused r h w steady =
+    no_end_refused r h (length h - 1) w r.count r.count steady (omega arith)
+    ∙ no_start_refused r h (length h - 1) w r.count r.count steady (omega arith)

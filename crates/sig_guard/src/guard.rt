@@ -1,5 +1,5 @@
 // The guard, over its last picture and two numbers of each group.
-ghost use Rattle.std.specs.Prelude.{◌≡◌, ℕ, suc, All, ◌+◌, ◌-◌, ◌<◌, ◌≤◌, [], ◌∷◌, ◌++◌, length, replicate, slice_index_or, true, false, if◌then◌else◌, IfOk, IfSome, Some};
+ghost use Rattle.std.specs.Prelude.{◌≡◌, ℕ, suc, All, ◌+◌, ◌-◌, ◌<◌, ◌≤◌, [], ◌∷◌, ◌++◌, length, replicate, slice_index_or, true, false, not, ◌&&◌, if◌then◌else◌, IfOk, IfSome, Some};
 ghost use Rattle.sig_types.specs.Turns.{History, shown, trace, is_green, is_red};
 ghost use Rattle.sig_types.specs.Words.{last_below, least_below, run_to};
 ghost use Rattle.sig_types.specs.Recorded.{IsTurn};
@@ -70,14 +70,15 @@ impl Guard {
         ensures turns { All (IsTurn (rules self.old).count) out.new }
     {
         out.clear();
-        if self.is_steady(wishes) {
+        let first = self.first_unsteady(wishes);
+        if first == self.times.groups() {
             self.seconds = self.now();
             return;
         }
-        let natural = self.natural();
+        let natural = self.natural(first);
         let mut picture = natural.copy();
-        self.show_ends(&natural, wishes, &mut picture, out);
-        self.show_starts(&natural, wishes, &mut picture, out);
+        self.show_ends(&natural, wishes, &mut picture, out, first);
+        self.show_starts(&natural, wishes, &mut picture, out, first);
         let now = self.now();
         age_all(&mut self.ages, &self.picture, &picture, now);
         self.picture = picture;
@@ -128,7 +129,7 @@ impl Guard {
     ghost use Rattle.sig_types.specs.Turns.{ends_at};
     ghost use Rattle.sig_guard.specs.Count.{many};
     ghost use Rattle.sig_guard.specs.Stands.{kept_rules, HasPast};
-    ghost use Rattle.sig_guard.specs.Step.{natural_after, end_breach, start_breach, is_in_conflict, is_uncleared, natural as natural_spec, ends_to, starts_to, refused_ends_to, refused_to, refusal as refusal_spec, wants_end, wants_start, shows_wish};
+    ghost use Rattle.sig_guard.specs.Step.{natural_after, end_breach, start_breach, is_in_conflict, is_uncleared, natural as natural_spec, ends_to, starts_to, refused_ends_to, refused_to, refusal as refusal_spec, wants_end, wants_start, IsSteadyBelow};
 
     /// The second that comes next.
     fn now(&self) -> u32
@@ -173,17 +174,19 @@ impl Guard {
         self.ages[g as usize].last_end
     }
 
-    /// Whether every group shows what is wished of it, so that none turns in the next second.
-    fn is_steady(&self, wishes: &Wishes) -> bool
+    /// The first group that does not show what is wished of it, or else the number of groups: no group below it turns in the next
+    /// second.
+    fn first_unsteady(&self, wishes: &Wishes) -> u8
         requires wished { length wishes.now ≡ (kept_rules self.now).count }
-        ensures { result ≡ true → (g : ℕ) → g < (kept_rules self.now).count → shows_wish (shown self.now.picture g) (slice_index_or wishes.now g false) ≡ true }
+        ensures below { IsSteadyBelow self.now.picture wishes.now result }
+        ensures at_most { result ≤ (kept_rules self.now).count }
     {
         for g in 0..self.times.groups() {
             if !shows_wish(self.aspect(g), wishes.get(g)) {
-                return false;
+                return g;
             }
         }
-        true
+        self.times.groups()
     }
 
     /// What the group shows in the next second by nature.
@@ -326,13 +329,15 @@ impl Guard {
         None
     }
 
-    /// What the next second shows by nature.
-    fn natural(&self) -> Picture
+    /// What the next second shows by nature; groups below `first` are red or green.
+    fn natural(&self, first: u8) -> Picture
+        requires lasting { (g : ℕ) → g < first → (not (is_red (shown self.now.picture g)) && not (is_green (shown self.now.picture g))) ≡ false }
+        requires at_most { first ≤ (kept_rules self.now).count }
         ensures picture { (h : History) → HasPast self.now h → result ≡ natural_spec (kept_rules self.now) h (length h - 1) }
         ensures size { length result ≡ (kept_rules self.now).count }
     {
         let mut picture = self.picture.copy();
-        for g in 0..self.times.groups() {
+        for g in first..self.times.groups() {
             if is_passing(self.aspect(g)) {
                 picture.set(g, self.natural_aspect(g));
             }
@@ -401,14 +406,17 @@ impl Guard {
         }
     }
 
-    /// Shows the wished ends that break no rule in the natural picture, and notes the others.
+    /// Shows the wished ends that break no rule in the natural picture, and notes the others. Groups below `first` do not turn.
     fn show_ends(
         &self,
         natural: &Picture,
         wishes: &Wishes,
         picture: &mut Picture,
         out: &mut TurnRefusals,
+        first: u8,
     )
+        requires steady { IsSteadyBelow self.now.picture wishes.now first }
+        requires at_most { first ≤ (kept_rules self.now).count }
         requires wished { length wishes.now ≡ (kept_rules self.now).count }
         requires natural { (h : History) → HasPast self.now h → natural.now ≡ natural_spec (kept_rules self.now) h (length h - 1) }
         requires size { length natural.now ≡ (kept_rules self.now).count }
@@ -422,19 +430,22 @@ impl Guard {
         ensures turns { All (IsTurn (kept_rules self.now).count) out.new }
         ensures count { length out.new ≤ many (wants_end natural.now wishes.now) (kept_rules self.now).count }
     {
-        for g in 0..self.times.groups() {
+        for g in first..self.times.groups() {
             self.end_one(natural, wishes, picture, out, g);
         }
     }
 
-    /// Shows the wished starts that break no rule in the picture so far, and notes the others.
+    /// Shows the wished starts that break no rule in the picture so far, and notes the others. Groups below `first` do not turn.
     fn show_starts(
         &self,
         natural: &Picture,
         wishes: &Wishes,
         picture: &mut Picture,
         out: &mut TurnRefusals,
+        first: u8,
     )
+        requires steady { IsSteadyBelow self.now.picture wishes.now first }
+        requires at_most { first ≤ (kept_rules self.now).count }
         requires wished { length wishes.now ≡ (kept_rules self.now).count }
         requires natural { (h : History) → HasPast self.now h → natural.now ≡ natural_spec (kept_rules self.now) h (length h - 1) }
         requires size { length natural.now ≡ (kept_rules self.now).count }
@@ -452,7 +463,7 @@ impl Guard {
             out.new ≡ refused_to (kept_rules self.now) h (length h - 1) wishes.now (kept_rules self.now).count }
         ensures turns { All (IsTurn (kept_rules self.now).count) out.new }
     {
-        for g in 0..self.times.groups() {
+        for g in first..self.times.groups() {
             self.start_one(natural, wishes, picture, out, g);
         }
     }

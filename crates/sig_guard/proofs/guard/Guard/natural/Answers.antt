@@ -1,10 +1,20 @@
-use Rattle.std.proofs.Common.{rules, ◌≡◌, ◌∙◌, ◌-◌, ◌&&◌, not, length, sym, ap}
+use Rattle.std.proofs.Common.{rules, arith, ◌≡◌, ◌∙◌, ◌-◌, ◌&&◌, not, length, sym, ap}
 use Rattle.sig_types.specs.Turns.{trace, is_red, is_green}
 use Rattle.sig_guard.specs.Stands.{kept_rules}
 use Rattle.sig_guard.proofs.StandsAfter.{shows}
-use Rattle.sig_guard.proofs.Steady.{natural_left, natural_changed}
+use Rattle.sig_guard.proofs.Steady.{natural_stays, natural_left, natural_changed}
 use Rattle.sig_guard.proofs.guard.Guard.natural.Goals as goal
 use Rattle.sig_guard.proofs.guard.Guard.natural.Goals.{then-is_passing, else-is_passing}
+
+pub loop-g-init : goal.loop-g-init
+loop-g-init c = record {
+  shows = λ h s.
+      let me = c.args.self.now in
+      c.copy-picture.ensures ∙ s.last
+      ∙ natural_stays (kept_rules me) h (length h - 1) c.args.first c.args.first
+      (λ g lt. ap (λ x. not (is_red x) && not (is_green x)) (sym (shows me h g s)) ∙ c.requires.lasting g lt) (omega arith);
+  size = search rules;
+}
 
 pub loop-g-preserved : goal.loop-g-preserved
 loop-g-preserved c = record {
