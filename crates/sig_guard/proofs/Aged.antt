@@ -78,7 +78,7 @@ green_since x a m ra am has kept is =
     turns : turns_green_at a x.since ≡ true
     turns = rw (begins, here) (and_from _ _ (not_green _ was) refl)
 
-same_is : (x y : Aspect) → same_aspect x y ≡ true → x ≡ y
+pub same_is : (x y : Aspect) → same_aspect x y ≡ true → x ≡ y
 same_is Red Red h = refl
 same_is Red RedAmber h = absurd (cc)
 same_is Red Green h = absurd (cc)

@@ -1,18 +1,21 @@
 -- What the numbers of a guard say of a history for which it stands, and that after a second they stand for the longer one.
-use Rattle.std.proofs.Common.{◌≡◌, ℕ, suc, ◌+◌, ◌-◌, ◌<◌, Bool, List, [], ◌∷◌, ◌++◌, length, sym, ap, ◌∙◌, subst, arith, Some, slice_index_or}
+use Rattle.std.proofs.Common.{◌≡◌, ℕ, suc, ◌+◌, ◌-◌, ◌<◌, inl, inr, refl, Bool, true, false, List, [], ◌∷◌, ◌++◌, length, sym, ap, ◌∙◌, subst, arith, Some, slice_index_or}
 use Rattle.std.proofs.Math.ListN.{length-append}
 use Rattle.std.proofs.Math.Seq.{get_or-append_seam}
+use Rattle.sig_types.specs.declared.aspect.Aspect.{Aspect}
 use Rattle.sig_types.specs.declared.aspect.Aspect.TheVariants.{RedAmber, Green}
-use Rattle.sig_types.specs.Turns.{History, Picture, shown, trace, starts_at, turns_green_at}
+use Rattle.sig_types.specs.Turns.{History, Picture, shown, trace, is_on, starts_at, turns_green_at}
 use Rattle.sig_types.specs.Words.{last_below}
 use Rattle.sig_types.specs.Rules.{Rules, IsTwoWay}
 use Rattle.sig_guard.specs.declared.guard.Guard.{Guard}
 use Rattle.sig_guard.specs.Ages.{HasAge, age_at, next_age}
 use Rattle.sig_guard.specs.Safety.{IsHistory, Safe, Sequence}
-use Rattle.sig_guard.specs.Step.{IsSteadyBelow, guard_picture}
+use Rattle.sig_guard.specs.Step.{shows_wish, is_left, natural_after, IsSteadyBelow, guard_picture}
 use Rattle.sig_guard.specs.Stands.{kept_rules, HasPast}
 use Rattle.sig_guard.proofs.Aged.{aged_after, red_amber_since, green_since}
 use Rattle.sig_guard.proofs.LawProofs.{step_keeps_safe}
+use Rattle.sig_guard.proofs.Steady.{wish_lasts, wish_on, left_lasts, left_on}
+use Rattle.std.proofs.lemmas.Bool.{cases_eq}
 
 pub length_is : (guard : Guard) (h : History) → HasPast guard h → length h ≡ suc (length h - 1)
 length_is guard h s = omega (arith, s.seconds)
@@ -24,9 +27,22 @@ next_is guard h s = omega (arith, s.seconds)
 pub shows : (guard : Guard) (h : History) (g : ℕ) → HasPast guard h → shown guard.picture g ≡ trace h g (length h - 1)
 shows guard h g s = ap (λ (p : Picture). shown p g) s.last
 
--- the groups that the guard's picture shows as wished are so in the history's last second
-pub steady_is : (guard : Guard) (h : History) (w : List Bool) (n : ℕ) → HasPast guard h → IsSteadyBelow guard.picture w n → IsSteadyBelow (slice_index_or h (length h - 1) []) w n
-steady_is guard h w n s steady = subst (λ (p : Picture). IsSteadyBelow p w n) s.last steady
+-- the groups that show what is wished of them do not turn, nor do those that are left
+pub shown_steady : (guard : Guard) (h : History) (w : List Bool) (n : ℕ) → HasPast guard h →
+    ((g : ℕ) → g < n → shows_wish (shown guard.picture g) (slice_index_or w g false) ≡ true) → IsSteadyBelow (kept_rules guard) h (length h - 1) w n
+shown_steady guard h w n s each = λ g lt.
+    let here = subst (λ (x : Aspect). shows_wish x (slice_index_or w g false) ≡ true) (shows guard h g s) (each g lt) in
+    (wish_lasts _ _ (trace h g) (length h - 1) (trace h g (length h - 1)) (slice_index_or w g false) refl here, wish_on (trace h g (length h - 1)) (slice_index_or w g false) here)
+
+pub left_steady : (guard : Guard) (h : History) (w : List Bool) (n : ℕ) (x : Aspect) → HasPast guard h → IsSteadyBelow (kept_rules guard) h (length h - 1) w n →
+    x ≡ natural_after ((kept_rules guard).red_amber n) ((kept_rules guard).amber n) (trace h n) (length h - 1) →
+    is_left (shown guard.picture n) x (slice_index_or w n false) ≡ true → IsSteadyBelow (kept_rules guard) h (length h - 1) w (n + 1)
+left_steady guard h w n x s below natural left = λ g lt. elim (cases_eq g n) [
+  | inl same ↦ subst (λ (j : ℕ). (natural_after ((kept_rules guard).red_amber j) ((kept_rules guard).amber j) (trace h j) (length h - 1) ≡ trace h j (length h - 1))
+      × (is_on (trace h j (length h - 1)) ≡ slice_index_or w j false)) (sym same)
+      (sym natural ∙ left_lasts _ x (slice_index_or w n false) left ∙ shows guard h n s, ap is_on (sym (shows guard h n s)) ∙ left_on _ x (slice_index_or w n false) left)
+  | inr ne ↦ below g (omega arith)
+]
 
 sequence_is : (guard : Guard) (h : History) (g : ℕ) → HasPast guard h → g < (kept_rules guard).count →
     Sequence ((kept_rules guard).red_amber g) ((kept_rules guard).amber g) (trace h g) (suc (length h - 1))

@@ -1,38 +1,22 @@
--- Groups that show what is wished of them do not turn; where all do, the next second shows the same picture and refuses nothing.
+-- Groups that last by nature as is wished of them do not turn; where all do so, the next second shows the same picture and refuses nothing.
 use Rattle.std.proofs.Common.{◌≡◌, ◌≢◌, ℕ, zero, suc, ◌+◌, ◌-◌, ◌<◌, ◌≤◌, inl, inr, subst, Bool, true, false, not, ◌&&◌, refl, arith, sym, ap, ◌∙◌, List, [], length, get_or, set, slice_index_or, add-one}
-use Rattle.std.proofs.lemmas.Bool.{cases_eq}
+use Rattle.std.proofs.lemmas.Bool.{cases_eq, and_parts}
 use Rattle.std.proofs.lemmas.List.{set-get_or, get_or-set_other}
 use Rattle.sig_types.specs.declared.aspect.Aspect.{Aspect}
 use Rattle.sig_types.specs.declared.aspect.Aspect.TheVariants.{Red, RedAmber, Green, Amber}
 use Rattle.sig_types.specs.Turns.{Picture, History, shown, trace, is_red, is_green, is_on}
 use Rattle.sig_types.specs.Rules.{Rules}
-use Rattle.sig_guard.specs.Step.{shows_wish, IsSteadyBelow, natural_after, natural_to, natural, wants_end, wants_start, end_breach, start_breach, ends_to, starts_to, refused_ends_to, refused_to, guard_picture, guard_refused}
+use Rattle.sig_guard.specs.Step.{shows_wish, is_left, IsSteadyBelow, natural_after, natural_to, natural, wants_end, wants_start, end_breach, start_breach, ends_to, starts_to, refused_ends_to, refused_to, guard_picture, guard_refused}
+use Rattle.sig_guard.proofs.Aged.{same_is}
 use Rattle.sig_guard.proofs.MachineLemmas.{natural_red, natural_green, ends_unwanted, starts_unwanted, listed_off}
 
--- a group that shows what is wished of it is red or green
-pub steady_lasts : (x : Aspect) (b : Bool) → shows_wish x b ≡ true → (not (is_red x) && not (is_green x)) ≡ false
-steady_lasts Red b h = refl
-steady_lasts RedAmber true h = absurd (cc)
-steady_lasts RedAmber false h = absurd (cc)
-steady_lasts Green b h = refl
-steady_lasts Amber true h = absurd (cc)
-steady_lasts Amber false h = absurd (cc)
+no_end : (x : Aspect) (b : Bool) → is_on x ≡ b → (is_on x && not b) ≡ false
+no_end x true h = ap (λ (c : Bool). c && false) h
+no_end x false h = ap (λ (c : Bool). c && true) h
 
-no_end : (x : Aspect) (b : Bool) → shows_wish x b ≡ true → (is_on x && not b) ≡ false
-no_end Red b h = refl
-no_end RedAmber true h = refl
-no_end RedAmber false h = absurd (cc)
-no_end Green true h = refl
-no_end Green false h = absurd (cc)
-no_end Amber b h = refl
-
-no_start : (x : Aspect) (b : Bool) → shows_wish x b ≡ true → (not (is_on x) && b) ≡ false
-no_start Red true h = absurd (cc)
-no_start Red false h = refl
-no_start RedAmber b h = refl
-no_start Green b h = refl
-no_start Amber true h = absurd (cc)
-no_start Amber false h = refl
+no_start : (x : Aspect) (b : Bool) → is_on x ≡ b → (not (is_on x) && b) ≡ false
+no_start x true h = ap (λ (c : Bool). not c && true) h
+no_start x false h = ap (λ (c : Bool). not c && false) h
 
 -- the groups below k are changed first
 natural_to-above : (r : Rules) (h : History) (m k g : ℕ) → k ≤ g → shown (natural_to r h m k) g ≡ trace h g m
@@ -41,19 +25,50 @@ natural_to-above r h m (suc k) g le =
     let ne : g ≢ k = omega arith in
     get_or-set_other (natural_to r h m k) k g _ Red ne ∙ natural_to-above r h m k g (omega arith)
 
-lasting : (ra am : ℕ) (a : ℕ → Aspect) (m : ℕ) (x : Aspect) → a m ≡ x → (not (is_red x) && not (is_green x)) ≡ false → x ≡ natural_after ra am a m
-lasting ra am a m Red was h = natural_red ra am a m was
+-- red and green last
+pub lasting : (ra am : ℕ) (a : ℕ → Aspect) (m : ℕ) (x : Aspect) → a m ≡ x → (not (is_red x) && not (is_green x)) ≡ false → natural_after ra am a m ≡ x
+lasting ra am a m Red was h = sym (natural_red ra am a m was)
 lasting ra am a m RedAmber was h = absurd (cc)
-lasting ra am a m Green was h = natural_green ra am a m was
+lasting ra am a m Green was h = sym (natural_green ra am a m was)
 lasting ra am a m Amber was h = absurd (cc)
 
--- one group more: red and green last
+-- and so does a group that shows what is wished of it
+pub wish_lasts : (ra am : ℕ) (a : ℕ → Aspect) (m : ℕ) (x : Aspect) (b : Bool) → a m ≡ x → shows_wish x b ≡ true → natural_after ra am a m ≡ x
+wish_lasts ra am a m Red b was h = sym (natural_red ra am a m was)
+wish_lasts ra am a m RedAmber true was h = absurd (cc)
+wish_lasts ra am a m RedAmber false was h = absurd (cc)
+wish_lasts ra am a m Green b was h = sym (natural_green ra am a m was)
+wish_lasts ra am a m Amber true was h = absurd (cc)
+wish_lasts ra am a m Amber false was h = absurd (cc)
+
+pub wish_on : (x : Aspect) (b : Bool) → shows_wish x b ≡ true → is_on x ≡ b
+wish_on Red true h = absurd (cc)
+wish_on Red false h = refl
+wish_on RedAmber true h = refl
+wish_on RedAmber false h = absurd (cc)
+wish_on Green true h = refl
+wish_on Green false h = absurd (cc)
+wish_on Amber true h = absurd (cc)
+wish_on Amber false h = refl
+
+pub left_on : (x y : Aspect) (b : Bool) → is_left x y b ≡ true → is_on x ≡ b
+left_on x y true h = (and_parts _ _ h).1
+left_on x y false h = off (is_on x) (and_parts _ _ h).1
+  where
+    off : (c : Bool) → not c ≡ true → c ≡ false
+    off true e = absurd (cc)
+    off false e = refl
+
+pub left_lasts : (x y : Aspect) (b : Bool) → is_left x y b ≡ true → y ≡ x
+left_lasts x y b h = sym (same_is x y (and_parts _ _ h).0)
+
+-- one group more: it lasts
 pub natural_left : (r : Rules) (h : History) (m g : ℕ) (p : Picture) → p ≡ natural_to r h m g →
-    (not (is_red (trace h g m)) && not (is_green (trace h g m))) ≡ false → p ≡ natural_to r h m (g + 1)
+    natural_after (r.red_amber g) (r.amber g) (trace h g) m ≡ trace h g m → p ≡ natural_to r h m (g + 1)
 natural_left r h m g p so_far lasts =
     let above = natural_to-above r h m g g (omega arith) in
     so_far ∙ sym (set-get_or (natural_to r h m g) g Red)
-    ∙ ap (λ (x : Aspect). set (natural_to r h m g) g x) (above ∙ lasting (r.red_amber g) (r.amber g) (trace h g) m (trace h g m) refl lasts)
+    ∙ ap (λ (x : Aspect). set (natural_to r h m g) g x) (above ∙ sym lasts)
     ∙ sym (ap (λ (k : ℕ). natural_to r h m k) (add-one g))
 
 pub natural_changed : (r : Rules) (h : History) (m g : ℕ) (p : Picture) (x : Aspect) → p ≡ natural_to r h m g →
@@ -61,14 +76,14 @@ pub natural_changed : (r : Rules) (h : History) (m g : ℕ) (p : Picture) (x : A
 natural_changed r h m g p x so_far is = (λ j. set (so_far j) g (is j)) ∙ sym (ap (λ (k : ℕ). natural_to r h m k) (add-one g))
 
 -- by nature the groups below n last
-pub natural_stays : (r : Rules) (h : History) (m n k : ℕ) → ((g : ℕ) → g < n → (not (is_red (trace h g m)) && not (is_green (trace h g m))) ≡ false) →
+pub natural_stays : (r : Rules) (h : History) (m n k : ℕ) → ((g : ℕ) → g < n → natural_after (r.red_amber g) (r.amber g) (trace h g) m ≡ trace h g m) →
     k ≤ n → get_or h m [] ≡ natural_to r h m k
 natural_stays r h m n zero lasts le = refl
 natural_stays r h m n (suc k) lasts le =
     natural_left r h m k (get_or h m []) (natural_stays r h m n k lasts (omega arith)) (lasts k (omega arith)) ∙ ap (λ (g : ℕ). natural_to r h m g) (add-one k)
 
 -- a group that lasts shows in the natural picture what it showed
-natural_keeps : (r : Rules) (h : History) (m k g : ℕ) → (not (is_red (trace h g m)) && not (is_green (trace h g m))) ≡ false →
+natural_keeps : (r : Rules) (h : History) (m k g : ℕ) → natural_after (r.red_amber g) (r.amber g) (trace h g) m ≡ trace h g m →
     shown (natural_to r h m k) g ≡ trace h g m
 natural_keeps r h m zero g lasts = refl
 natural_keeps r h m (suc k) g lasts = elim (cases_eq g k) [
@@ -79,52 +94,52 @@ natural_keeps r h m (suc k) g lasts = elim (cases_eq g k) [
   | inr ne ↦ get_or-set_other (natural_to r h m k) k g _ Red ne ∙ natural_keeps r h m k g lasts
 ]
 
-no_end_wanted : (r : Rules) (h : History) (m : ℕ) (w : List Bool) (n g : ℕ) → IsSteadyBelow (get_or h m []) w n → g < n → wants_end (natural r h m) w g ≡ false
+no_end_wanted : (r : Rules) (h : History) (m : ℕ) (w : List Bool) (n g : ℕ) → IsSteadyBelow r h m w n → g < n → wants_end (natural r h m) w g ≡ false
 no_end_wanted r h m w n g steady lt =
-    ap (λ (x : Aspect). is_on x && not (slice_index_or w g false)) (natural_keeps r h m r.count g (steady_lasts (trace h g m) (slice_index_or w g false) (steady g lt)))
-    ∙ no_end (trace h g m) (slice_index_or w g false) (steady g lt)
+    ap (λ (x : Aspect). is_on x && not (slice_index_or w g false)) (natural_keeps r h m r.count g (steady g lt).0)
+    ∙ no_end (trace h g m) (slice_index_or w g false) (steady g lt).1
 
-no_start_wanted : (r : Rules) (h : History) (m : ℕ) (w : List Bool) (n g : ℕ) → IsSteadyBelow (get_or h m []) w n → g < n → wants_start (natural r h m) w g ≡ false
+no_start_wanted : (r : Rules) (h : History) (m : ℕ) (w : List Bool) (n g : ℕ) → IsSteadyBelow r h m w n → g < n → wants_start (natural r h m) w g ≡ false
 no_start_wanted r h m w n g steady lt =
-    ap (λ (x : Aspect). not (is_on x) && slice_index_or w g false) (natural_keeps r h m r.count g (steady_lasts (trace h g m) (slice_index_or w g false) (steady g lt)))
-    ∙ no_start (trace h g m) (slice_index_or w g false) (steady g lt)
+    ap (λ (x : Aspect). not (is_on x) && slice_index_or w g false) (natural_keeps r h m r.count g (steady g lt).0)
+    ∙ no_start (trace h g m) (slice_index_or w g false) (steady g lt).1
 
 -- of the groups below n none ends
-pub ends_stay : (r : Rules) (h : History) (m : ℕ) (w : List Bool) (n k : ℕ) → IsSteadyBelow (get_or h m []) w n → k ≤ n → natural r h m ≡ ends_to r h m w k
+pub ends_stay : (r : Rules) (h : History) (m : ℕ) (w : List Bool) (n k : ℕ) → IsSteadyBelow r h m w n → k ≤ n → natural r h m ≡ ends_to r h m w k
 ends_stay r h m w n zero steady le = refl
 ends_stay r h m w n (suc k) steady le =
     ends_unwanted r h m w k (natural r h m) (natural r h m) refl (ends_stay r h m w n k steady (omega arith)) (no_end_wanted r h m w n k steady (omega arith))
     ∙ ap (λ (g : ℕ). ends_to r h m w g) (add-one k)
 
-pub no_end_refused : (r : Rules) (h : History) (m : ℕ) (w : List Bool) (n k : ℕ) → IsSteadyBelow (get_or h m []) w n → k ≤ n → [] ≡ refused_ends_to r h m w k
+pub no_end_refused : (r : Rules) (h : History) (m : ℕ) (w : List Bool) (n k : ℕ) → IsSteadyBelow r h m w n → k ≤ n → [] ≡ refused_ends_to r h m w k
 no_end_refused r h m w n zero steady le = refl
 no_end_refused r h m w n (suc k) steady le =
     listed_off _ k (end_breach r h m k) [] _ (no_end_refused r h m w n k steady (omega arith)) (no_end_wanted r h m w n k steady (omega arith))
 
 -- and none starts
-pub starts_stay : (r : Rules) (h : History) (m : ℕ) (w : List Bool) (n k : ℕ) → IsSteadyBelow (get_or h m []) w n → k ≤ n →
+pub starts_stay : (r : Rules) (h : History) (m : ℕ) (w : List Bool) (n k : ℕ) → IsSteadyBelow r h m w n → k ≤ n →
     ends_to r h m w r.count ≡ starts_to r h m w k
 starts_stay r h m w n zero steady le = refl
 starts_stay r h m w n (suc k) steady le =
     starts_unwanted r h m w k (natural r h m) (ends_to r h m w r.count) refl (starts_stay r h m w n k steady (omega arith)) (no_start_wanted r h m w n k steady (omega arith))
     ∙ ap (λ (g : ℕ). starts_to r h m w g) (add-one k)
 
-pub no_start_refused : (r : Rules) (h : History) (m : ℕ) (w : List Bool) (n k : ℕ) → IsSteadyBelow (get_or h m []) w n → k ≤ n →
+pub no_start_refused : (r : Rules) (h : History) (m : ℕ) (w : List Bool) (n k : ℕ) → IsSteadyBelow r h m w n → k ≤ n →
     refused_ends_to r h m w r.count ≡ refused_to r h m w k
 no_start_refused r h m w n zero steady le = refl
 no_start_refused r h m w n (suc k) steady le =
     listed_off _ k (start_breach r h m (starts_to r h m w k) k) (refused_ends_to r h m w r.count) _ (no_start_refused r h m w n k steady (omega arith))
     (no_start_wanted r h m w n k steady (omega arith))
 
-pub steady_picture : (r : Rules) (h : History) (w : List Bool) → IsSteadyBelow (get_or h (length h - 1) []) w r.count →
+pub steady_picture : (r : Rules) (h : History) (w : List Bool) → IsSteadyBelow r h (length h - 1) w r.count →
     get_or h (length h - 1) [] ≡ guard_picture r h w
 unfolding guard_picture
 steady_picture r h w steady =
-    natural_stays r h (length h - 1) r.count r.count (λ g lt. steady_lasts (trace h g (length h - 1)) (slice_index_or w g false) (steady g lt)) (omega arith)
+    natural_stays r h (length h - 1) r.count r.count (λ g lt. (steady g lt).0) (omega arith)
     ∙ ends_stay r h (length h - 1) w r.count r.count steady (omega arith)
     ∙ starts_stay r h (length h - 1) w r.count r.count steady (omega arith)
 
-pub steady_refused : (r : Rules) (h : History) (w : List Bool) → IsSteadyBelow (get_or h (length h - 1) []) w r.count → [] ≡ guard_refused r h w
+pub steady_refused : (r : Rules) (h : History) (w : List Bool) → IsSteadyBelow r h (length h - 1) w r.count → [] ≡ guard_refused r h w
 unfolding guard_refused
 steady_refused r h w steady =
     no_end_refused r h (length h - 1) w r.count r.count steady (omega arith)

@@ -1,5 +1,5 @@
 // The guard, over its last picture and two numbers of each group.
-ghost use Rattle.std.specs.Prelude.{◌≡◌, ℕ, suc, All, ◌+◌, ◌-◌, ◌<◌, ◌≤◌, [], ◌∷◌, ◌++◌, length, replicate, slice_index_or, true, false, not, ◌&&◌, if◌then◌else◌, IfOk, IfSome, Some};
+ghost use Rattle.std.specs.Prelude.{◌≡◌, ℕ, suc, All, ◌+◌, ◌-◌, ◌<◌, ◌≤◌, [], ◌∷◌, ◌++◌, length, replicate, slice_index_or, true, false, if◌then◌else◌, IfOk, IfSome, Some};
 ghost use Rattle.sig_types.specs.Turns.{History, shown, trace, is_green, is_red};
 ghost use Rattle.sig_types.specs.Words.{last_below, least_below, run_to};
 ghost use Rattle.sig_types.specs.Recorded.{IsTurn};
@@ -10,7 +10,8 @@ ghost use Rattle.sig_guard.specs.Step.{guard_picture, guard_refused};
 
 use crate::ages::{GroupAge, age_all, first_ages};
 use crate::turn::{
-    Breach, ended, ends, is_due, is_on, is_passing, is_short_green, refusal, shows_wish, started,
+    Breach, ended, ends, is_due, is_left, is_on, is_passing, is_short_green, refusal, shows_wish,
+    started,
 };
 use sig_tables::{Intergreens, Times};
 use sig_types::{Aspect, GroupNo, Memory, Picture, Rule, TurnRefusals, Wishes};
@@ -70,7 +71,7 @@ impl Guard {
         ensures turns { All (IsTurn (rules self.old).count) out.new }
     {
         out.clear();
-        let first = self.first_unsteady(wishes);
+        let first = self.first_turning(wishes);
         if first == self.times.groups() {
             self.seconds = self.now();
             return;
@@ -129,7 +130,7 @@ impl Guard {
     ghost use Rattle.sig_types.specs.Turns.{ends_at};
     ghost use Rattle.sig_guard.specs.Count.{many};
     ghost use Rattle.sig_guard.specs.Stands.{kept_rules, HasPast};
-    ghost use Rattle.sig_guard.specs.Step.{natural_after, end_breach, start_breach, is_in_conflict, is_uncleared, natural as natural_spec, ends_to, starts_to, refused_ends_to, refused_to, refusal as refusal_spec, wants_end, wants_start, IsSteadyBelow};
+    ghost use Rattle.sig_guard.specs.Step.{natural_after, end_breach, start_breach, is_in_conflict, is_uncleared, natural as natural_spec, ends_to, starts_to, refused_ends_to, refused_to, refusal as refusal_spec, wants_end, wants_start, shows_wish, IsSteadyBelow};
 
     /// The second that comes next.
     fn now(&self) -> u32
@@ -174,11 +175,10 @@ impl Guard {
         self.ages[g as usize].last_end
     }
 
-    /// The first group that does not show what is wished of it, or else the number of groups: no group below it turns in the next
-    /// second.
+    /// The first group that does not show what is wished of it, green or red, or else the number of groups.
     fn first_unsteady(&self, wishes: &Wishes) -> u8
         requires wished { length wishes.now ≡ (kept_rules self.now).count }
-        ensures below { IsSteadyBelow self.now.picture wishes.now result }
+        ensures below { (g : ℕ) → g < result → shows_wish (shown self.now.picture g) (slice_index_or wishes.now g false) ≡ true }
         ensures at_most { result ≤ (kept_rules self.now).count }
     {
         for g in 0..self.times.groups() {
@@ -329,9 +329,24 @@ impl Guard {
         None
     }
 
-    /// What the next second shows by nature; groups below `first` are red or green.
+    /// The first group that may turn in the next second, or else the number of groups.
+    fn first_turning(&self, wishes: &Wishes) -> u8
+        requires wished { length wishes.now ≡ (kept_rules self.now).count }
+        ensures below { (h : History) → HasPast self.now h → IsSteadyBelow (kept_rules self.now) h (length h - 1) wishes.now result }
+        ensures at_most { result ≤ (kept_rules self.now).count }
+    {
+        for g in self.first_unsteady(wishes)..self.times.groups() {
+            if !is_left(self.aspect(g), self.natural_aspect(g), wishes.get(g)) {
+                return g;
+            }
+        }
+        self.times.groups()
+    }
+
+    /// What the next second shows by nature; groups below `first` show what they showed.
     fn natural(&self, first: u8) -> Picture
-        requires lasting { (g : ℕ) → g < first → (not (is_red (shown self.now.picture g)) && not (is_green (shown self.now.picture g))) ≡ false }
+        requires lasting { (h : History) → HasPast self.now h → (g : ℕ) → g < first →
+            natural_after ((kept_rules self.now).red_amber g) ((kept_rules self.now).amber g) (trace h g) (length h - 1) ≡ trace h g (length h - 1) }
         requires at_most { first ≤ (kept_rules self.now).count }
         ensures picture { (h : History) → HasPast self.now h → result ≡ natural_spec (kept_rules self.now) h (length h - 1) }
         ensures size { length result ≡ (kept_rules self.now).count }
@@ -415,7 +430,7 @@ impl Guard {
         out: &mut TurnRefusals,
         first: u8,
     )
-        requires steady { IsSteadyBelow self.now.picture wishes.now first }
+        requires steady { (h : History) → HasPast self.now h → IsSteadyBelow (kept_rules self.now) h (length h - 1) wishes.now first }
         requires at_most { first ≤ (kept_rules self.now).count }
         requires wished { length wishes.now ≡ (kept_rules self.now).count }
         requires natural { (h : History) → HasPast self.now h → natural.now ≡ natural_spec (kept_rules self.now) h (length h - 1) }
@@ -444,7 +459,7 @@ impl Guard {
         out: &mut TurnRefusals,
         first: u8,
     )
-        requires steady { IsSteadyBelow self.now.picture wishes.now first }
+        requires steady { (h : History) → HasPast self.now h → IsSteadyBelow (kept_rules self.now) h (length h - 1) wishes.now first }
         requires at_most { first ≤ (kept_rules self.now).count }
         requires wished { length wishes.now ≡ (kept_rules self.now).count }
         requires natural { (h : History) → HasPast self.now h → natural.now ≡ natural_spec (kept_rules self.now) h (length h - 1) }

@@ -2,7 +2,6 @@ use Rattle.std.proofs.Common.{rules, ◌∙◌, ◌-◌, length, arith}
 use Rattle.sig_guard.specs.Stands.{kept_rules}
 use Rattle.sig_guard.specs.Step.{wants_end}
 use Rattle.sig_guard.proofs.Refusals.{many_le}
-use Rattle.sig_guard.proofs.StandsAfter.{steady_is}
 use Rattle.sig_guard.proofs.Steady.{ends_stay, no_end_refused}
 use Rattle.sig_guard.proofs.guard.Guard.show_ends.Goals as goal
 
@@ -13,9 +12,9 @@ loop-g-init c =
     let first = c.args.first in
     record {
       shows = λ h s. c.requires.start ∙ c.requires.natural h s
-          ∙ ends_stay (kept_rules me) h (length h - 1) w first first (steady_is me h w first s c.requires.steady) (omega arith);
+          ∙ ends_stay (kept_rules me) h (length h - 1) w first first (c.requires.steady h s) (omega arith);
       size = search rules;
-      refused = λ h s. c.requires.none ∙ no_end_refused (kept_rules me) h (length h - 1) w first first (steady_is me h w first s c.requires.steady) (omega arith);
+      refused = λ h s. c.requires.none ∙ no_end_refused (kept_rules me) h (length h - 1) w first first (c.requires.steady h s) (omega arith);
       turns = search rules;
       count = search rules;
     }

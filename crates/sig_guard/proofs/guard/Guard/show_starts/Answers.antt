@@ -3,7 +3,6 @@ use Rattle.sig_types.specs.Turns.{shown, is_on}
 use Rattle.sig_guard.specs.Stands.{kept_rules}
 use Rattle.sig_guard.specs.Step.{wants_end, wants_start}
 use Rattle.sig_guard.proofs.Refusals.{many_apart, many_more, not_both}
-use Rattle.sig_guard.proofs.StandsAfter.{steady_is}
 use Rattle.sig_guard.proofs.Steady.{starts_stay, no_start_refused}
 use Rattle.sig_guard.proofs.guard.Guard.show_starts.Goals as goal
 
@@ -14,10 +13,10 @@ loop-g-init c =
     let first = c.args.first in
     record {
       shows = λ h s. c.requires.start h s
-          ∙ starts_stay (kept_rules me) h (length h - 1) w first first (steady_is me h w first s c.requires.steady) (omega arith);
+          ∙ starts_stay (kept_rules me) h (length h - 1) w first first (c.requires.steady h s) (omega arith);
       size = search rules;
       refused = λ h s. c.requires.ends h s
-          ∙ no_start_refused (kept_rules me) h (length h - 1) w first first (steady_is me h w first s c.requires.steady) (omega arith);
+          ∙ no_start_refused (kept_rules me) h (length h - 1) w first first (c.requires.steady h s) (omega arith);
       turns = c.requires.turns;
       count = omega (arith, c.requires.count);
     }

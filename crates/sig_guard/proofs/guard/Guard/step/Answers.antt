@@ -1,11 +1,11 @@
-use Rattle.std.proofs.Common.{rules, ◌∙◌, false, refl, arith, slice_index_or}
+use Rattle.std.proofs.Common.{rules, ◌∙◌, ◌-◌, length, refl, arith}
 use Rattle.sig_types.specs.Turns.{shown}
 use Rattle.sig_guard.specs.Ages.{age_at}
 use Rattle.sig_guard.specs.Step.{IsSteadyBelow, guard_picture}
 use Rattle.sig_guard.specs.Stands.{kept_rules, StandsFor, rules as rules_of_guard}
 use Rattle.sig_guard.proofs.Aged.{stays_aged}
-use Rattle.sig_guard.proofs.StandsAfter.{steady_is, stands_after}
-use Rattle.sig_guard.proofs.Steady.{steady_lasts, steady_picture, steady_refused}
+use Rattle.sig_guard.proofs.StandsAfter.{stands_after}
+use Rattle.sig_guard.proofs.Steady.{steady_picture, steady_refused}
 use Rattle.sig_guard.proofs.TwoWay.{two_way}
 use Rattle.sig_guard.proofs.guard.Guard.step.Goals as goal
 
@@ -13,9 +13,9 @@ pub returns-then-first-groups-clause-history : goal.returns-then-first-groups-cl
 unfolding StandsFor rules_of_guard
 returns-then-first-groups-clause-history c = λ h s.
     let me = c.args.self.now in
-    let steady : IsSteadyBelow me.picture c.args.wishes.now (kept_rules me).count = λ g lt. c.first_unsteady-first.ensures.below g (search rules) in
+    let steady : IsSteadyBelow (kept_rules me) h (length h - 1) c.args.wishes.now (kept_rules me).count = λ g lt. c.first_turning-first.ensures.below h s g (search rules) in
     stands_after me _ c.args.wishes.now h refl
-    (s.last ∙ steady_picture (kept_rules me) h c.args.wishes.now (steady_is me h c.args.wishes.now (kept_rules me).count s steady)) c.now-self.ensures.now
+    (s.last ∙ steady_picture (kept_rules me) h c.args.wishes.now steady) c.now-self.ensures.now
     (λ g lt. stays_aged (age_at me.ages.items g) (shown me.picture g) c.now-self.result)
     (two_way me.times me.intergreens me.pairs) s
 
@@ -23,11 +23,11 @@ pub returns-then-first-groups-clause-refused : goal.returns-then-first-groups-cl
 unfolding StandsFor rules_of_guard
 returns-then-first-groups-clause-refused c = λ h s.
     let me = c.args.self.now in
-    let steady : IsSteadyBelow me.picture c.args.wishes.now (kept_rules me).count = λ g lt. c.first_unsteady-first.ensures.below g (search rules) in
-    c.clear.ensures ∙ steady_refused (kept_rules me) h c.args.wishes.now (steady_is me h c.args.wishes.now (kept_rules me).count s steady)
+    let steady : IsSteadyBelow (kept_rules me) h (length h - 1) c.args.wishes.now (kept_rules me).count = λ g lt. c.first_turning-first.ensures.below h s g (search rules) in
+    c.clear.ensures ∙ steady_refused (kept_rules me) h c.args.wishes.now steady
 
 pub natural-natural-requires-clause-lasting : goal.natural-natural-requires-clause-lasting
-natural-natural-requires-clause-lasting c = λ g lt. steady_lasts (shown c.args.self.now.picture g) (slice_index_or c.args.wishes.now g false) (c.first_unsteady-first.ensures.below g lt)
+natural-natural-requires-clause-lasting c = λ h s g lt. (c.first_turning-first.ensures.below h s g lt).0
 
 pub returns-clause-history : goal.returns-clause-history
 unfolding StandsFor rules_of_guard guard_picture
