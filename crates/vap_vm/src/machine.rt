@@ -29,8 +29,6 @@ pub enum Next {
     End,
     /// A fault ends the pass.
     Fault(FaultKind),
-    /// No rule fits: an operand, a place or a slot is missing. Valid code never comes to this.
-    Stuck,
 }
 
 impl Machine {

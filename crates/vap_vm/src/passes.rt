@@ -118,7 +118,7 @@ impl Vm {
                     line: head.line,
                 })
             }
-            Next::On | Next::Stuck => unreachable!(),
+            Next::On => unreachable!(),
         }
     }
 

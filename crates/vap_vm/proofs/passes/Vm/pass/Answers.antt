@@ -1,11 +1,11 @@
-use Rattle.std.proofs.Common.{◌≡◌, length, map, sym, ap, ◌∙◌, subst, arith, ⊎_elim}
-use Rattle.sig_types.specs.Pass.{Done, Stuck, Unfinished}
+use Rattle.std.proofs.Common.{◌≡◌, length, map, sym, ap, ◌∙◌, subst, arith}
+use Rattle.sig_types.specs.Pass.{Done, Unfinished}
 use Rattle.vap_code.specs.Codes.{code_in}
 use Rattle.vap_code.specs.Machine.{last_start, machine, unit_limit}
 use Rattle.vap_vm.specs.Passes.{Kept}
 use Rattle.vap_vm.specs.Run.{end_of}
 use Rattle.vap_vm.specs.View.{state_of, store_of, SameSizes}
-use Rattle.vap_vm.proofs.PassFacts.{begun_state, start_of, exec_is, steps_is, room_is, ready_done, few_done, never, ready_fault, restored}
+use Rattle.vap_vm.proofs.PassFacts.{begun_state, start_of, exec_is, steps_is, over_is, room_is, ready_done, few_done, never, ready_fault, restored}
 use Rattle.vap_vm.proofs.Sizes.{sizes_on, sizes_back}
 use Rattle.vap_vm.proofs.passes.Vm.pass.Goals as goal
 
@@ -15,6 +15,13 @@ run-requires-clause-room g c =
     let kept : Kept = record { code = s.code; store = store_of s.machine; seconds = s.seconds } in
     let begun = begun_state c.begin-head.result c.begin-head.new.self s.machine.slots (last_start s.code.starts) unit_limit (c.begin-head.ensures.place ∙ c.last_start.ensures ∙ ap last_start (c.deref.ensures.value ∙ ap (λ code. code.starts) c.code-code.ensures.same)) c.begin-head.ensures.line (c.begin-head.ensures.units ∙ c.unit_limit.ensures.same) c.begin-head.ensures.operands c.begin-head.ensures.noted c.begin-head.ensures.commands c.begin-head.ensures.slots in
     λ w m. room_is kept (code_in c.code-code.result.now) c.code-code.ensures.same c.step_limit.result c.step_limit.ensures.same (state_of c.begin-head.result c.begin-head.new.self) begun w (c.valid_code_runs_well.ensures s.code w (start_of kept) c.code-code.ensures.valid c.self.invariant.0.fits) c.self.invariant.0
+
+pub run-requires-clause-over : goal.run-requires-clause-over
+run-requires-clause-over g c =
+    let s = c.self.inside in
+    let kept : Kept = record { code = s.code; store = store_of s.machine; seconds = s.seconds } in
+    let begun = begun_state c.begin-head.result c.begin-head.new.self s.machine.slots (last_start s.code.starts) unit_limit (c.begin-head.ensures.place ∙ c.last_start.ensures ∙ ap last_start (c.deref.ensures.value ∙ ap (λ code. code.starts) c.code-code.ensures.same)) c.begin-head.ensures.line (c.begin-head.ensures.units ∙ c.unit_limit.ensures.same) c.begin-head.ensures.operands c.begin-head.ensures.noted c.begin-head.ensures.commands c.begin-head.ensures.slots in
+    λ w m. over_is kept (code_in c.code-code.result.now) c.code-code.ensures.same c.step_limit.result c.step_limit.ensures.same (state_of c.begin-head.result c.begin-head.new.self) begun w (c.valid_code_runs_well.ensures s.code w (start_of kept) c.code-code.ensures.valid c.self.invariant.0.fits)
 
 pub invariant_of-self : goal.invariant_of-self
 invariant_of-self g c =
@@ -58,10 +65,7 @@ unreachable-requires g c =
     let w = c.requires.0 in
     let r = c.valid_code_runs_well.ensures s.code w (start_of kept) c.code-code.ensures.valid c.self.invariant.0.fits in
     let how = c.run.ensures.how w c.requires.1 ∙ exec_is kept (code_in c.code-code.result.now) c.code-code.ensures.same c.step_limit.result c.step_limit.ensures.same (state_of c.begin-head.result c.begin-head.new.self) begun w in
-    ⊎_elim
-    (λ e. never kept w c.run.new.m r Unfinished (λ h. h) (ap (λ x. end_of x c.run.new.h c.run.new.m) (sym e) ∙ how))
-    (λ e. never kept w c.run.new.m r Stuck (λ h. h) (ap (λ x. end_of x c.run.new.h c.run.new.m) (sym e) ∙ how))
-    c.in-On.is
+    never kept w c.run.new.m r Unfinished (λ h. h) (ap (λ x. end_of x c.run.new.h c.run.new.m) (sym c.in-On.is) ∙ how)
 
 pub returns-in-End-clause-few : goal.returns-in-End-clause-few
 returns-in-End-clause-few g c =
