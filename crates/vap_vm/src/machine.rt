@@ -1,6 +1,6 @@
 // What a pass works on.
 
-ghost use Rattle.std.specs.Prelude.{◌≡◌, [], IfOk};
+ghost use Rattle.std.specs.Prelude.{◌≡◌, [], false, IfOk};
 ghost use Rattle.vap_vm.specs.View.{operands_of};
 
 use crate::given::Given;
@@ -18,6 +18,8 @@ pub struct Machine {
     pub noted: Noted,
     pub slots: Slots,
     pub commands: Given,
+    /// Whether a cell of an array was written since the last pass began.
+    pub wrote_cells: bool,
 }
 
 /// What an instruction comes to.
@@ -36,16 +38,19 @@ impl Machine {
     pub fn with_room(alloc: Global, slots: Slots) -> Result<Machine, AllocError>
         ensures slots { IfOk result (λ m. m.slots ≡ slots) }
         ensures commands { IfOk result (λ m. m.commands ≡ []) }
+        ensures wrote_cells { IfOk result (λ m. m.wrote_cells ≡ false) }
     {
         Ok(Machine {
             operands: Operands::empty(),
             noted: Noted::with_room(alloc)?,
             slots,
             commands: Given::with_room(alloc)?,
+            wrote_cells: false,
         })
     }
 
-    /// The head at the place at which a pass begins, with its units. Operands, notes and commands are taken away.
+    /// The head at the place at which a pass begins, with its units. Operands, notes and commands are taken away, and no
+    /// cell is written yet.
     #[tactic(auto, unfolding(crate::specs::Operands::operands_at))]
     pub fn begin(&mut self, place: usize, units: u32) -> Head
         ensures place { result.place ≡ place }
@@ -55,9 +60,11 @@ impl Machine {
         ensures noted { self.new.noted ≡ [] }
         ensures commands { self.new.commands ≡ [] }
         ensures slots { self.new.slots ≡ self.old.slots }
+        ensures wrote_cells { self.new.wrote_cells ≡ false }
     {
         self.noted.clear();
         self.commands.clear();
+        self.wrote_cells = false;
         Head {
             place,
             line: 0,

@@ -39,7 +39,7 @@ pub struct Vm {
 }
 
 impl Model for Vm {
-    ghost use Rattle.std.specs.Prelude.{◌≡◌};
+    ghost use Rattle.std.specs.Prelude.{◌≡◌, false};
     ghost use Rattle.vap_vm.specs.Passes.{Kept, Ready};
     ghost use Rattle.vap_vm.specs.View.{store_of, SameSizes};
 
@@ -49,7 +49,8 @@ impl Model for Vm {
 
     ghost invariant = { λ vm.
         Ready (record { code = vm.code; store = store_of vm.machine; seconds = vm.seconds })
-        × SameSizes vm.before vm.machine.slots };
+        × SameSizes vm.before vm.machine.slots
+        × (vm.machine.wrote_cells ≡ false → vm.before.arrays ≡ vm.machine.slots.arrays) };
 }
 
 impl Vm {
@@ -98,7 +99,8 @@ impl Vm {
         ensures ready { Ready self.new }
     {
         valid_code_runs_well();
-        self.before.copy_from(&self.machine.slots);
+        let wrote_cells = self.machine.wrote_cells;
+        self.before.copy_from(&self.machine.slots, wrote_cells);
         let code = self.code.code();
         let mut head = self.machine.begin(last_start(&code.starts), unit_limit());
         match run(

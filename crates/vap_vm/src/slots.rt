@@ -1,6 +1,6 @@
 // The variables, arrays and timers of a machine.
 
-ghost use Rattle.std.specs.Prelude.{◌≡◌, ◌<◌, ◌≤◌, length, map, replicate, pos, IfOk};
+ghost use Rattle.std.specs.Prelude.{◌≡◌, ◌<◌, ◌≤◌, length, map, replicate, pos, false, IfOk};
 ghost use Rattle.std.specs.List.{All};
 ghost use Rattle.sig_types.specs.Pass.{counted};
 ghost use Rattle.vap_code.specs.Codes.{code_in};
@@ -34,15 +34,18 @@ impl Slots {
         })
     }
 
-    /// Takes over the contents of others of the same sizes.
-    pub fn copy_from(&mut self, other: &Slots)
-        requires { SameSizes self.old other.now }
+    /// Takes over the contents of others of the same sizes, whose cells may be the same already.
+    pub fn copy_from(&mut self, other: &Slots, cells_differ: bool)
+        requires sizes { SameSizes self.old other.now }
+        requires cells { cells_differ ≡ false → self.old.arrays ≡ other.now.arrays }
         ensures variables { self.new.variables.items ≡ other.now.variables.items }
         ensures arrays { self.new.arrays ≡ other.now.arrays }
         ensures timers { self.new.timers.items ≡ other.now.timers.items }
     {
         self.variables.copy_from_slice(&other.variables);
-        self.arrays.copy_from(&other.arrays);
+        if cells_differ {
+            self.arrays.copy_from(&other.arrays);
+        }
         self.timers.copy_from_slice(&other.timers);
     }
 }

@@ -27,6 +27,7 @@ invariant_of-result c =
         arrays = ap (map length) (arrays' ∙ sym arrays ∙ ap (λ s. s.arrays) (sym slots));
         timers = ap length (timers' ∙ sym timers ∙ ap (λ s. s.timers.items) (sym slots));
       },
+      λ none. arrays' ∙ sym arrays ∙ ap (λ s. s.arrays) (sym slots),
     )
 
 pub returns-clause-ready : goal.returns-clause-ready

@@ -1,4 +1,4 @@
-use Rattle.std.proofs.Common.{◌≡◌, length, map, sym, ap, ◌∙◌, subst, arith}
+use Rattle.std.proofs.Common.{◌≡◌, length, map, sym, ap, ◌∙◌, subst, arith, false}
 use Rattle.sig_types.specs.Pass.{Done, Unfinished}
 use Rattle.vap_code.specs.Codes.{code_in}
 use Rattle.vap_code.specs.Machine.{last_start, machine, unit_limit}
@@ -32,8 +32,9 @@ invariant_of-self g c =
     let r = c.valid_code_runs_well.ensures s.code w (start_of kept) c.code-code.ensures.valid c.self.invariant.0.fits in
     let is : Done (store_of c.run.new.m) ≡ machine s.code w (start_of kept) = ap (λ x. end_of x c.run.new.h c.run.new.m) (sym c.in-End.is) ∙ c.run.ensures.how w c.requires.1 ∙ exec_is kept (code_in c.code-code.result.now) c.code-code.ensures.same c.step_limit.result c.step_limit.ensures.same (state_of c.begin-head.result c.begin-head.new.self) begun w in
     let back : SameSizes c.copy_from.new.self s.machine.slots = record { variables = ap length c.copy_from.ensures.variables; arrays = ap (map length) c.copy_from.ensures.arrays; timers = ap length c.copy_from.ensures.timers } in
-    let on : SameSizes c.run.new.m.slots s.machine.slots = subst (λ x. SameSizes c.run.new.m.slots x) c.begin-head.ensures.slots c.run.ensures.sizes in
-    (ready_done kept w c.run.new.m c.self.invariant.0 r is, sizes_on _ _ _ back (sizes_back _ _ on))
+    let on : SameSizes c.run.new.m.slots s.machine.slots = subst (λ x. SameSizes c.run.new.m.slots x) c.begin-head.ensures.slots c.run.ensures.keeps.sizes in
+    let cells : c.run.new.m.wrote_cells ≡ false → c.run.new.m.slots.arrays ≡ c.copy_from.new.self.arrays = λ none. (c.run.ensures.keeps.cells none).1 ∙ ap (λ x. x.arrays) c.begin-head.ensures.slots ∙ sym c.copy_from.ensures.arrays in
+    (ready_done kept w c.run.new.m c.self.invariant.0 r is, sizes_on _ _ _ back (sizes_back _ _ on), λ none. sym (cells none))
 
 pub returns-in-End-clause-ready : goal.returns-in-End-clause-ready
 returns-in-End-clause-ready g c =
@@ -50,11 +51,13 @@ invariant_of-self-in-Fault g c =
     let s = c.self.inside in
     let kept : Kept = record { code = s.code; store = store_of s.machine; seconds = s.seconds } in
     let back : SameSizes c.copy_from.new.self s.machine.slots = record { variables = ap length c.copy_from.ensures.variables; arrays = ap (map length) c.copy_from.ensures.arrays; timers = ap length c.copy_from.ensures.timers } in
-    let on : SameSizes c.run.new.m.slots s.machine.slots = subst (λ x. SameSizes c.run.new.m.slots x) c.begin-head.ensures.slots c.run.ensures.sizes in
+    let on : SameSizes c.run.new.m.slots s.machine.slots = subst (λ x. SameSizes c.run.new.m.slots x) c.begin-head.ensures.slots c.run.ensures.keeps.sizes in
     let before = subst (λ x. SameSizes x s.machine.slots) (sym c.swap.ensures.x_after) back in
-    let after = subst (λ x. SameSizes x s.machine.slots) (sym c.swap.ensures.y_after) on in (
+    let after = subst (λ x. SameSizes x s.machine.slots) (sym c.swap.ensures.y_after) on in
+    let cells : c.run.new.m.wrote_cells ≡ false → c.run.new.m.slots.arrays ≡ c.copy_from.new.self.arrays = λ none. (c.run.ensures.keeps.cells none).1 ∙ ap (λ x. x.arrays) c.begin-head.ensures.slots ∙ sym c.copy_from.ensures.arrays in (
       ready_fault kept _ c.self.invariant.0 (restored (ap (λ x. x.variables.items) c.swap.ensures.x_after ∙ c.copy_from.ensures.variables) (ap (λ x. x.arrays) c.swap.ensures.x_after ∙ c.copy_from.ensures.arrays) (ap (λ x. x.timers.items) c.swap.ensures.x_after ∙ c.copy_from.ensures.timers) c.clear.ensures),
       sizes_on _ _ _ after (sizes_back _ _ before),
+      λ none. ap (λ x. x.arrays) c.swap.ensures.y_after ∙ cells none ∙ sym (ap (λ x. x.arrays) c.swap.ensures.x_after),
     )
 
 pub unreachable-requires : goal.unreachable-requires
