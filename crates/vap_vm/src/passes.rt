@@ -102,9 +102,12 @@ impl Vm {
         let wrote_cells = self.machine.wrote_cells;
         self.before.copy_from(&self.machine.slots, wrote_cells);
         let code = self.code.code();
-        let mut head = self.machine.begin(last_start(&code.starts), unit_limit());
+        let instrs = code.instrs.as_slice();
+        let starts = code.starts.as_slice();
+        let mut head = self.machine.begin(last_start(starts), unit_limit());
         match run(
-            code,
+            instrs,
+            starts,
             world,
             &mut head,
             &mut self.machine,
