@@ -12,24 +12,36 @@ pub run-requires-clause-room : goal.run-requires-clause-room
 run-requires-clause-room g c =
     let s = c.self.inside in
     let kept : Kept = record { code = s.code; store = store_of s.machine; seconds = s.seconds } in
-    let begun = begun_state c.begin-head.result c.begin-head.new.self s.machine.slots (last_start s.code.starts) unit_limit (c.begin-head.ensures.place ∙ c.last_start.ensures ∙ ap last_start (c.as_slice-starts.ensures.value ∙ ap (λ code. code.starts) c.code-code.ensures.same)) c.begin-head.ensures.line (c.begin-head.ensures.units ∙ c.unit_limit.ensures.same) c.begin-head.ensures.operands c.begin-head.ensures.noted c.begin-head.ensures.commands c.begin-head.ensures.slots in
-    λ w m. room_is kept c.as_slice-instrs.result.now c.as_slice-starts.result.now (c.as_slice-instrs.ensures.value ∙ ap (λ code. code.instrs) c.code-code.ensures.same) (c.as_slice-starts.ensures.value ∙ ap (λ code. code.starts) c.code-code.ensures.same) c.step_limit.result c.step_limit.ensures.same (state_of c.begin-head.result c.begin-head.new.self) begun w (c.valid_code_runs_well.ensures s.code w (start_of kept) c.code-code.ensures.valid c.self.invariant.0.fits) c.self.invariant.0
+    let instrs = c.as_slice-instrs.result.now in
+    let starts = c.as_slice-starts.result.now in
+    let same_instrs = c.as_slice-instrs.ensures.value ∙ ap (λ code. code.instrs) c.code-code.ensures.same in
+    let same_starts = c.as_slice-starts.ensures.value ∙ ap (λ code. code.starts) c.code-code.ensures.same in
+    let begun = begun_state c.begin-head.result c.begin-head.new.self s.machine.slots (last_start s.code.starts) unit_limit (c.begin-head.ensures.place ∙ c.last_start.ensures ∙ ap last_start same_starts) c.begin-head.ensures.line (c.begin-head.ensures.units ∙ c.unit_limit.ensures.same) c.begin-head.ensures.operands c.begin-head.ensures.noted c.begin-head.ensures.commands c.begin-head.ensures.slots in
+    λ w m. room_is kept instrs starts same_instrs same_starts c.step_limit.result c.step_limit.ensures.same (state_of c.begin-head.result c.begin-head.new.self) begun w (c.valid_code_runs_well.ensures s.code w (start_of kept) c.code-code.ensures.valid c.self.invariant.0.fits) c.self.invariant.0
 
 pub run-requires-clause-over : goal.run-requires-clause-over
 run-requires-clause-over g c =
     let s = c.self.inside in
     let kept : Kept = record { code = s.code; store = store_of s.machine; seconds = s.seconds } in
-    let begun = begun_state c.begin-head.result c.begin-head.new.self s.machine.slots (last_start s.code.starts) unit_limit (c.begin-head.ensures.place ∙ c.last_start.ensures ∙ ap last_start (c.as_slice-starts.ensures.value ∙ ap (λ code. code.starts) c.code-code.ensures.same)) c.begin-head.ensures.line (c.begin-head.ensures.units ∙ c.unit_limit.ensures.same) c.begin-head.ensures.operands c.begin-head.ensures.noted c.begin-head.ensures.commands c.begin-head.ensures.slots in
-    λ w m. over_is kept c.as_slice-instrs.result.now c.as_slice-starts.result.now (c.as_slice-instrs.ensures.value ∙ ap (λ code. code.instrs) c.code-code.ensures.same) (c.as_slice-starts.ensures.value ∙ ap (λ code. code.starts) c.code-code.ensures.same) c.step_limit.result c.step_limit.ensures.same (state_of c.begin-head.result c.begin-head.new.self) begun w (c.valid_code_runs_well.ensures s.code w (start_of kept) c.code-code.ensures.valid c.self.invariant.0.fits)
+    let instrs = c.as_slice-instrs.result.now in
+    let starts = c.as_slice-starts.result.now in
+    let same_instrs = c.as_slice-instrs.ensures.value ∙ ap (λ code. code.instrs) c.code-code.ensures.same in
+    let same_starts = c.as_slice-starts.ensures.value ∙ ap (λ code. code.starts) c.code-code.ensures.same in
+    let begun = begun_state c.begin-head.result c.begin-head.new.self s.machine.slots (last_start s.code.starts) unit_limit (c.begin-head.ensures.place ∙ c.last_start.ensures ∙ ap last_start same_starts) c.begin-head.ensures.line (c.begin-head.ensures.units ∙ c.unit_limit.ensures.same) c.begin-head.ensures.operands c.begin-head.ensures.noted c.begin-head.ensures.commands c.begin-head.ensures.slots in
+    λ w m. over_is kept instrs starts same_instrs same_starts c.step_limit.result c.step_limit.ensures.same (state_of c.begin-head.result c.begin-head.new.self) begun w (c.valid_code_runs_well.ensures s.code w (start_of kept) c.code-code.ensures.valid c.self.invariant.0.fits)
 
 pub invariant_of-self : goal.invariant_of-self
 invariant_of-self g c =
     let s = c.self.inside in
     let kept : Kept = record { code = s.code; store = store_of s.machine; seconds = s.seconds } in
-    let begun = begun_state c.begin-head.result c.begin-head.new.self s.machine.slots (last_start s.code.starts) unit_limit (c.begin-head.ensures.place ∙ c.last_start.ensures ∙ ap last_start (c.as_slice-starts.ensures.value ∙ ap (λ code. code.starts) c.code-code.ensures.same)) c.begin-head.ensures.line (c.begin-head.ensures.units ∙ c.unit_limit.ensures.same) c.begin-head.ensures.operands c.begin-head.ensures.noted c.begin-head.ensures.commands c.begin-head.ensures.slots in
+    let instrs = c.as_slice-instrs.result.now in
+    let starts = c.as_slice-starts.result.now in
+    let same_instrs = c.as_slice-instrs.ensures.value ∙ ap (λ code. code.instrs) c.code-code.ensures.same in
+    let same_starts = c.as_slice-starts.ensures.value ∙ ap (λ code. code.starts) c.code-code.ensures.same in
+    let begun = begun_state c.begin-head.result c.begin-head.new.self s.machine.slots (last_start s.code.starts) unit_limit (c.begin-head.ensures.place ∙ c.last_start.ensures ∙ ap last_start same_starts) c.begin-head.ensures.line (c.begin-head.ensures.units ∙ c.unit_limit.ensures.same) c.begin-head.ensures.operands c.begin-head.ensures.noted c.begin-head.ensures.commands c.begin-head.ensures.slots in
     let w = c.requires.0 in
     let r = c.valid_code_runs_well.ensures s.code w (start_of kept) c.code-code.ensures.valid c.self.invariant.0.fits in
-    let is : Done (store_of c.run.new.m) ≡ machine s.code w (start_of kept) = ap (λ x. end_of x c.run.new.h c.run.new.m) (sym c.in-End.is) ∙ c.run.ensures.how w c.requires.1 ∙ exec_is kept c.as_slice-instrs.result.now c.as_slice-starts.result.now (c.as_slice-instrs.ensures.value ∙ ap (λ code. code.instrs) c.code-code.ensures.same) (c.as_slice-starts.ensures.value ∙ ap (λ code. code.starts) c.code-code.ensures.same) c.step_limit.result c.step_limit.ensures.same (state_of c.begin-head.result c.begin-head.new.self) begun w in
+    let is : Done (store_of c.run.new.m) ≡ machine s.code w (start_of kept) = ap (λ x. end_of x c.run.new.h c.run.new.m) (sym c.in-End.is) ∙ c.run.ensures.how w c.requires.1 ∙ exec_is kept instrs starts same_instrs same_starts c.step_limit.result c.step_limit.ensures.same (state_of c.begin-head.result c.begin-head.new.self) begun w in
     let back : SameSizes c.copy_from.new.self s.machine.slots = record { variables = ap length c.copy_from.ensures.variables; arrays = ap (map length) c.copy_from.ensures.arrays; timers = ap length c.copy_from.ensures.timers } in
     let on : SameSizes c.run.new.m.slots s.machine.slots = subst (λ x. SameSizes c.run.new.m.slots x) c.begin-head.ensures.slots c.run.ensures.keeps.sizes in
     let cells : c.run.new.m.wrote_cells ≡ false → c.run.new.m.slots.arrays ≡ c.copy_from.new.self.arrays = λ none. (c.run.ensures.keeps.cells none).1 ∙ ap (λ x. x.arrays) c.begin-head.ensures.slots ∙ sym c.copy_from.ensures.arrays in
@@ -39,10 +51,14 @@ pub returns-in-End-clause-ready : goal.returns-in-End-clause-ready
 returns-in-End-clause-ready g c =
     let s = c.self.inside in
     let kept : Kept = record { code = s.code; store = store_of s.machine; seconds = s.seconds } in
-    let begun = begun_state c.begin-head.result c.begin-head.new.self s.machine.slots (last_start s.code.starts) unit_limit (c.begin-head.ensures.place ∙ c.last_start.ensures ∙ ap last_start (c.as_slice-starts.ensures.value ∙ ap (λ code. code.starts) c.code-code.ensures.same)) c.begin-head.ensures.line (c.begin-head.ensures.units ∙ c.unit_limit.ensures.same) c.begin-head.ensures.operands c.begin-head.ensures.noted c.begin-head.ensures.commands c.begin-head.ensures.slots in
+    let instrs = c.as_slice-instrs.result.now in
+    let starts = c.as_slice-starts.result.now in
+    let same_instrs = c.as_slice-instrs.ensures.value ∙ ap (λ code. code.instrs) c.code-code.ensures.same in
+    let same_starts = c.as_slice-starts.ensures.value ∙ ap (λ code. code.starts) c.code-code.ensures.same in
+    let begun = begun_state c.begin-head.result c.begin-head.new.self s.machine.slots (last_start s.code.starts) unit_limit (c.begin-head.ensures.place ∙ c.last_start.ensures ∙ ap last_start same_starts) c.begin-head.ensures.line (c.begin-head.ensures.units ∙ c.unit_limit.ensures.same) c.begin-head.ensures.operands c.begin-head.ensures.noted c.begin-head.ensures.commands c.begin-head.ensures.slots in
     let w = c.requires.0 in
     let r = c.valid_code_runs_well.ensures s.code w (start_of kept) c.code-code.ensures.valid c.self.invariant.0.fits in
-    let is : Done (store_of c.run.new.m) ≡ machine s.code w (start_of kept) = ap (λ x. end_of x c.run.new.h c.run.new.m) (sym c.in-End.is) ∙ c.run.ensures.how w c.requires.1 ∙ exec_is kept c.as_slice-instrs.result.now c.as_slice-starts.result.now (c.as_slice-instrs.ensures.value ∙ ap (λ code. code.instrs) c.code-code.ensures.same) (c.as_slice-starts.ensures.value ∙ ap (λ code. code.starts) c.code-code.ensures.same) c.step_limit.result c.step_limit.ensures.same (state_of c.begin-head.result c.begin-head.new.self) begun w in
+    let is : Done (store_of c.run.new.m) ≡ machine s.code w (start_of kept) = ap (λ x. end_of x c.run.new.h c.run.new.m) (sym c.in-End.is) ∙ c.run.ensures.how w c.requires.1 ∙ exec_is kept instrs starts same_instrs same_starts c.step_limit.result c.step_limit.ensures.same (state_of c.begin-head.result c.begin-head.new.self) begun w in
     ready_done kept w c.run.new.m c.self.invariant.0 r is
 
 pub invariant_of-self-in-Fault : goal.invariant_of-self-in-Fault
@@ -63,38 +79,54 @@ pub unreachable-requires : goal.unreachable-requires
 unreachable-requires g c =
     let s = c.self.inside in
     let kept : Kept = record { code = s.code; store = store_of s.machine; seconds = s.seconds } in
-    let begun = begun_state c.begin-head.result c.begin-head.new.self s.machine.slots (last_start s.code.starts) unit_limit (c.begin-head.ensures.place ∙ c.last_start.ensures ∙ ap last_start (c.as_slice-starts.ensures.value ∙ ap (λ code. code.starts) c.code-code.ensures.same)) c.begin-head.ensures.line (c.begin-head.ensures.units ∙ c.unit_limit.ensures.same) c.begin-head.ensures.operands c.begin-head.ensures.noted c.begin-head.ensures.commands c.begin-head.ensures.slots in
+    let instrs = c.as_slice-instrs.result.now in
+    let starts = c.as_slice-starts.result.now in
+    let same_instrs = c.as_slice-instrs.ensures.value ∙ ap (λ code. code.instrs) c.code-code.ensures.same in
+    let same_starts = c.as_slice-starts.ensures.value ∙ ap (λ code. code.starts) c.code-code.ensures.same in
+    let begun = begun_state c.begin-head.result c.begin-head.new.self s.machine.slots (last_start s.code.starts) unit_limit (c.begin-head.ensures.place ∙ c.last_start.ensures ∙ ap last_start same_starts) c.begin-head.ensures.line (c.begin-head.ensures.units ∙ c.unit_limit.ensures.same) c.begin-head.ensures.operands c.begin-head.ensures.noted c.begin-head.ensures.commands c.begin-head.ensures.slots in
     let w = c.requires.0 in
     let r = c.valid_code_runs_well.ensures s.code w (start_of kept) c.code-code.ensures.valid c.self.invariant.0.fits in
-    let how = c.run.ensures.how w c.requires.1 ∙ exec_is kept c.as_slice-instrs.result.now c.as_slice-starts.result.now (c.as_slice-instrs.ensures.value ∙ ap (λ code. code.instrs) c.code-code.ensures.same) (c.as_slice-starts.ensures.value ∙ ap (λ code. code.starts) c.code-code.ensures.same) c.step_limit.result c.step_limit.ensures.same (state_of c.begin-head.result c.begin-head.new.self) begun w in
+    let how = c.run.ensures.how w c.requires.1 ∙ exec_is kept instrs starts same_instrs same_starts c.step_limit.result c.step_limit.ensures.same (state_of c.begin-head.result c.begin-head.new.self) begun w in
     never kept w c.run.new.m r Unfinished (λ h. h) (ap (λ x. end_of x c.run.new.h c.run.new.m) (sym c.in-On.is) ∙ how)
 
 pub returns-in-End-clause-few : goal.returns-in-End-clause-few
 returns-in-End-clause-few g c =
     let s = c.self.inside in
     let kept : Kept = record { code = s.code; store = store_of s.machine; seconds = s.seconds } in
-    let begun = begun_state c.begin-head.result c.begin-head.new.self s.machine.slots (last_start s.code.starts) unit_limit (c.begin-head.ensures.place ∙ c.last_start.ensures ∙ ap last_start (c.as_slice-starts.ensures.value ∙ ap (λ code. code.starts) c.code-code.ensures.same)) c.begin-head.ensures.line (c.begin-head.ensures.units ∙ c.unit_limit.ensures.same) c.begin-head.ensures.operands c.begin-head.ensures.noted c.begin-head.ensures.commands c.begin-head.ensures.slots in
+    let instrs = c.as_slice-instrs.result.now in
+    let starts = c.as_slice-starts.result.now in
+    let same_instrs = c.as_slice-instrs.ensures.value ∙ ap (λ code. code.instrs) c.code-code.ensures.same in
+    let same_starts = c.as_slice-starts.ensures.value ∙ ap (λ code. code.starts) c.code-code.ensures.same in
+    let begun = begun_state c.begin-head.result c.begin-head.new.self s.machine.slots (last_start s.code.starts) unit_limit (c.begin-head.ensures.place ∙ c.last_start.ensures ∙ ap last_start same_starts) c.begin-head.ensures.line (c.begin-head.ensures.units ∙ c.unit_limit.ensures.same) c.begin-head.ensures.operands c.begin-head.ensures.noted c.begin-head.ensures.commands c.begin-head.ensures.slots in
     let w = c.requires.0 in
     let r = c.valid_code_runs_well.ensures s.code w (start_of kept) c.code-code.ensures.valid c.self.invariant.0.fits in
-    let is : Done (store_of c.run.new.m) ≡ machine s.code w (start_of kept) = ap (λ x. end_of x c.run.new.h c.run.new.m) (sym c.in-End.is) ∙ c.run.ensures.how w c.requires.1 ∙ exec_is kept c.as_slice-instrs.result.now c.as_slice-starts.result.now (c.as_slice-instrs.ensures.value ∙ ap (λ code. code.instrs) c.code-code.ensures.same) (c.as_slice-starts.ensures.value ∙ ap (λ code. code.starts) c.code-code.ensures.same) c.step_limit.result c.step_limit.ensures.same (state_of c.begin-head.result c.begin-head.new.self) begun w in
+    let is : Done (store_of c.run.new.m) ≡ machine s.code w (start_of kept) = ap (λ x. end_of x c.run.new.h c.run.new.m) (sym c.in-End.is) ∙ c.run.ensures.how w c.requires.1 ∙ exec_is kept instrs starts same_instrs same_starts c.step_limit.result c.step_limit.ensures.same (state_of c.begin-head.result c.begin-head.new.self) begun w in
     few_done kept w c.run.new.m r is
 
 pub returns-in-End-clause-bounded : goal.returns-in-End-clause-bounded
 returns-in-End-clause-bounded g c =
     let s = c.self.inside in
     let kept : Kept = record { code = s.code; store = store_of s.machine; seconds = s.seconds } in
-    let begun = begun_state c.begin-head.result c.begin-head.new.self s.machine.slots (last_start s.code.starts) unit_limit (c.begin-head.ensures.place ∙ c.last_start.ensures ∙ ap last_start (c.as_slice-starts.ensures.value ∙ ap (λ code. code.starts) c.code-code.ensures.same)) c.begin-head.ensures.line (c.begin-head.ensures.units ∙ c.unit_limit.ensures.same) c.begin-head.ensures.operands c.begin-head.ensures.noted c.begin-head.ensures.commands c.begin-head.ensures.slots in
+    let instrs = c.as_slice-instrs.result.now in
+    let starts = c.as_slice-starts.result.now in
+    let same_instrs = c.as_slice-instrs.ensures.value ∙ ap (λ code. code.instrs) c.code-code.ensures.same in
+    let same_starts = c.as_slice-starts.ensures.value ∙ ap (λ code. code.starts) c.code-code.ensures.same in
+    let begun = begun_state c.begin-head.result c.begin-head.new.self s.machine.slots (last_start s.code.starts) unit_limit (c.begin-head.ensures.place ∙ c.last_start.ensures ∙ ap last_start same_starts) c.begin-head.ensures.line (c.begin-head.ensures.units ∙ c.unit_limit.ensures.same) c.begin-head.ensures.operands c.begin-head.ensures.noted c.begin-head.ensures.commands c.begin-head.ensures.slots in
     let w = c.requires.0 in
     let r = c.valid_code_runs_well.ensures s.code w (start_of kept) c.code-code.ensures.valid c.self.invariant.0.fits in
-    let steps = steps_is kept c.as_slice-instrs.result.now c.as_slice-starts.result.now (c.as_slice-instrs.ensures.value ∙ ap (λ code. code.instrs) c.code-code.ensures.same) (c.as_slice-starts.ensures.value ∙ ap (λ code. code.starts) c.code-code.ensures.same) c.step_limit.result c.step_limit.ensures.same (state_of c.begin-head.result c.begin-head.new.self) begun w in
+    let steps = steps_is kept instrs starts same_instrs same_starts c.step_limit.result c.step_limit.ensures.same (state_of c.begin-head.result c.begin-head.new.self) begun w in
     omega (arith, steps, c.run.ensures.counted w c.requires.1, r.few, c.step_limit.ensures.same, c.step_limit.ensures.number)
 
 pub returns-in-Fault-clause-bounded : goal.returns-in-Fault-clause-bounded
 returns-in-Fault-clause-bounded g c =
     let s = c.self.inside in
     let kept : Kept = record { code = s.code; store = store_of s.machine; seconds = s.seconds } in
-    let begun = begun_state c.begin-head.result c.begin-head.new.self s.machine.slots (last_start s.code.starts) unit_limit (c.begin-head.ensures.place ∙ c.last_start.ensures ∙ ap last_start (c.as_slice-starts.ensures.value ∙ ap (λ code. code.starts) c.code-code.ensures.same)) c.begin-head.ensures.line (c.begin-head.ensures.units ∙ c.unit_limit.ensures.same) c.begin-head.ensures.operands c.begin-head.ensures.noted c.begin-head.ensures.commands c.begin-head.ensures.slots in
+    let instrs = c.as_slice-instrs.result.now in
+    let starts = c.as_slice-starts.result.now in
+    let same_instrs = c.as_slice-instrs.ensures.value ∙ ap (λ code. code.instrs) c.code-code.ensures.same in
+    let same_starts = c.as_slice-starts.ensures.value ∙ ap (λ code. code.starts) c.code-code.ensures.same in
+    let begun = begun_state c.begin-head.result c.begin-head.new.self s.machine.slots (last_start s.code.starts) unit_limit (c.begin-head.ensures.place ∙ c.last_start.ensures ∙ ap last_start same_starts) c.begin-head.ensures.line (c.begin-head.ensures.units ∙ c.unit_limit.ensures.same) c.begin-head.ensures.operands c.begin-head.ensures.noted c.begin-head.ensures.commands c.begin-head.ensures.slots in
     let w = c.requires.0 in
     let r = c.valid_code_runs_well.ensures s.code w (start_of kept) c.code-code.ensures.valid c.self.invariant.0.fits in
-    let steps = steps_is kept c.as_slice-instrs.result.now c.as_slice-starts.result.now (c.as_slice-instrs.ensures.value ∙ ap (λ code. code.instrs) c.code-code.ensures.same) (c.as_slice-starts.ensures.value ∙ ap (λ code. code.starts) c.code-code.ensures.same) c.step_limit.result c.step_limit.ensures.same (state_of c.begin-head.result c.begin-head.new.self) begun w in
+    let steps = steps_is kept instrs starts same_instrs same_starts c.step_limit.result c.step_limit.ensures.same (state_of c.begin-head.result c.begin-head.new.self) begun w in
     omega (arith, steps, c.run.ensures.counted w c.requires.1, r.few, c.step_limit.ensures.same, c.step_limit.ensures.number)
