@@ -8,6 +8,7 @@ mod fields;
 pub mod laws;
 mod log;
 mod refused;
+mod rows;
 mod summary;
 mod words;
 
