@@ -75,6 +75,7 @@ fn letters_before(row: &mut [u8], end: usize, picture: &Picture) -> usize
     at
 }
 
+// The row has room for 10 digits, 33 bytes of a stage, 64 letters and three bars.
 /// Writes the second, the stage and a letter for each group, each before a bar, at the end of a row.
 pub fn head_before(row: &mut [u8; 112], rec: &Record) -> usize
     requires { length row.old ≡ 112 }
