@@ -11,5 +11,6 @@ returns-clause-text g c = λ start text is.
     let r = c.args.rec.now in
     let all = c.put_end.ensures.text start _ (c.put_counts.ensures.text start _ (c.put_head.ensures.text start text is)) in
     let whole = twelve text (decimal r.second.0) (codes "|") (place_text r.place) (codes "|") (map letter r.picture) (codes "|")
-    (parted (map count_text (counted_from 1 r.frame))) (codes "|") (parted (refused_texts c.args.plan.now.names r.stages r.turns)) (codes "|") (fault_text r.fault) (codes "\n") in
+    (parted (map count_text (counted_from 1 r.frame)))
+    (codes "|") (parted (refused_texts c.args.plan.now.names r.stages r.turns)) (codes "|") (fault_text r.fault) (codes "\n") in
     subst (λ (t : List ℕ). IsDraft start (g.O.Sink.taken c.put_end.new.sink) c.put_end.new.draft t) whole all
