@@ -1,3 +1,4 @@
+mod BusyLemmas
 pub mod ListMoves
 pub mod LineLemmas
 pub mod DigitLemmas

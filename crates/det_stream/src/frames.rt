@@ -1,30 +1,36 @@
 // All frames of a detector file.
-ghost use Rattle.std.specs.Prelude.{◌≡◌, ◌<◌, ◌≤◌, length, slice_index_or, IfOk, Err};
+ghost use Rattle.std.specs.Prelude.{◌≡◌, ◌<◌, ◌≤◌, length, map, IfOk, Err};
 ghost use Rattle.std.specs.Option.{ForSome};
 ghost use Rattle.sig_io.specs.Outside.{Rose};
 ghost use Rattle.det_stream.specs.Answers.{IsReadAll};
+ghost use Rattle.det_stream.specs.Busy.{busy_counts};
 ghost use Rattle.sig_types.specs.Counts.{AreFrames};
 
+use crate::busy::{BusyLine, keep_line, no_lines};
 use crate::lines::Lines;
 use crate::refusal::StreamRefusal;
 use sig_io::Files;
-use sig_types::Frame;
+use sig_types::Memory;
 use std::alloc::Global;
 use std::marker::Model;
 
-/// The frames of a file. Contracts see them as their list.
+/// The frames of a file, as the lines in which each detector has counts. Contracts see them as the list of frames.
 #[derive(Drop)]
 pub struct Frames {
-    frames: Vec<Frame>,
+    detectors: Vec<Vec<BusyLine>>,
+    lines: u32,
 }
 
 impl Model for Frames {
-    ghost use Rattle.std.specs.Prelude.{List};
+    ghost use Rattle.std.specs.Prelude.{List, map};
     ghost use Rattle.sig_types.specs.Counts.{Counts};
+    ghost use Rattle.det_stream.specs.Busy.{AreKept, frames_of};
 
     ghost Value = { List Counts };
 
-    ghost view = { λ f. f.frames.items };
+    ghost view = { λ f. frames_of (map (λ v. v.items) f.detectors.items) f.lines };
+
+    ghost invariant = { λ f. AreKept f.lines (map (λ v. v.items) f.detectors.items) };
 }
 
 impl Frames {
@@ -32,15 +38,15 @@ impl Frames {
     pub fn len(&self) -> usize
         ensures { result ≡ length self.now }
     {
-        self.frames.len()
+        self.lines as usize
     }
 
-    /// The frame at that place, from 0; place p is second p + 1.
-    pub fn get(&self, place: usize) -> &Frame
-        requires { place < length self.now }
-        ensures { result.now ≡ slice_index_or self.now place result.now }
+    /// The lines in which the detector at that place has counts, in their order.
+    pub fn busy_lines(&self, place: u8) -> &[BusyLine]
+        requires { place < 64 }
+        ensures { map (λ b. b.counts) result.now ≡ busy_counts place self.now }
     {
-        &self.frames[place]
+        &self.detectors[usize::from(place)]
     }
 }
 
@@ -57,15 +63,24 @@ pub fn read_all<F: Files>(alloc: Global, files: &mut F, name: &str) -> Result<Fr
     let Ok(mut lines) = Lines::make(alloc, name) else {
         return Err(StreamRefusal::Memory);
     };
-    let mut frames = Vec::new(alloc);
+    let Ok(mut detectors) = no_lines(alloc) else {
+        return Err(StreamRefusal::Memory);
+    };
+    let mut line = 0u32;
     loop {
         match lines.next_frame(files) {
             Ok(true) => {}
-            Ok(false) => return Ok(Frames { frames }),
+            Ok(false) => {
+                return Ok(Frames {
+                    detectors,
+                    lines: line,
+                });
+            }
             Err(refusal) => return Err(refusal),
         }
-        if frames.push(lines.frame().copy()).is_err() {
-            return Err(StreamRefusal::Memory);
+        match keep_line(&mut detectors, line, lines.frame()) {
+            Ok(()) => line += 1,
+            Err(Memory) => return Err(StreamRefusal::Memory),
         }
     }
 }

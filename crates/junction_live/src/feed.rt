@@ -15,10 +15,10 @@ pub fn feed<G: Gate>(board: &Board, frames: &Frames, place: u8, pass: &mut Feede
     requires frames { AreFrames frames.now }
     ensures { Played frames.now pass.old pass.new }
 {
+    let lines = frames.busy_lines(place);
     let mut step = 0u32;
-    for line in 0..frames.len() {
-        let counts = frames.get(line).get(place);
-        step = play_line(board, place, counts, step, pass, gate);
+    for line in lines {
+        step = play_line(board, place, line.counts, step, pass, gate);
     }
 }
 

@@ -118,19 +118,21 @@ fn ends_or_refuses_at_the_first_wrong_line(rt: HostRuntime) -> Result<(), Fail> 
 #[test]
 fn gives_the_counts_of_each_line(rt: HostRuntime) -> Result<(), Fail> {
     let alloc = rt.alloc();
-    let text = Vec::from_slice(alloc, b"1:2:1 64:99:99\r\n\n3:1:0")?;
+    let text = Vec::from_slice(alloc, b"1:2:1 64:99:99\r\n\n1:0:1 3:1:0")?;
     let mut files = file(alloc, text, 1)?;
     let frames = read_all(alloc, &mut files, "d")?;
     assert_eq!(rt; frames.len(), 3);
-    for (second, detector, counts) in [
-        (0, 0, (2, 1)),
-        (0, 63, (99, 99)),
-        (1, 0, (0, 0)),
-        (2, 2, (1, 0)),
-        (2, 63, (0, 0)),
+    for (detector, count, first, last) in [
+        (0, 2, Some((2, 1)), Some((0, 1))),
+        (1, 0, None, None),
+        (2, 1, Some((1, 0)), Some((1, 0))),
+        (63, 1, Some((99, 99)), Some((99, 99))),
     ] {
-        assert!(rt; second < 3 && detector < 64);
-        assert_eq!(rt; frames.get(second).get(detector), counts);
+        assert!(rt; detector < 64);
+        let lines = frames.busy_lines(detector);
+        assert_eq!(rt; lines.len(), count);
+        assert_eq!(rt; lines.first().map(|line| line.counts), first);
+        assert_eq!(rt; lines.last().map(|line| line.counts), last);
     }
     Ok(())
 }
