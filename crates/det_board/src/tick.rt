@@ -1,5 +1,5 @@
 // The tick's pass, which reads the board.
-ghost use Rattle.std.specs.Prelude.{◌≡◌, ◌<◌};
+ghost use Rattle.std.specs.Prelude.{◌≡◌, ◌<◌, length, slice_set};
 ghost use Rattle.det_board.specs.Passes.{ReadsOne, Takes};
 
 use crate::board::Board;
@@ -27,6 +27,19 @@ impl Model for TickPass {
     ghost invariant = { λ t. IsTicking t.seat.table_id t.seat.me t.totals };
 }
 
+// Puts counts at that place, where others stand. Most detectors gain nothing in most seconds, and then nothing is written.
+#[inline(always)]
+fn put(frame: &mut Frame, place: u8, counts: (u32, u32))
+    requires { place < 64 }
+    ensures items { frame.new ≡ slice_set frame.old place counts }
+    ensures length { length frame.new ≡ 64 }
+{
+    let (fronts, rears) = frame.get(place);
+    if fronts != counts.0 || rears != counts.1 {
+        frame.set(place, counts);
+    }
+}
+
 impl TickPass {
     // Loads the rears of a detector, and then its fronts. What they gained since the last take.
     fn read_one(&mut self, board: &Board, place: u8) -> (u32, u32)
@@ -42,7 +55,7 @@ impl TickPass {
         let (fronts_before, rears_before) = self.totals.get(place);
         let fronts = fronts as u32;
         let rears = rears as u32;
-        self.totals.set(place, (fronts, rears));
+        put(&mut self.totals, place, (fronts, rears));
         (fronts - fronts_before, rears - rears_before)
     }
 
@@ -55,7 +68,7 @@ impl TickPass {
         frame.clear();
         for place in 0..board.detectors() {
             let gained = self.read_one(board, place);
-            frame.set(place, gained);
+            put(frame, place, gained);
         }
     }
 }

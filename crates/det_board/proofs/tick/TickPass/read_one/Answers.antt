@@ -59,7 +59,7 @@ invariant_of-self c =
     let room : 2 * c.from-fronts_word.result + 1 < length (loads_of me.0) = let e = c.self.invariant.load_count in omega (arith, c.from-fronts_word.ensures) in
     let told = between c.load-rears.new.seat.me c.from-fronts_word.result r f (dealt_of me.0) (loads_of me.0) (owned_of me.0) room is c.load-fronts.ensures.2.1 c.load-fronts.ensures.2.3 in
     let done = still_ticking c.self.inside.seat.table_id me c.load-fronts.new.seat.me c.self.inside.totals d r f c.self.invariant words low told.1 c.load-fronts.ensures.2.2 is3 in
-    subst (λ (l : List (ℕ × ℕ)). IsTicking c.load-fronts.new.seat.table_id c.load-fronts.new.seat.me l) (sym c.set.ensures.items) (subst (λ t. IsTicking t c.load-fronts.new.seat.me (set c.self.inside.totals d (f, r))) (sym after) done)
+    subst (λ (l : List (ℕ × ℕ)). IsTicking c.load-fronts.new.seat.table_id c.load-fronts.new.seat.me l) (sym c.put.ensures.items) (subst (λ t. IsTicking t c.load-fronts.new.seat.me (set c.self.inside.totals d (f, r))) (sym after) done)
 
 pub returns : goal.returns
 returns c =
