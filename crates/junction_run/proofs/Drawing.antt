@@ -1,5 +1,28 @@
 -- Frames as they are drawn.
-use Rattle.std.proofs.Common.{◌≡◌, ◌∙◌, ℕ, zero, suc, ◌+◌, ◌-◌, ◌<◌, List, [], ◌∷◌, ◌++◌, length, map, replicate, set, refl, sym, ap, arith, append_assoc, add-one}
+use Rattle.std.proofs.Common.{
+  ◌≡◌,
+  ◌∙◌,
+  ℕ,
+  zero,
+  suc,
+  ◌+◌,
+  ◌-◌,
+  ◌<◌,
+  List,
+  [],
+  ◌∷◌,
+  ◌++◌,
+  length,
+  map,
+  replicate,
+  set,
+  refl,
+  sym,
+  ap,
+  arith,
+  append_assoc,
+  add-one,
+}
 use Rattle.std.proofs.lemmas.List.{length-map, map-append}
 use Rattle.std.proofs.Math.Seq.{set-append_seam}
 use Rattle.rand_pcg.specs.Lcg.{Lcg}

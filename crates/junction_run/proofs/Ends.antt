@@ -1,5 +1,30 @@
 -- How a command ends.
-use Rattle.std.proofs.Common.{◌≡◌, ◌∙◌, ℕ, suc, List, [], ◌++◌, length, take, Option, None, Some, Result, Ok, Err, refl, sym, ap, subst, arith, inl, inr, ◌⊎◌, length-append}
+use Rattle.std.proofs.Common.{
+  ◌≡◌,
+  ◌∙◌,
+  ℕ,
+  suc,
+  List,
+  [],
+  ◌++◌,
+  length,
+  take,
+  Option,
+  None,
+  Some,
+  Result,
+  Ok,
+  Err,
+  refl,
+  sym,
+  ap,
+  subst,
+  arith,
+  inl,
+  inr,
+  ◌⊎◌,
+  length-append,
+}
 use Rattle.std.proofs.lemmas.List.{append-nil}
 use Rattle.std.proofs.lemmas.List.Elements.{Contains-append_left}
 use Rattle.std.specs.Prelude.{Contains, IfErr, Bool, IsTrue, true, false, MatchBool}

@@ -18,7 +18,27 @@ use Rattle.controller.proofs.Guarded.{runs_are_guarded}
 use Rattle.junction_run.specs.Codes.{CodeIs}
 use Rattle.junction_run.specs.Form.{SiteWords, Run, Compile, Exec, Sample}
 use Rattle.junction_run.specs.Laws.{LoadedRunsAreGuarded}
-use Rattle.junction_run.specs.Loading.{Unloaded, Refusal, TooLong, unless_refused, judged, table_refusal, plan_at, times_at, intergreens_at, site_of, ◌>>=◌, Playing, program_at, code_at, map_ok, AfterSite, IsJudged, text_limit, code_limit}
+use Rattle.junction_run.specs.Loading.{
+  Unloaded,
+  Refusal,
+  TooLong,
+  unless_refused,
+  judged,
+  table_refusal,
+  plan_at,
+  times_at,
+  intergreens_at,
+  site_of,
+  ◌>>=◌,
+  Playing,
+  program_at,
+  code_at,
+  map_ok,
+  AfterSite,
+  IsJudged,
+  text_limit,
+  code_limit,
+}
 use Rattle.junction_run.specs.Programs.{ProgramIs}
 use Rattle.junction_run.proofs.Tables.{accepted_lists_well}
 

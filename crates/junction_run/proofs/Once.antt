@@ -19,7 +19,24 @@ use Rattle.vap_code.specs.Valid.{Valid, FirstBroken}
 use Rattle.controller.specs.Past.{Site}
 use Rattle.junction_run.specs.Codes.{CodeIs, no_code, unsound, is_code, instr_line}
 use Rattle.junction_run.specs.Form.{Form, Run, Compile, Exec, Sample}
-use Rattle.junction_run.specs.Loading.{Unloaded, Refusal, IsJudged, long, refused, accepted, Playing, map_ok, AfterSite, Loaded, Loads, site_of, text_limit, code_limit, program_at, code_at}
+use Rattle.junction_run.specs.Loading.{
+  Unloaded,
+  Refusal,
+  IsJudged,
+  long,
+  refused,
+  accepted,
+  Playing,
+  map_ok,
+  AfterSite,
+  Loaded,
+  Loads,
+  site_of,
+  text_limit,
+  code_limit,
+  program_at,
+  code_at,
+}
 use Rattle.junction_run.specs.Loading as loading
 use Rattle.junction_run.specs.Programs.{ProgramIs, no_token, no_tree, unchecked, is_program}
 use Rattle.junction_run.specs.Reasons.{lex_reason, parse_reason, check_reason, code_reason, verify_reason}

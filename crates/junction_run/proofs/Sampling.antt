@@ -1,5 +1,38 @@
 -- A controller that makes seconds over drawn frames.
-use Rattle.std.proofs.Common.{◌≡◌, ◌∙◌, ℕ, zero, suc, ◌+◌, ◌-◌, ◌<◌, ◌≤◌, Bool, true, false, if◌then◌else◌, ◌==◌, ◌%◌, List, [], ◌∷◌, ◌++◌, Option, length, map, replicate, get_or, take, sum_by, refl, sym, ap, subst, arith, length-append}
+use Rattle.std.proofs.Common.{
+  ◌≡◌,
+  ◌∙◌,
+  ℕ,
+  zero,
+  suc,
+  ◌+◌,
+  ◌-◌,
+  ◌<◌,
+  ◌≤◌,
+  Bool,
+  true,
+  false,
+  if◌then◌else◌,
+  ◌==◌,
+  ◌%◌,
+  List,
+  [],
+  ◌∷◌,
+  ◌++◌,
+  Option,
+  length,
+  map,
+  replicate,
+  get_or,
+  take,
+  sum_by,
+  refl,
+  sym,
+  ap,
+  subst,
+  arith,
+  length-append,
+}
 use Rattle.std.proofs.lemmas.List.{length-map, length-replicate, take_all}
 use Rattle.std.proofs.lemmas.List.Sums.{sum_by-cons}
 use Rattle.rand_pcg.specs.Lcg.{Lcg}

@@ -1,5 +1,32 @@
 -- An accepted table of intergreens lists each pair both ways, and no group with itself.
-use Rattle.std.proofs.Common.{◌≡◌, ◌∙◌, ℕ, zero, suc, ◌<◌, ◌+◌, Bool, true, false, List, [], ◌∷◌, length, get_or, take, drop, Option, None, Some, refl, sym, ap, arith, inl, inr}
+use Rattle.std.proofs.Common.{
+  ◌≡◌,
+  ◌∙◌,
+  ℕ,
+  zero,
+  suc,
+  ◌<◌,
+  ◌+◌,
+  Bool,
+  true,
+  false,
+  List,
+  [],
+  ◌∷◌,
+  length,
+  get_or,
+  take,
+  drop,
+  Option,
+  None,
+  Some,
+  refl,
+  sym,
+  ap,
+  arith,
+  inl,
+  inr,
+}
 use Rattle.std.specs.Prelude.{is_none, is_some, ◌==◌, unwrap_or, if◌then◌else◌}
 use Rattle.std.proofs.lemmas.Bool.{cases_lt, true≢false, and_left, and_right}
 use Rattle.std.proofs.lemmas.Bool.Decides.{eqb_tells}
@@ -9,7 +36,19 @@ use Rattle.sig_tables.specs.declared.refusal.TableWhy.{TableWhy}
 use Rattle.sig_tables.specs.declared.refusal.TableWhy.TheVariants as why
 use Rattle.sig_tables.specs.Records.{Row, table_rows}
 use Rattle.sig_tables.specs.Refusals.{numbered, when}
-use Rattle.sig_tables.specs.IntergreenTable.{listed_seconds, pair_in, is_pair, is_self, has_pair, intergreen_form, intergreen_reason, one_way, one_way_reason, intergreens_refused, intergreen_of}
+use Rattle.sig_tables.specs.IntergreenTable.{
+  listed_seconds,
+  pair_in,
+  is_pair,
+  is_self,
+  has_pair,
+  intergreen_form,
+  intergreen_reason,
+  one_way,
+  one_way_reason,
+  intergreens_refused,
+  intergreen_of,
+}
 
 -- a pair is listed both ways, and is of two groups
 pub record IsListedWell (seconds : ℕ → ℕ → Option ℕ) : Type 0 where

@@ -1,6 +1,19 @@
 // Why a file is refused, as a note tells it.
 ghost use Rattle.std.specs.Prelude.{◌≡◌, ◌++◌, codes};
-ghost use Rattle.junction_run.specs.Reasons.{name_of, plan_reason, table_reason, lex_reason, parse_reason, which_name, check_reason, code_reason, verify_reason, stream_reason, reason_text, told_text};
+ghost use Rattle.junction_run.specs.Reasons.{
+  name_of,
+  plan_reason,
+  table_reason,
+  lex_reason,
+  parse_reason,
+  which_name,
+  check_reason,
+  code_reason,
+  verify_reason,
+  stream_reason,
+  reason_text,
+  told_text,
+};
 
 use crate::stop::Reason;
 use code_file::CodeWhy;

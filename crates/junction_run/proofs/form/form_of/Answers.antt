@@ -1,7 +1,11 @@
 use Rattle.std.proofs.Common.{◌≡◌, ◌<◌, ◌≤◌, rules, ℕ, List, [], ◌∷◌, length, map, None, string_bytes, Global, refl, arith}
 use Rattle.std.proofs.lemmas.List.{length-map}
 use Rattle.junction_run.specs.Form.{form_of}
-use Rattle.junction_run.proofs.form.form_of.Goals.{in_default-via-then-words-lt2, in_default-via-else-words-lt2+else-words-lt3+then-words-lt6, in_default-via-else-words-lt2+else-words-lt3+else-words-lt6+else-words-lt7+else-words-lt8}
+use Rattle.junction_run.proofs.form.form_of.Goals.{
+  in_default-via-then-words-lt2,
+  in_default-via-else-words-lt2+else-words-lt3+then-words-lt6,
+  in_default-via-else-words-lt2+else-words-lt3+else-words-lt6+else-words-lt7+else-words-lt8,
+}
 use Rattle.junction_run.proofs.form.form_of.Goals as goal
 
 -- no form has another number of words
