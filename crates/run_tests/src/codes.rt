@@ -1,7 +1,6 @@
 // Code files: of a compiled program, of whoever wrote them, and hostile ones.
-use crate::cases::{Case, DONE, EXEC, REFUSED, fails, fails_with, run_over};
-use crate::runs::JUMP_RUN;
 use junction_run::Status;
+use run_cases::cases::{Case, DONE, EXEC, JUMP_RUN, REFUSED, fails, fails_with, run_over};
 use std::alloc::{AllocError, Global};
 use std::test::Fail;
 use test_texts::programs::JUMP;

@@ -1,9 +1,8 @@
 // Each read and each write of a run failing in turn.
-use crate::cases::{Case, EXEC, answer, files, is_log, is_log_front};
 use crate::codes::compiled;
-use crate::runs::{JUMP_RUN, TIMER_RUN};
-use crate::watched::{WatchedFiles, WatchedSink};
 use junction_run::Status;
+use run_cases::cases::{Case, EXEC, JUMP_RUN, TIMER_RUN, answer, files, is_log, is_log_front};
+use run_cases::watched::{WatchedFiles, WatchedSink};
 use sig_io::{MemFiles, MemSink};
 use std::alloc::Global;
 use std::test::Fail;

@@ -1,7 +1,6 @@
 // Hostile texts, each refused at its line and for its reason, and files and a sink that never fail.
-use crate::cases::{Case, DONE, REFUSED, answer, fails_with, files};
-use crate::runs::TIMER_RUN;
 use junction_run::Status;
+use run_cases::cases::{Case, DONE, REFUSED, TIMER_RUN, answer, fails_with, files};
 use sig_io::{SureFiles, SureSink};
 use std::test::Fail;
 

@@ -2,18 +2,12 @@
 #![tactic(auto)]
 
 #[cfg(test)]
-mod cases;
-#[cfg(test)]
 mod codes;
 #[cfg(test)]
 mod faults;
 #[cfg(test)]
 mod hostile;
 #[cfg(test)]
-mod live_runs;
-#[cfg(test)]
 mod runs;
 #[cfg(test)]
 mod samples;
-#[cfg(test)]
-mod watched;

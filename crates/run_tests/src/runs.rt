@@ -1,39 +1,20 @@
 // Worked runs, byte for byte.
-use crate::cases::{Case, DONE, REFUSED, RUN, after, answer, fails, files, is_log, run_over};
-use crate::watched::WatchedFiles;
 use junction_run::Status;
+use run_cases::cases::{
+    Case, DONE, JUMP_RUN, REFUSED, RUN, TIMER_RUN, answer, fails, files, is_log, run_over,
+};
+use run_cases::watched::WatchedFiles;
 use sig_io::{MemFiles, MemSink};
+use sig_types::text::strip;
 use std::alloc::Global;
 use std::test::Fail;
 use test_texts::programs::{
     ALL_UNITS, BOTH_GREEN, BOTH_SIDES, CALLS, DECIMAL, ENDLESS, ENDS_EARLY, FAULTS, FOUR_ARMS,
-    JUMP, ONE_UNIT_MORE, TIMER, TURNS,
+    ONE_UNIT_MORE, TURNS,
 };
 use test_texts::sites::{
     FOUR_ARMS_INTERGREENS, FOUR_ARMS_PLAN, FOUR_ARMS_TIMES, NO_WAIT_INTERGREENS, NO_WAIT_TIMES,
     ONE_WAY, ROWS, TWO_STAGES, WRONG_ROWS,
-};
-
-/// A jump into a branch.
-pub const JUMP_RUN: Case<'static> = Case {
-    program: JUMP,
-    plan: TWO_STAGES,
-    detectors: b"\n\n\n\n\n\n\n\n\n\n\n\n\n\n\n\n\n\n\n\n",
-    records: Some(
-        b"1|S1|RR|-|K1:Intergreen:K2|-\n2|S1|RR|-|K1:Intergreen:K2|-\n3|S1|UR|-|-|-\n4|S1|GR|-|-|-\n5|S1|GR|-|-|-\n6|S1|GR|-|-|-\n7|S1|GR|-|-|-\n8|S1|GR|-|-|-\n9|S1|GR|-|-|-\n10|S1|GR|-|-|-\n11|S1|GR|-|-|-\n12|S1|GR|-|-|-\n13|S1|GR|-|-|-\n14|I1-2+0|AR|-|1-2:Running|-\n15|I1-2+1|AR|-|-|-\n16|I1-2+2|AR|-|-|-\n17|I1-2+3|RR|-|-|-\n18|I1-2+4|RU|-|-|-\n19|I1-2+5|RG|-|-|-\n20|S2|RG|-|-|-\n",
-    ),
-    ..DONE
-};
-
-/// A timer that two fronts start.
-pub const TIMER_RUN: Case<'static> = Case {
-    program: TIMER,
-    plan: TWO_STAGES,
-    detectors: b"1:2:1\n1:0:1\n\n\n\n",
-    records: Some(
-        b"1|S1|RR|1:2:1|K1:Intergreen:K2|-\n2|S1|RR|1:0:1|K1:Intergreen:K2|-\n3|S1|UR|-|-|-\n4|S1|GR|-|2-1:WrongStage|-\n5|S1|GR|-|-|-\n",
-    ),
-    ..DONE
 };
 
 const CASES: [Case<'static>; 17] = [
@@ -283,11 +264,11 @@ fn arms_log(alloc: Global) -> Result<MemSink, Fail> {
 fn four_arms_run_an_hour(rt: HostRuntime) -> Result<(), Fail> {
     let alloc = rt.alloc();
     let out = arms_log(alloc)?;
-    let mut rest = after(b"VAPLOG 1 K1 K2 K3 K4 K5 K6 K7 K8\n", out.bytes());
+    let mut rest = strip(b"VAPLOG 1 K1 K2 K3 K4 K5 K6 K7 K8\n", out.bytes());
     for k in 1..3601 {
         let record = arms_record(alloc, k)?;
         rest = match rest {
-            Some(rest) => after(record.as_bytes(), rest),
+            Some(rest) => strip(record.as_bytes(), rest),
             None => None,
         };
         assert!(rt; rest.is_some(), "second {k}");

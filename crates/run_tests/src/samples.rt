@@ -1,6 +1,6 @@
 // Samples: drawn detectors of a junction of four arms, and the summary of their records.
-use crate::cases::{Case, DONE, run_over};
 use junction_run::Status;
+use run_cases::cases::{Case, DONE, run_over};
 use std::alloc::Global;
 use std::test::Fail;
 use test_texts::programs::FOUR_ARMS;

@@ -1,10 +1,11 @@
 // Runs over files in memory, and what they must answer.
 use junction_run::{Status, junction};
 use sig_io::{Files, MemFiles, MemSink, Sink};
+use sig_types::text::strip;
 use std::alloc::{AllocError, Global};
 use std::test::Fail;
-use test_texts::programs::EMPTY;
-use test_texts::sites::{DARK, INTERGREENS, TIMES};
+use test_texts::programs::{EMPTY, JUMP, TIMER};
+use test_texts::sites::{DARK, INTERGREENS, TIMES, TWO_STAGES};
 
 const HEADER: &[u8] = b"VAPLOG 1 K1 K2\n";
 
@@ -17,15 +18,23 @@ pub const EXEC: &[&str] = &["exec", "c.code", "p.pua", "t.csv", "g.csv", "d.txt"
 /// A command with a program or a code as its first file, and what it must answer.
 #[derive(Clone, Copy)]
 pub struct Case<'a> {
+    /// The words of the command line.
     pub words: &'static [&'static str],
+    /// The bytes of the file that the second word names: a program or a code.
     pub program: &'a [u8],
+    /// The bytes of the PUA file.
     pub plan: &'a [u8],
+    /// The bytes of the table of times.
     pub times: &'a [u8],
+    /// The bytes of the table of intergreens.
     pub intergreens: &'a [u8],
+    /// The bytes of the detector file.
     pub detectors: &'a [u8],
+    /// The status that is wanted.
     pub status: Status,
-    // what follows the header; None where nothing was written
+    /// What follows the header in the log that is wanted; None where nothing is to be written.
     pub records: Option<&'a [u8]>,
+    /// The note that is wanted.
     pub note: &'a [u8],
 }
 
@@ -46,6 +55,28 @@ pub const DONE: Case<'static> = Case {
 pub const REFUSED: Case<'static> = Case {
     status: Status::RefusedFile,
     records: None,
+    ..DONE
+};
+
+/// A jump into a branch.
+pub const JUMP_RUN: Case<'static> = Case {
+    program: JUMP,
+    plan: TWO_STAGES,
+    detectors: b"\n\n\n\n\n\n\n\n\n\n\n\n\n\n\n\n\n\n\n\n",
+    records: Some(
+        b"1|S1|RR|-|K1:Intergreen:K2|-\n2|S1|RR|-|K1:Intergreen:K2|-\n3|S1|UR|-|-|-\n4|S1|GR|-|-|-\n5|S1|GR|-|-|-\n6|S1|GR|-|-|-\n7|S1|GR|-|-|-\n8|S1|GR|-|-|-\n9|S1|GR|-|-|-\n10|S1|GR|-|-|-\n11|S1|GR|-|-|-\n12|S1|GR|-|-|-\n13|S1|GR|-|-|-\n14|I1-2+0|AR|-|1-2:Running|-\n15|I1-2+1|AR|-|-|-\n16|I1-2+2|AR|-|-|-\n17|I1-2+3|RR|-|-|-\n18|I1-2+4|RU|-|-|-\n19|I1-2+5|RG|-|-|-\n20|S2|RG|-|-|-\n",
+    ),
+    ..DONE
+};
+
+/// A timer that two fronts start.
+pub const TIMER_RUN: Case<'static> = Case {
+    program: TIMER,
+    plan: TWO_STAGES,
+    detectors: b"1:2:1\n1:0:1\n\n\n\n",
+    records: Some(
+        b"1|S1|RR|1:2:1|K1:Intergreen:K2|-\n2|S1|RR|1:0:1|K1:Intergreen:K2|-\n3|S1|UR|-|-|-\n4|S1|GR|-|2-1:WrongStage|-\n5|S1|GR|-|-|-\n",
+    ),
     ..DONE
 };
 
@@ -103,31 +134,20 @@ pub fn run_over(
     Ok((status, out, notes))
 }
 
-/// What follows this front.
-pub fn after<'a>(front: &[u8], bytes: &'a [u8]) -> Option<&'a [u8]> {
-    let (head, rest) = bytes.split_at_checked(front.len())?;
-    if head == front { Some(rest) } else { None }
-}
-
-// Whether these bytes are the first ones of a text.
-fn is_front(front: &[u8], text: &[u8]) -> bool {
-    after(front, text).is_some()
-}
-
 /// Whether these bytes are the header with these records, or nothing where none were written.
 pub fn is_log(bytes: &[u8], records: Option<&[u8]>) -> bool {
     match records {
         None => bytes.is_empty(),
-        Some(records) => after(HEADER, bytes) == Some(records),
+        Some(records) => strip(HEADER, bytes) == Some(records),
     }
 }
 
 /// Whether these bytes are a front of the header with these records.
 pub fn is_log_front(bytes: &[u8], records: Option<&[u8]>) -> bool {
-    match (after(HEADER, bytes), records) {
-        (Some(front), Some(records)) => is_front(front, records),
+    match (strip(HEADER, bytes), records) {
+        (Some(front), Some(records)) => records.starts_with(front),
         (Some(_), None) => false,
-        (None, _) => is_front(bytes, HEADER),
+        (None, _) => HEADER.starts_with(bytes),
     }
 }
 

@@ -7,7 +7,9 @@ use sig_io::{Failed, Files, MemFiles, MemSink, Sink};
 /// is asked for on and on, and a `!` for each call that fails; a name after a `!` is noted anew.
 #[derive(Drop)]
 pub struct WatchedFiles {
+    /// The files.
     pub files: MemFiles,
+    /// What was noted.
     pub asked: Vec<u8>,
 }
 
@@ -34,8 +36,11 @@ impl Files for WatchedFiles {
 /// A sink that takes at most seven bytes a call, doesn't tell what it took, and counts the calls after one that failed.
 #[derive(Drop)]
 pub struct WatchedSink {
+    /// The sink.
     pub sink: MemSink,
+    /// Whether a call failed.
     pub failed: bool,
+    /// How many calls came after that.
     pub late: u32,
 }
 

@@ -1,15 +1,12 @@
 // Live runs, over files and sinks in memory.
-ghost use Rattle.std.specs.Prelude.{◌<◌};
-
-use crate::cases::{Case, DONE, REFUSED, files, texts};
-use crate::watched::{WatchedFiles, WatchedSink};
+use crate::pair_gate::PairGate;
+use crate::sums::{file_sums, first_sums, log_sums};
 use junction_live::live;
 use junction_run::Status;
+use run_cases::cases::{Case, DONE, REFUSED, files, texts};
+use run_cases::watched::{WatchedFiles, WatchedSink};
 use sig_io::{FreeGate, Gate, MemFiles, MemSink};
-use sig_types::text::cut_at;
 use std::alloc::Global;
-use std::hint;
-use std::sync::atomic::{AtomicU64, Ordering};
 use std::test::Fail;
 use std::thread::Threads;
 use test_texts::programs::{DECIMAL, FOUR_ARMS};
@@ -20,61 +17,6 @@ use test_texts::sites::{
 const LIVE: [&str; 6] = ["live", "p.vap", "p.pua", "t.csv", "g.csv", "d.txt"];
 
 const HEADER: &[u8] = b"VAPLOG 1 K1 K2";
-
-// The fronts and the rears of each detector.
-type Sums = [(u32, u32); 64];
-
-fn number(digits: &[u8]) -> u32 {
-    let mut n = 0u32;
-    for digit in digits {
-        n = n
-            .wrapping_mul(10)
-            .wrapping_add(u32::from(digit.wrapping_sub(b'0')));
-    }
-    n
-}
-
-// Adds the counts of a second, DETECTOR:FRONTS:REARS with blanks between.
-fn add_counts(counts: &[u8], sums: &mut Sums) {
-    for entry in counts.split(|b| *b == b' ') {
-        if let Some((detector, rest)) = cut_at(b':', entry)
-            && let Some((fronts, rears)) = cut_at(b':', rest)
-        {
-            let place = number(detector).wrapping_sub(1) as usize;
-            if place < 64 {
-                let (fronts_so_far, rears_so_far) = sums[place];
-                sums[place] = (
-                    fronts_so_far.wrapping_add(number(fronts)),
-                    rears_so_far.wrapping_add(number(rears)),
-                );
-            }
-        }
-    }
-}
-
-// The sums of a detector file.
-fn file_sums(bytes: &[u8]) -> Sums {
-    let mut sums = [(0, 0); 64];
-    for line in bytes.split(|b| *b == b'\n') {
-        add_counts(line, &mut sums);
-    }
-    sums
-}
-
-// The sums of a log, and the number of its lines.
-fn log_sums(bytes: &[u8]) -> (Sums, usize) {
-    let mut sums = [(0, 0); 64];
-    let mut lines = 0usize;
-    for line in bytes.split(|b| *b == b'\n') {
-        if !line.is_empty() {
-            lines = lines.wrapping_add(1);
-        }
-        if let Some(counts) = line.split(|b| *b == b'|').nth(3) {
-            add_counts(counts, &mut sums);
-        }
-    }
-    (sums, lines)
-}
 
 // What a live run of a case answers, with so much room for its log.
 fn play<R: Threads + Sync, G: Gate>(
@@ -312,69 +254,6 @@ fn each_call_of_a_live_run_fails_in_turn(rt: HostRuntime) -> Result<(), Fail> {
     Ok(())
 }
 
-const TURNS: u32 = 100_000_000;
-
-// Three pairs of calls, each of which returns only once the other of its pair was called.
-#[derive(Drop)]
-struct PairGate {
-    called: [AtomicU64; 6],
-    gave_up: AtomicU64,
-}
-
-impl PairGate {
-    fn new() -> PairGate {
-        PairGate {
-            called: [
-                AtomicU64::new(0),
-                AtomicU64::new(0),
-                AtomicU64::new(0),
-                AtomicU64::new(0),
-                AtomicU64::new(0),
-                AtomicU64::new(0),
-            ],
-            gave_up: AtomicU64::new(0),
-        }
-    }
-
-    fn meet(&self, own: usize, other: usize)
-        requires { (own < 6) × (other < 6) }
-    {
-        self.called[own].store(1, Ordering::SeqCst);
-        for _turn in 0..TURNS {
-            if self.called[other].load(Ordering::SeqCst) == 1 {
-                return;
-            }
-            hint::spin_loop();
-        }
-        self.gave_up.fetch_add(1, Ordering::SeqCst);
-    }
-}
-
-impl Gate for PairGate {
-    fn pass(&self, who: u8, step: u32) {
-        match (who, step) {
-            (1, 0) => self.meet(0, 1),
-            (2, 0) => self.meet(1, 0),
-            (0, 0) => self.meet(2, 3),
-            (1, 1) => self.meet(3, 2),
-            (0, 1) => self.meet(4, 5),
-            (2, 1) => self.meet(5, 4),
-            _ => {}
-        }
-    }
-}
-
-// The counts of the first record of a log.
-fn first_sums(bytes: &[u8]) -> Sums {
-    let mut sums = [(0, 0); 64];
-    if let Some(line) = bytes.split(|b| *b == b'\n').nth(1)
-        && let Some(counts) = line.split(|b| *b == b'|').nth(3)
-    {
-        add_counts(counts, &mut sums);
-    }
-    sums
-}
-
 // Feeders and controller run at once: the first take waits for the first detector's front and for no rear of the second one.
 #[test]
 fn all_actors_run_at_once(rt: HostRuntime) -> Result<(), Fail> {
@@ -385,7 +264,7 @@ fn all_actors_run_at_once(rt: HostRuntime) -> Result<(), Fail> {
     let gate = PairGate::new();
     let (status, out, _notes) = play(&rt, rt.alloc(), &case, 2000, &gate)?;
     assert_eq!(rt; status, Status::Done);
-    assert_eq!(rt; gate.gave_up.load(Ordering::SeqCst), 0);
+    assert_eq!(rt; gate.given_up(), 0);
     let first = first_sums(out.bytes());
     assert_eq!(rt; first[0].0, 1);
     assert_eq!(rt; first[1].1, 0);

@@ -1,0 +1,10 @@
+//! Tests of live runs, over files and sinks in memory: their sums, their refusals, each call failing in turn, and actors at work
+//! at once.
+#![tactic(auto)]
+
+#[cfg(test)]
+mod live_runs;
+#[cfg(test)]
+mod pair_gate;
+#[cfg(test)]
+mod sums;
