@@ -8,7 +8,6 @@ use Rattle.std.proofs.Common.{
   ◌+◌,
   ◌-◌,
   ◌<◌,
-  List,
   [],
   ◌∷◌,
   ◌++◌,
@@ -43,6 +42,13 @@ pub length-words : (n : ℕ) (g : Lcg) → length (words_from n g) ≡ n
 length-words zero g = refl
 length-words (suc n) g = ap suc (length-words n (pcg32 g).1)
 
+-- the counts of one detector more
+drawn_front-more : (n : ℕ) (g : Lcg) →
+    map drawn_pair (words_from (n + 1) g) ≡ map drawn_pair (words_from n g) ++ drawn_pair (pcg32 (after_words n g)).0 ∷ []
+drawn_front-more n g =
+    ap (λ k. map drawn_pair (words_from k g)) (add-one n) ∙ ap (map drawn_pair) (words_from-more n g)
+    ∙ map-append drawn_pair (words_from n g) ((pcg32 (after_words n g)).0 ∷ [])
+
 -- a frame whose first n detectors are drawn
 abbrev pub drawn_to : ℕ → Lcg → Counts
 drawn_to n g = map drawn_pair (words_from n g) ++ replicate (64 - n) (0, 0)
@@ -55,12 +61,20 @@ drawn_to-more n g lt =
     let rest : Counts = replicate (64 - (n + 1)) (0, 0) in
     let left : 64 - n ≡ suc (64 - (n + 1)) = omega arith in
     let size : length front ≡ n = length-map (words_from n g) drawn_pair ∙ length-words n g in
-    let longer : map drawn_pair (words_from (n + 1) g) ≡ front ++ pair ∷ []
-    = ap (λ k. map drawn_pair (words_from k g)) (add-one n) ∙ ap (map drawn_pair) (words_from-more n g) ∙ map-append drawn_pair (words_from n g) ((pcg32 (after_words n g)).0 ∷ []) in
     ap (λ k. set (front ++ replicate k (0, 0)) n pair) left
     ∙ ap (λ k. set (front ++ (0, 0) ∷ rest) k pair) (sym size)
     ∙ set-append_seam front (0, 0) rest pair
-    ∙ sym (ap (λ l. l ++ rest) longer ∙ append_assoc front (pair ∷ []) rest)
+    ∙ sym (ap (λ l. l ++ rest) (drawn_front-more n g) ∙ append_assoc front (pair ∷ []) rest)
+
+-- one detector more, of which nothing comes
+pub drawn_to-silent : (n : ℕ) (g : Lcg) → n < 64 → drawn_pair (pcg32 (after_words n g)).0 ≡ (0, 0) → drawn_to n g ≡ drawn_to (n + 1) g
+drawn_to-silent n g lt silent =
+    let front : Counts = map drawn_pair (words_from n g) in
+    let rest : Counts = replicate (64 - (n + 1)) (0, 0) in
+    let left : 64 - n ≡ suc (64 - (n + 1)) = omega arith in
+    ap (λ k. front ++ replicate k (0, 0)) left
+    ∙ ap (λ pair. front ++ pair ∷ rest) (sym silent)
+    ∙ sym (ap (λ l. l ++ rest) (drawn_front-more n g) ∙ append_assoc front (drawn_pair (pcg32 (after_words n g)).0 ∷ []) rest)
 
 -- one frame more
 pub after_frames-more : (n : ℕ) (g : Lcg) → after_frames (suc n) g ≡ after_frame (after_frames n g)

@@ -1,5 +1,5 @@
 // The frames of a sample, drawn from a seed.
-ghost use Rattle.std.specs.Prelude.{◌≡◌};
+ghost use Rattle.std.specs.Prelude.{◌≡◌, if◌then◌else◌};
 ghost use Rattle.rand_pcg.specs.Pcg.{pcg32};
 ghost use Rattle.junction_run.specs.Drawn.{drawn_pair, frame_from, after_frame, generator_of};
 
@@ -17,13 +17,13 @@ pub(crate) fn generator_of(seed: u64) -> Lcg64Xsh32
     Lcg64Xsh32::new(seed, 1)
 }
 
-// The next word as a pair of counts.
-fn draw_pair(generator: &mut Lcg64Xsh32) -> (u32, u32)
-    ensures pair { result ≡ drawn_pair (pcg32 generator.old).0 }
+// Whether the next word tells of a vehicle: one front and one rear.
+fn draw_vehicle(generator: &mut Lcg64Xsh32) -> bool
+    ensures pair { (if result then (1, 1) else (0, 0)) ≡ drawn_pair (pcg32 generator.old).0 }
     ensures next { generator.new ≡ (pcg32 generator.old).1 }
 {
     let word: u32 = generator.next_word();
-    if word % 8 == 0 { (1, 1) } else { (0, 0) }
+    word % 8 == 0
 }
 
 /// Draws the frame of the next second. A word is drawn for each of detectors 1 to 12, whether or not anything comes of it.
@@ -33,6 +33,8 @@ pub(crate) fn draw_frame(generator: &mut Lcg64Xsh32, frame: &mut Frame)
 {
     frame.clear();
     for place in 0..DRAWN {
-        frame.set(place, draw_pair(generator));
+        if draw_vehicle(generator) {
+            frame.set(place, (1, 1));
+        }
     }
 }
