@@ -42,11 +42,15 @@ impl Slots {
         ensures arrays { self.new.arrays ≡ other.now.arrays }
         ensures timers { self.new.timers.items ≡ other.now.timers.items }
     {
-        self.variables.copy_from_slice(&other.variables);
+        if !self.variables.is_empty() {
+            self.variables.copy_from_slice(&other.variables);
+        }
         if cells_differ {
             self.arrays.copy_from(&other.arrays);
         }
-        self.timers.copy_from_slice(&other.timers);
+        if !self.timers.is_empty() {
+            self.timers.copy_from_slice(&other.timers);
+        }
     }
 }
 
