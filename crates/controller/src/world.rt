@@ -3,7 +3,7 @@ ghost use Rattle.std.specs.Prelude.{◌≡◌, ◌-◌, ◌+◌, ◌<◌, ◌≤
 ghost use Rattle.controller.specs.Commanded.{IsCommand};
 ghost use Rattle.sig_types.specs.Number.{truth};
 ghost use Rattle.std.specs.Prelude.{pos, if◌then◌else◌};
-ghost use Rattle.controller.specs.World.{is_stage, is_between, is_inter, command_in};
+ghost use Rattle.controller.specs.World.{is_between, is_inter, command_in};
 ghost use Rattle.controller.specs.Standing.{MeansWorld};
 ghost use Rattle.sig_guard.specs.Stands.{rules};
 ghost use Rattle.pua_model.specs.Plan.{groups_in};
@@ -34,15 +34,6 @@ fn truth(b: bool) -> i32
     if b { 1 } else { 0 }
 }
 
-fn is_stage(place: StagePlace, stage: StageNo) -> bool
-    ensures { result ≡ is_stage place stage.0 }
-{
-    match place {
-        StagePlace::Stage(active) => active.0 == stage.0,
-        StagePlace::NoPlan | StagePlace::Inter { .. } => false,
-    }
-}
-
 fn is_between(place: StagePlace, a: StageNo, b: StageNo) -> bool
     ensures { result ≡ is_between place a.0 b.0 }
 {
@@ -63,7 +54,7 @@ impl SecondWorld<'_> {
     ghost use Rattle.sig_types.specs.Counts.{Counts};
     ghost use Rattle.controller.specs.Standing.{Standing};
     ghost use Rattle.controller.specs.World.{reading_in, shown_in, of_named, of_both, place_before};
-    ghost use Rattle.stage_machine.specs.Orders.{since_at};
+    ghost use Rattle.stage_machine.specs.Orders.{is_stage, since_at};
     ghost use Rattle.pua_model.specs.Plan.{group_of, stage_of};
     ghost use Rattle.sig_types.specs.Turns.{trace, is_green, is_red};
     ghost use Rattle.sig_types.specs.Words.{run_to};
@@ -112,7 +103,7 @@ impl SecondWorld<'_> {
     {
         match self.plan.find_stage(number) {
             None => None,
-            Some(stage) => Some(truth(is_stage(self.stages.place(), stage))),
+            Some(stage) => Some(truth(self.stages.is_active(stage))),
         }
     }
 
@@ -124,7 +115,7 @@ impl SecondWorld<'_> {
         match self.plan.find_stage(number) {
             None => None,
             Some(stage) => {
-                if is_stage(self.stages.place(), stage) {
+                if self.stages.is_active(stage) {
                     Some(self.second.saturating_sub(self.stages.since().0) as i32)
                 } else {
                     Some(0)

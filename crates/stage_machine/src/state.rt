@@ -5,11 +5,13 @@ ghost use Rattle.pua_model.specs.Plan.{PlanOf, HasStage, groups_in};
 use pua_model::Plan;
 use sig_types::{InterNo, Rule, Second, StageNo, StagePlace, Wishes};
 
-// The number and the length of the interstage are kept while it runs, so that no second looks them up again.
+// The number and the length of the interstage are kept while it runs, so that no second looks them up again; and beside the
+// place the number of the active stage, 0 while none is, since a pass asks for it many times.
 /// The stage that is active, or the interstage that runs, in some second.
 #[derive(Drop)]
 pub struct StageState {
     place: StagePlace,
+    active: u8,
     since: u32,
     second: u32,
     running: InterNo,
@@ -17,7 +19,7 @@ pub struct StageState {
 }
 
 impl StageState {
-    ghost use Rattle.stage_machine.specs.Orders.{Order, place_at, since_at, refused_order, stage_wish};
+    ghost use Rattle.stage_machine.specs.Orders.{Order, place_at, since_at, is_stage, refused_order, stage_wish};
     ghost use Rattle.stage_machine.specs.Stands.{StandsFor};
 
     /// Second 0, in which the starting stage is active.
@@ -27,6 +29,7 @@ impl StageState {
     {
         StageState {
             place: StagePlace::Stage(start),
+            active: start.0,
             since: 0,
             second: 0,
             running: InterNo(0),
@@ -46,6 +49,7 @@ impl StageState {
                 self.place = StagePlace::Inter { from, to, t: t + 1 };
             } else {
                 self.place = StagePlace::Stage(to);
+                self.active = to.0;
                 self.since = self.second;
             }
         }
@@ -68,6 +72,7 @@ impl StageState {
                 None => Err(Rule::NoInterstage),
                 Some(interstage) => {
                     self.place = StagePlace::Inter { from, to, t: 0 };
+                    self.active = 0;
                     self.running = interstage;
                     self.length = plan.length(interstage);
                     Ok(())
@@ -83,6 +88,15 @@ impl StageState {
         ensures { (plan : PlanOf) (orders : List Order) (k : ℕ) → StandsFor self.now plan orders k → result ≡ place_at plan orders k }
     {
         self.place
+    }
+
+    /// Whether no interstage runs and the stage is active. Stages are numbered from 1.
+    #[tactic(auto, unfolding(crate::specs::Stands::StandsFor))]
+    pub fn is_active(&self, stage: StageNo) -> bool
+        requires { 1 ≤ stage.0 }
+        ensures { (plan : PlanOf) (orders : List Order) (k : ℕ) → StandsFor self.now plan orders k → result ≡ is_stage (place_at plan orders k) stage.0 }
+    {
+        self.active == stage.0
     }
 
     /// The second in which the active stage became active; while an interstage runs, that in which its from-stage did.
