@@ -59,6 +59,16 @@ pub record IsTicking (id : TableId) (me : Me (Unit {0}) View) (totals : Counts) 
       (last_read (loads_of me.0) (rears_word d) ≤ last_read (loads_of me.0) (fronts_word d))
       × (last_read (loads_of me.0) (fronts_word d) ≤ most_fronts)
 
+-- the tick's seat after it loaded both words of the detector at place d, first that of its rears; it found c
+pub record LoadsOne (d : ℕ) (id : TableId) (me : Me (Unit {0}) View) (id' : TableId) (me' : Me (Unit {0}) View) (c : ℕ × ℕ) : Type 0 where
+  pub table : id' ≡ id
+  pub view : me' ≡ (Tick (dealt_of me.0) (loads_after (loads_after (loads_of me.0) (rears_word d) c.1) (fronts_word d) c.0) (owned_of me.0), [])
+  pub inside : 2 * d + 1 < length (loads_of me.0)
+  pub fronts_grow : last_read (loads_of me.0) (fronts_word d) ≤ c.0
+  pub rears_grow : last_read (loads_of me.0) (rears_word d) ≤ c.1
+  pub ordered : c.1 ≤ c.0
+  pub bounded : c.0 ≤ most_fronts
+
 -- one value more of each word of the detector at place d: first of its rears, then of its fronts; g is what they gained
 pub record ReadsOne (d : ℕ) (old new : Ticking) (g : ℕ × ℕ) : Type 0 where
   pub table : new.table ≡ old.table

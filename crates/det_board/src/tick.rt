@@ -1,6 +1,8 @@
 // The tick's pass, which reads the board.
-ghost use Rattle.std.specs.Prelude.{◌≡◌, ◌<◌, length, slice_set};
-ghost use Rattle.det_board.specs.Passes.{ReadsOne, Takes};
+ghost use Rattle.std.specs.Prelude.{◌≡◌, ◌<◌, [], length, MatchOption};
+ghost use Rattle.det_board.specs.Rule.{dealt_of, loads_of, owned_of};
+ghost use Rattle.det_board.specs.Passes.{LoadsOne, ReadsOne, Takes};
+ghost use Rattle.det_board.specs.declared.view.View.TheVariants.{Tick};
 
 use crate::board::Board;
 use crate::rule::{ReadFronts, ReadRears};
@@ -27,36 +29,39 @@ impl Model for TickPass {
     ghost invariant = { λ t. IsTicking t.seat.table_id t.seat.me t.totals };
 }
 
-// Puts counts at that place, where others stand. Most detectors gain nothing in most seconds, and then nothing is written.
+// Loads the rears of a detector, and then its fronts.
 #[inline(always)]
-fn put(frame: &mut Frame, place: u8, counts: (u32, u32))
-    requires { place < 64 }
-    ensures items { frame.new ≡ slice_set frame.old place counts }
-    ensures length { length frame.new ≡ 64 }
+fn load_counts(board: &Board, seat: &mut Seat<(), View>, place: u8) -> (u32, u32)
+    requires board { seat.old.table_id ≡ board.now.table }
+    requires inside { place < board.now.detectors }
+    requires tick { seat.old.me ≡ (Tick (dealt_of seat.old.me.0) (loads_of seat.old.me.0) (owned_of seat.old.me.0), []) }
+    requires room { length (loads_of seat.old.me.0) ≡ board.now.table.words }
+    ensures { LoadsOne place seat.old.table_id seat.old.me seat.new.table_id seat.new.me result }
 {
-    let (fronts, rears) = frame.get(place);
-    if fronts != counts.0 || rears != counts.1 {
-        frame.set(place, counts);
-    }
+    let fronts_word = 2 * usize::from(place);
+    let rears_word = fronts_word + 1;
+    let table = &board.table.shared;
+    let rears = table.load::<ReadRears>(seat, rears_word);
+    let fronts = table.load::<ReadFronts>(seat, fronts_word);
+    (fronts as u32, rears as u32)
 }
 
 impl TickPass {
-    // Loads the rears of a detector, and then its fronts. What they gained since the last take.
-    fn read_one(&mut self, board: &Board, place: u8) -> (u32, u32)
+    // Loads the counts of a detector. What they gained since the last take. Most gain nothing in most seconds, and then
+    // nothing is written.
+    #[inline(always)]
+    fn read_one(&mut self, board: &Board, place: u8) -> Option<(u32, u32)>
         requires board { self.old.table ≡ board.now.table }
-        requires inside { place < board.now.detectors }
-        ensures { ReadsOne place self.old self.new result }
+        requires inside { (place < board.now.detectors) × (place < 64) }
+        ensures { MatchOption result (ReadsOne place self.old self.new (0, 0)) (λ gained. ReadsOne place self.old self.new gained) }
     {
-        let fronts_word = 2 * usize::from(place);
-        let rears_word = fronts_word + 1;
-        let table = &board.table.shared;
-        let rears = table.load::<ReadRears>(&mut self.seat, rears_word);
-        let fronts = table.load::<ReadFronts>(&mut self.seat, fronts_word);
+        let (fronts, rears) = load_counts(board, &mut self.seat, place);
         let (fronts_before, rears_before) = self.totals.get(place);
-        let fronts = fronts as u32;
-        let rears = rears as u32;
-        put(&mut self.totals, place, (fronts, rears));
-        (fronts - fronts_before, rears - rears_before)
+        if fronts == fronts_before && rears == rears_before {
+            return None;
+        }
+        self.totals.set(place, (fronts, rears));
+        Some((fronts - fronts_before, rears - rears_before))
     }
 
     /// Takes what each detector counted since the last take: first its rears are loaded, and then its fronts, so that in all
@@ -67,8 +72,9 @@ impl TickPass {
     {
         frame.clear();
         for place in 0..board.detectors() {
-            let gained = self.read_one(board, place);
-            put(frame, place, gained);
+            if let Some(gained) = self.read_one(board, place) {
+                frame.set(place, gained);
+            }
         }
     }
 }
