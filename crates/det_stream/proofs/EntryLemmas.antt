@@ -1,9 +1,8 @@
 -- The parts of an entry, and an entry's judgement by what a reader keeps.
-use Rattle.std.proofs.Common.{◌≡◌, ℕ, ◌-◌, ◌<◌, ◌==◌, Bool, true, false, List, [], ◌∷◌, ◌++◌, take, get_or, length, Option, Some, None, refl, sym, ap, ◌∙◌, arith, length-append, if◌then◌else◌, cond, is_some, ◌&&◌, nat_le}
+use Rattle.std.proofs.Common.{◌≡◌, ℕ, ◌-◌, ◌<◌, ◌==◌, Bool, true, false, List, [], ◌∷◌, ◌++◌, length, Option, Some, None, refl, sym, ap, ◌∙◌, arith, length-append, if◌then◌else◌, cond, is_some, ◌&&◌, nat_le}
 use Rattle.std.specs.Option.{option_map}
 use Rattle.std.specs.List.{slice_split, onto_first}
 use Rattle.std.proofs.Math.Seq.{get_or-append_seam}
-use Rattle.std.proofs.lemmas.List.{get_or_default}
 use Rattle.std.proofs.lemmas.List.Splits.{length-slice_split}
 use Rattle.std.proofs.lemmas.Bool.{both_ways, le-leb}
 use Rattle.std.proofs.Common.{replicate, slice_set, inl, inr, ◌≤◌}
@@ -172,12 +171,6 @@ in_range last numbers d f r x y z is known few more =
       fell = λ le. (let there : nat_le n.a last ≡ true = rw inside.1 le in rw (n.are, inside.0, inner, inner', there) refl);
       rose = λ gt. (let there : nat_le n.a last ≡ false = rw inside.1 gt in rw (n.are, inside.0, inner, inner', there) refl);
     }
-
-pub entry_judged : (all so_far : List (List ℕ)) (n last : ℕ) (piece : List ℕ) → so_far ≡ take n all → last ≡ last_detector so_far → n < length all →
-    piece ≡ get_or all n piece → judge_entry (take n all) (get_or all n []) ≡ numbers_why last (numbers_of piece)
-entry_judged all so_far n last piece same kept lt is =
-    let there : get_or all n [] ≡ piece = get_or_default all n [] piece lt ∙ sym is in
-    rw (there, ← same, ← kept) refl
 
 pub last_pushed : (before : List (List ℕ)) (piece : List ℕ) (n : Numbers) → numbers_of piece ≡ Some n → last_detector (before ++ piece ∷ []) ≡ n.0
 last_pushed before piece n is =

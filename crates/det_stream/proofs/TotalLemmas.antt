@@ -18,22 +18,6 @@ pub silent_sum : (totals frame : Counts) (k : ℕ) → counts_at frame k ≡ (0,
     ((counts_at totals k).0 ≡ (counts_at totals k).0 + (counts_at frame k).0) × ((counts_at totals k).1 ≡ (counts_at totals k).1 + (counts_at frame k).1)
 silent_sum totals frame k none = rw none (omega arith, omega arith)
 
--- the sum, where the detectors of a span were added and no other has counts in the frame
-pub sum_in_span : (old frame new : Counts) (low high place : ℕ) → IsZeroOutside low high frame → high ≤ place →
-    ((k : ℕ) → k < place → (counts_at new k).0 ≡ (counts_at old k).0 + (counts_at frame k).0) →
-    ((k : ℕ) → k < place → (counts_at new k).1 ≡ (counts_at old k).1 + (counts_at frame k).1) →
-    ((k : ℕ) → place ≤ k → counts_at new k ≡ counts_at old k) → IsSum old frame new
-sum_in_span old frame new low high place outside end fronts_done rears_done left = record {
-  fronts_are = λ p lt. elim (cases_lt p place) [
-    | inl inside ↦ fronts_done p inside
-    | inr after ↦ rw (left p (omega arith)) (silent_sum old frame p (outside.after p (omega arith))).0
-  ];
-  rears_are = λ p lt. elim (cases_lt p place) [
-    | inl inside ↦ rears_done p inside
-    | inr after ↦ rw (left p (omega arith)) (silent_sum old frame p (outside.after p (omega arith))).1
-  ];
-}
-
 -- the counts so far, where no detector of a span has more rears than fronts
 pub within_span : (totals frame : Counts) (low high place : ℕ) → IsZeroOutside low high frame → high ≤ place → SilentWithinFronts frame totals →
     ((k : ℕ) → k < place → (counts_at totals k).1 ≤ (counts_at totals k).0) → RearsWithinFronts totals

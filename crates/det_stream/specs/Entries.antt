@@ -1,6 +1,6 @@
 -- The entries of a line.
-use Rattle.std.specs.Prelude.{ℕ, ◌-◌, Bool, not, ◌&&◌, List, [], ◌∷◌, length, replicate, slice_index_or, slice_set, fold, nat_le, Option, Some, None, Result, Ok, Err, is_some, true, ◌≡◌, if◌then◌else◌, ◌==◌}
-use Rattle.std.specs.List.{slice_split}
+use Rattle.std.specs.Prelude.{ℕ, ◌-◌, Bool, not, ◌&&◌, ◌||◌, List, [], ◌∷◌, length, take, replicate, slice_index_or, slice_set, fold, nat_le, Option, Some, None, Result, Ok, Err, is_some, true, ◌≡◌, ◌≤◌, if◌then◌else◌, ◌==◌}
+use Rattle.std.specs.List.{position_or_len, slice_split}
 use Rattle.sig_types.specs.Counts.{Counts}
 use Rattle.sig_types.specs.FirstRefused.{first_reason, first_refused}
 use Rattle.sig_types.specs.Text.{number_of}
@@ -11,6 +11,18 @@ use Rattle.det_stream.specs.declared.refusal.StreamWhy.TheVariants as why
 abbrev pub entries_of : List ℕ → List (List ℕ)
 entries_of [] = []
 entries_of (b ∷ bs) = slice_split (λ c. c == 32) (b ∷ bs)
+
+-- where the entry that a text begins with ends: at its first space, or its end
+abbrev pub entry_end : List ℕ → ℕ
+entry_end text = position_or_len (λ c. c == 32) text
+
+-- the entry that a text begins with
+abbrev pub first_entry : List ℕ → List ℕ
+first_entry text = take (entry_end text) text
+
+-- there is a space or the end of the text at this place
+abbrev pub ends_at : List ℕ → ℕ → Bool
+ends_at text n = n == length text || slice_index_or text n 0 == 32
 
 -- a decimal number of at most 9 digits
 abbrev pub field_number : List ℕ → Option ℕ
@@ -46,6 +58,12 @@ pub record AreNumbers (numbers : Option Numbers) (d f r : Option ℕ) : Type 0 w
 -- the numbers of an entry of the form d:f:r
 unfoldable pub numbers_of : List ℕ → Option Numbers
 numbers_of entry = numbers_in (slice_split (λ c. c == 58) entry)
+
+-- a text begins with an entry of this length that has these numbers
+pub record BeginsWith (text : List ℕ) (n : ℕ) (numbers : Numbers) : Type 0 where
+  pub end_is : entry_end text ≡ n
+  pub numbers_are : numbers_of (take n text) ≡ Some numbers
+  pub inside : n ≤ length text
 
 -- the numbers of an entry are those of these three parts
 abbrev pub HasNumbers : List ℕ → List ℕ → List ℕ → List ℕ → Type 0

@@ -1,11 +1,15 @@
 -- The counts so far of all detectors.
-use Rattle.std.specs.Prelude.{◌≡◌, ℕ, ◌+◌, ◌<◌, ◌≤◌, List, length, slice_index_or, Option, nat_lt}
+use Rattle.std.specs.Prelude.{◌≡◌, ℕ, ◌+◌, ◌<◌, ◌≤◌, List, length, slice_index_or, slice_set, Option, nat_lt}
 use Rattle.sig_types.specs.Counts.{Counts, fronts, rears, count_to}
 use Rattle.sig_types.specs.Words.{least_below}
 
 -- the fronts and rears at a place
 abbrev pub counts_at : Counts → ℕ → ℕ × ℕ
 counts_at counts p = slice_index_or counts p (0, 0)
+
+-- the counts with these added at that place
+abbrev pub with_counts : Counts → ℕ → ℕ × ℕ → Counts
+with_counts totals p c = slice_set totals p ((counts_at totals p).0 + c.0, (counts_at totals p).1 + c.1)
 
 -- at most so many fronts and rears of each detector
 abbrev pub HasAtMost : ℕ → Counts → Type 0

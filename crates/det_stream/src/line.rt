@@ -6,7 +6,7 @@ ghost use Rattle.det_stream.specs.Totals.{HasAtMost, IsSum, RearsWithinFronts};
 
 use crate::entries::read_entries;
 use crate::refusal::StreamWhy;
-use crate::totals::{add, judge_totals};
+use crate::totals::judge_totals;
 use sig_types::Frame;
 
 /// The most lines of a detector file.
@@ -46,10 +46,9 @@ pub fn read_line(
     if second == MOST_LINES {
         return Err(StreamWhy::TooManySeconds);
     }
-    match read_entries(line, frame) {
-        Ok(()) => {}
-        Err(why) => return Err(why),
+    match read_entries(line, totals, frame) {
+        Ok(true) => Ok(()),
+        Ok(false) => judge_totals(totals, frame),
+        Err(why) => Err(why),
     }
-    add(totals, frame);
-    judge_totals(totals, frame)
 }

@@ -80,15 +80,17 @@ impl Lines {
         ensures later { F.faults files.old ≤ F.faults files.new }
         ensures cause { result ≡ Err StreamRefusal.Fault → Rose (F.faults files.old) (F.faults files.new) }
     {
-        self.live = false;
         match self.reader.next_line(files) {
             Ok(true) => {}
-            Ok(false) => {
-                self.live = true;
-                return Ok(false);
+            Ok(false) => return Ok(false),
+            Err(LineRefusal::Fault) => {
+                self.live = false;
+                return Err(StreamRefusal::Fault);
             }
-            Err(LineRefusal::Fault) => return Err(StreamRefusal::Fault),
-            Err(LineRefusal::TooLong) => return Err(self.refusal(too_long(self.second))),
+            Err(LineRefusal::TooLong) => {
+                self.live = false;
+                return Err(self.refusal(too_long(self.second)));
+            }
         }
         let judged = read_line(
             self.second,
@@ -97,10 +99,10 @@ impl Lines {
             &mut self.frame,
         );
         if let Err(why) = judged {
+            self.live = false;
             return Err(self.refusal(why));
         }
         self.second += 1;
-        self.live = true;
         Ok(true)
     }
 
