@@ -58,8 +58,8 @@ digits_begin d f r more p q s ends = record {
   inside = omega arith;
 }
 
-more_begin : (t d f r : ℕ) (more : List ℕ) → is_digit t ≡ true → (t == 48) ≡ false → is_digit d ≡ true → is_digit f ≡ true → is_digit r ≡ true → position_or_len (λ c. c == 32) more ≡ 0 →
-    BeginsWith (t ∷ d ∷ 58 ∷ f ∷ 58 ∷ r ∷ more) 6 (10 * (t - 48) + (d - 48), f - 48, r - 48)
+more_begin : (t d f r : ℕ) (more : List ℕ) → is_digit t ≡ true → (t == 48) ≡ false → is_digit d ≡ true → is_digit f ≡ true → is_digit r ≡ true →
+    position_or_len (λ c. c == 32) more ≡ 0 → BeginsWith (t ∷ d ∷ 58 ∷ f ∷ 58 ∷ r ∷ more) 6 (10 * (t - 48) + (d - 48), f - 48, r - 48)
 more_begin t d f r more o first p q s ends = record {
   end_is = rw (no_space t o, no_space d p, no_space f q, no_space r s, ends) refl;
   numbers_are = more_numbers t d f r o first p q s;
@@ -80,7 +80,8 @@ digits_at (d ∷ a ∷ f ∷ []) v w x y z len ca cb ends p q s = absurd (omega 
 digits_at (d ∷ a ∷ f ∷ b ∷ []) v w x y z len ca cb ends p q s = absurd (omega (arith, len))
 
 pub more_digits_at : (xs : List ℕ) (u v w x y z : ℕ) → 6 ≤ length xs → get_or xs 2 w ≡ 58 → get_or xs 4 y ≡ 58 → ends_at xs 6 ≡ true →
-    is_digit (get_or xs 0 u) ≡ true → (get_or xs 0 u == 48) ≡ false → is_digit (get_or xs 1 v) ≡ true → is_digit (get_or xs 3 x) ≡ true → is_digit (get_or xs 5 z) ≡ true →
+    is_digit (get_or xs 0 u) ≡ true → (get_or xs 0 u == 48) ≡ false → is_digit (get_or xs 1 v) ≡ true →
+    is_digit (get_or xs 3 x) ≡ true → is_digit (get_or xs 5 z) ≡ true →
     BeginsWith xs 6 (10 * (get_or xs 0 u - 48) + (get_or xs 1 v - 48), get_or xs 3 x - 48, get_or xs 5 z - 48)
 more_digits_at (t ∷ d ∷ a ∷ f ∷ b ∷ r ∷ more) u v w x y z len ca cb ends o first p q s =
     let six : length (t ∷ d ∷ a ∷ f ∷ b ∷ r ∷ more) ≡ 6 + length more = omega arith in

@@ -50,10 +50,12 @@ unfolding refused_to numbers_of
 no_entries line some = record { left = some_entries line some; last_is = refl; accepted = refl; frame_is = refl }
 
 split_last : (rest : List ℕ) → entry_end rest ≡ length rest → slice_split at_space rest ≡ first_entry rest ∷ []
-split_last rest end = slice_split_none at_space rest (All-from_get_or (λ b. at_space b ≡ false) rest 0 (λ i lt. fails_before_first at_space rest i 0 (omega (arith, end))))
+split_last rest end = slice_split_none at_space rest
+    (All-from_get_or (λ b. at_space b ≡ false) rest 0 (λ i lt. fails_before_first at_space rest i 0 (omega (arith, end))))
     ∙ ap (λ (l : List ℕ). l ∷ []) (sym (take_all (entry_end rest) rest (omega (arith, end))))
 
-split_more : (rest : List ℕ) → entry_end rest < length rest → slice_split at_space rest ≡ first_entry rest ∷ slice_split at_space (drop (entry_end rest + 1) rest)
+split_more : (rest : List ℕ) → entry_end rest < length rest →
+    slice_split at_space rest ≡ first_entry rest ∷ slice_split at_space (drop (entry_end rest + 1) rest)
 split_more rest inside = slice_split_first at_space rest 0 inside
 
 -- the parts of a text behind its first entry
@@ -63,7 +65,8 @@ parted rest = elim (cases_lt (entry_end rest) (length rest)) [
   | inr outside ↦ ([], split_last rest (omega (arith, outside, end_inside rest)))
 ]
 
-here : (line rest : List ℕ) (last : ℕ) (frame : Counts) (n : ℕ) → (read : HasEntries line rest last frame n) → HeadAt (entries_of line) n (first_entry rest) (parted rest).0
+here : (line rest : List ℕ) (last : ℕ) (frame : Counts) (n : ℕ) → (read : HasEntries line rest last frame n) →
+    HeadAt (entries_of line) n (first_entry rest) (parted rest).0
 here line rest last frame n read = head_at (entries_of line) n (first_entry rest) (parted rest).0 (read.left ∙ (parted rest).1)
 
 judged_here : (line rest : List ℕ) (last : ℕ) (frame : Counts) (n : ℕ) → HasEntries line rest last frame n →
@@ -72,10 +75,11 @@ judged_here line rest last frame n read =
     ap (λ (e : List ℕ). numbers_why (last_detector (take n (entries_of line))) (numbers_of e)) (here line rest last frame n read).here
     ∙ ap (λ (l : ℕ). numbers_why l (numbers_of (first_entry rest))) (sym read.last_is)
 
-pub wrong_entry : (line rest : List ℕ) (last : ℕ) (frame : Counts) (why : StreamWhy) → (n : ℕ) × HasEntries line rest last frame n → numbers_why last (numbers_of (first_entry rest)) ≡ Some why →
-    entries_reason line ≡ Some why
+pub wrong_entry : (line rest : List ℕ) (last : ℕ) (frame : Counts) (why : StreamWhy) → (n : ℕ) × HasEntries line rest last frame n →
+    numbers_why last (numbers_of (first_entry rest)) ≡ Some why → entries_reason line ≡ Some why
 wrong_entry line rest last frame why read wrong =
-    refused_here judge_entry (entries_of line) [] why read.0 read.1.accepted (here line rest last frame read.0 read.1).inside (judged_here line rest last frame read.0 read.1 ∙ wrong)
+    refused_here judge_entry (entries_of line) [] why read.0 read.1.accepted
+    (here line rest last frame read.0 read.1).inside (judged_here line rest last frame read.0 read.1 ∙ wrong)
 
 -- the first n + 1 entries were accepted too, and have this frame
 record IsRight (line : List ℕ) (last : ℕ) (frame : Counts) (n : ℕ) : Type 0 where
@@ -83,8 +87,8 @@ record IsRight (line : List ℕ) (last : ℕ) (frame : Counts) (n : ℕ) : Type 
   accepted : refused_to judge_entry (entries_of line) [] (n + 1) ≡ None
   frame_is : frame ≡ entries_frame (take (n + 1) (entries_of line))
 
-right : (line rest : List ℕ) (last : ℕ) (frame : Counts) (n : ℕ) (e : Numbers) → HasEntries line rest last frame n → numbers_why last (numbers_of (first_entry rest)) ≡ None →
-    numbers_of (first_entry rest) ≡ Some e → IsRight line e.0 (slice_set frame (e.0 - 1) (e.1, e.2)) n
+right : (line rest : List ℕ) (last : ℕ) (frame : Counts) (n : ℕ) (e : Numbers) → HasEntries line rest last frame n →
+    numbers_why last (numbers_of (first_entry rest)) ≡ None → numbers_of (first_entry rest) ≡ Some e → IsRight line e.0 (slice_set frame (e.0 - 1) (e.1, e.2)) n
 right line rest last frame n e read accepted is =
     let head = here line rest last frame n read in
     let taken : take (n + 1) (entries_of line) ≡ take n (entries_of line) ++ first_entry rest ∷ [] =
@@ -96,17 +100,18 @@ right line rest last frame n e read accepted is =
     }
 
 -- more entries follow
-pub entry_read : (line rest : List ℕ) (last : ℕ) (frame : Counts) (e : Numbers) → (n : ℕ) × HasEntries line rest last frame n → numbers_why last (numbers_of (first_entry rest)) ≡ None →
-    numbers_of (first_entry rest) ≡ Some e → entry_end rest < length rest →
+pub entry_read : (line rest : List ℕ) (last : ℕ) (frame : Counts) (e : Numbers) → (n : ℕ) × HasEntries line rest last frame n →
+    numbers_why last (numbers_of (first_entry rest)) ≡ None → numbers_of (first_entry rest) ≡ Some e → entry_end rest < length rest →
     (n : ℕ) × HasEntries line (drop (entry_end rest + 1) rest) e.0 (slice_set frame (e.0 - 1) (e.1, e.2)) n
 entry_read line rest last frame e read accepted is inside =
     let next = right line rest last frame read.0 e read.1 accepted is in
-    let head = head_at (entries_of line) read.0 (first_entry rest) (slice_split at_space (drop (entry_end rest + 1) rest)) (read.1.left ∙ split_more rest inside) in
+    let head = head_at (entries_of line) read.0 (first_entry rest) (slice_split at_space (drop (entry_end rest + 1) rest))
+    (read.1.left ∙ split_more rest inside) in
     (read.0 + 1, record { left = head.after; last_is = next.last_is; accepted = next.accepted; frame_is = next.frame_is })
 
 -- the last entry of the line
-pub last_read : (line rest : List ℕ) (last : ℕ) (frame : Counts) (e : Numbers) → (n : ℕ) × HasEntries line rest last frame n → numbers_why last (numbers_of (first_entry rest)) ≡ None →
-    numbers_of (first_entry rest) ≡ Some e → entry_end rest ≡ length rest →
+pub last_read : (line rest : List ℕ) (last : ℕ) (frame : Counts) (e : Numbers) → (n : ℕ) × HasEntries line rest last frame n →
+    numbers_why last (numbers_of (first_entry rest)) ≡ None → numbers_of (first_entry rest) ≡ Some e → entry_end rest ≡ length rest →
     (entries_reason line ≡ None) × (slice_set frame (e.0 - 1) (e.1, e.2) ≡ frame_of line)
 last_read line rest last frame e read accepted is end =
     let next = right line rest last frame read.0 e read.1 accepted is in
@@ -149,16 +154,24 @@ so_far_is old totals frame last d sums rises most =
 put_here : (counts : Counts) (place p : ℕ) (item : ℕ × ℕ) → length counts ≡ 64 → place < 64 → p ≡ place → counts_at (slice_set counts place item) p ≡ item
 put_here counts place p item size lt same = get_or-set_at counts place p item nothing same (omega (arith, size))
 
-pub sums_more : (old totals frame : Counts) (last d f r : ℕ) → HasSums old totals frame last → length totals ≡ 64 → last < d → d ≤ 64 → f ≤ 99 → r ≤ 99 →
-    HasSums old (with_counts totals (d - 1) (f, r)) (slice_set frame (d - 1) (f, r)) d
+pub sums_more : (old totals frame : Counts) (last d f r : ℕ) → HasSums old totals frame last → length totals ≡ 64 → last < d → d ≤ 64 →
+    f ≤ 99 → r ≤ 99 → HasSums old (with_counts totals (d - 1) (f, r)) (slice_set frame (d - 1) (f, r)) d
 sums_more old totals frame last d f r sums size rises most few more = record {
   sum = record {
     fronts_are = λ p lt. elim (cases_eq p (d - 1)) [
-      | inl same ↦ rw (put_here totals (d - 1) p added size (omega arith) same, put_here frame (d - 1) p item sums.size (omega arith) same, same) (omega (arith, before.0))
+      | inl same ↦ rw (
+        put_here totals (d - 1) p added size (omega arith) same,
+        put_here frame (d - 1) p item sums.size (omega arith) same,
+        same,
+      ) (omega (arith, before.0))
       | inr other ↦ rw (get_or-set_other totals (d - 1) p added nothing other, get_or-set_other frame (d - 1) p item nothing other) (sums.sum.fronts_are p lt)
     ];
     rears_are = λ p lt. elim (cases_eq p (d - 1)) [
-      | inl same ↦ rw (put_here totals (d - 1) p added size (omega arith) same, put_here frame (d - 1) p item sums.size (omega arith) same, same) (omega (arith, before.1))
+      | inl same ↦ rw (
+        put_here totals (d - 1) p added size (omega arith) same,
+        put_here frame (d - 1) p item sums.size (omega arith) same,
+        same,
+      ) (omega (arith, before.1))
       | inr other ↦ rw (get_or-set_other totals (d - 1) p added nothing other, get_or-set_other frame (d - 1) p item nothing other) (sums.sum.rears_are p lt)
     ];
   };

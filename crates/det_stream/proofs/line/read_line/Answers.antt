@@ -13,13 +13,15 @@ returns-in-Err-clause-judged c before size short are =
 
 pub returns-in-Ok-true-clause-judged : goal.returns-in-Ok-true-clause-judged
 returns-in-Ok-true-clause-judged c before size short are =
-    judge_right before c.args.line.now c.args.totals.now c.read_entries.new.totals (omega (arith, size, c.requires.at_most, c.if-second-eq-MOST_LINES.false)) short c.in-Ok-true.ensures.judged are
+    judge_right before c.args.line.now c.args.totals.now c.read_entries.new.totals
+    (omega (arith, size, c.requires.at_most, c.if-second-eq-MOST_LINES.false)) short c.in-Ok-true.ensures.judged are
     (rw c.in-Ok-true.ensures.frame at c.in-Ok-true.ensures.sum)
     ∙ ap ahead_reason (none_ahead c.read_entries.new.totals (c.in-Ok-true.ensures.within_fronts c.in-Ok-true.field-0-test))
 
 pub returns-in-Ok-false-clause-judged : goal.returns-in-Ok-false-clause-judged
 returns-in-Ok-false-clause-judged c before size short are =
-    rw (judge_right before c.args.line.now c.args.totals.now c.read_entries.new.totals (omega (arith, size, c.requires.at_most, c.if-second-eq-MOST_LINES.false)) short c.in-Ok-false.ensures.judged are
+    rw (judge_right before c.args.line.now c.args.totals.now c.read_entries.new.totals
+    (omega (arith, size, c.requires.at_most, c.if-second-eq-MOST_LINES.false)) short c.in-Ok-false.ensures.judged are
     (rw c.in-Ok-false.ensures.frame at c.in-Ok-false.ensures.sum))
     c.judge_totals.ensures.judged
 
