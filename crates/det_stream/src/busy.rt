@@ -1,5 +1,5 @@
 // The lines in which a detector has counts.
-ghost use Rattle.std.specs.Prelude.{◌≡◌, ◌++◌, length, map, vec_items, IfOk, OnOk};
+ghost use Rattle.std.specs.Prelude.{◌≡◌, ◌++◌, length, map, IfOk, OnOk};
 ghost use Rattle.det_stream.specs.Busy.{KeepsLine, AreSilent, line_kept};
 
 use sig_types::{Frame, Memory};
@@ -12,7 +12,7 @@ pub struct BusyLine {
     pub counts: (u32, u32),
 }
 
-// Lists for 64 detectors, of no line.
+/// Lists for 64 detectors, of no line. It answers `Memory` where there is no room for them.
 pub fn no_lines(alloc: Global) -> Result<Vec<Vec<BusyLine>>, Memory>
     ensures { IfOk result (λ r. AreSilent (map (λ v. v.items) r.items)) }
 {
@@ -38,7 +38,8 @@ fn keep(lines: &mut Vec<BusyLine>, line: u32, counts: (u32, u32)) -> Result<(), 
     Ok(())
 }
 
-// Puts the line of this frame after the earlier ones of each detector that has counts in it.
+/// Puts the line of this frame, counted from 0, after the earlier ones of each detector that has counts in it. It answers
+/// `Memory` where one of them has no room.
 pub fn keep_line(detectors: &mut Vec<Vec<BusyLine>>, line: u32, frame: &Frame) -> Result<(), Memory>
     requires { length detectors.old.items ≡ 64 }
     ensures { OnOk result (KeepsLine line frame.now (map (λ v. v.items) detectors.old.items) (map (λ v. v.items) detectors.new.items)) }
