@@ -4,17 +4,17 @@ use Rattle.std.proofs.Math.ListN.{length-append}
 use Rattle.std.proofs.Math.Seq.{get_or-append_seam}
 use Rattle.sig_types.specs.declared.aspect.Aspect.{Aspect}
 use Rattle.sig_types.specs.declared.aspect.Aspect.TheVariants.{RedAmber, Green}
-use Rattle.sig_types.specs.Turns.{History, Picture, shown, trace, is_on, starts_at, turns_green_at}
+use Rattle.sig_types.specs.Turns.{History, Picture, shown, trace, starts_at, turns_green_at}
 use Rattle.sig_types.specs.Words.{last_below}
 use Rattle.sig_types.specs.Rules.{Rules, IsTwoWay}
 use Rattle.sig_guard.specs.declared.guard.Guard.{Guard}
 use Rattle.sig_guard.specs.Ages.{HasAge, age_at, next_age}
 use Rattle.sig_guard.specs.Safety.{IsHistory, Safe, Sequence}
-use Rattle.sig_guard.specs.Step.{shows_wish, is_left, natural_after, IsSteadyBelow, guard_picture}
+use Rattle.sig_guard.specs.Step.{shows_wish, IsSteady, IsSteadyBelow, guard_picture}
 use Rattle.sig_guard.specs.Stands.{kept_rules, HasPast}
 use Rattle.sig_guard.proofs.Aged.{aged_after, red_amber_since, green_since}
 use Rattle.sig_guard.proofs.LawProofs.{step_keeps_safe}
-use Rattle.sig_guard.proofs.Steady.{wish_lasts, wish_on, left_lasts, left_on}
+use Rattle.sig_guard.proofs.Steady.{wish_lasts, wish_on}
 use Rattle.std.proofs.lemmas.Bool.{cases_eq}
 
 pub length_is : (guard : Guard) (h : History) → HasPast guard h → length h ≡ suc (length h - 1)
@@ -27,20 +27,17 @@ next_is guard h s = omega (arith, s.seconds)
 pub shows : (guard : Guard) (h : History) (g : ℕ) → HasPast guard h → shown guard.picture g ≡ trace h g (length h - 1)
 shows guard h g s = ap (λ (p : Picture). shown p g) s.last
 
--- the groups that show what is wished of them do not turn, nor do those that are left
-pub shown_steady : (guard : Guard) (h : History) (w : List Bool) (n : ℕ) → HasPast guard h →
-    ((g : ℕ) → g < n → shows_wish (shown guard.picture g) (slice_index_or w g false) ≡ true) → IsSteadyBelow (kept_rules guard) h (length h - 1) w n
-shown_steady guard h w n s each = λ g lt.
-    let here = subst (λ (x : Aspect). shows_wish x (slice_index_or w g false) ≡ true) (shows guard h g s) (each g lt) in
+-- a group that shows what is wished of it does not turn
+pub shown_steady : (guard : Guard) (h : History) (w : List Bool) (g : ℕ) → HasPast guard h → shows_wish (shown guard.picture g) (slice_index_or w g false) ≡ true →
+    IsSteady (kept_rules guard) h (length h - 1) w g
+shown_steady guard h w g s shown_is =
+    let here = subst (λ (x : Aspect). shows_wish x (slice_index_or w g false) ≡ true) (shows guard h g s) shown_is in
     (wish_lasts _ _ (trace h g) (length h - 1) (trace h g (length h - 1)) (slice_index_or w g false) refl here, wish_on (trace h g (length h - 1)) (slice_index_or w g false) here)
 
-pub left_steady : (guard : Guard) (h : History) (w : List Bool) (n : ℕ) (x : Aspect) → HasPast guard h → IsSteadyBelow (kept_rules guard) h (length h - 1) w n →
-    x ≡ natural_after ((kept_rules guard).red_amber n) ((kept_rules guard).amber n) (trace h n) (length h - 1) →
-    is_left (shown guard.picture n) x (slice_index_or w n false) ≡ true → IsSteadyBelow (kept_rules guard) h (length h - 1) w (n + 1)
-left_steady guard h w n x s below natural left = λ g lt. elim (cases_eq g n) [
-  | inl same ↦ subst (λ (j : ℕ). (natural_after ((kept_rules guard).red_amber j) ((kept_rules guard).amber j) (trace h j) (length h - 1) ≡ trace h j (length h - 1))
-      × (is_on (trace h j (length h - 1)) ≡ slice_index_or w j false)) (sym same)
-      (sym natural ∙ left_lasts _ x (slice_index_or w n false) left ∙ shows guard h n s, ap is_on (sym (shows guard h n s)) ∙ left_on _ x (slice_index_or w n false) left)
+-- one group more
+pub steady_more : (r : Rules) (h : History) (m : ℕ) (w : List Bool) (n : ℕ) → IsSteadyBelow r h m w n → IsSteady r h m w n → IsSteadyBelow r h m w (n + 1)
+steady_more r h m w n below here = λ g lt. elim (cases_eq g n) [
+  | inl same ↦ subst (IsSteady r h m w) (sym same) here
   | inr ne ↦ below g (omega arith)
 ]
 

@@ -1,13 +1,12 @@
 -- Groups that last by nature as is wished of them do not turn; where all do so, the next second shows the same picture and refuses nothing.
 use Rattle.std.proofs.Common.{◌≡◌, ◌≢◌, ℕ, zero, suc, ◌+◌, ◌-◌, ◌<◌, ◌≤◌, inl, inr, subst, Bool, true, false, not, ◌&&◌, refl, arith, sym, ap, ◌∙◌, List, [], length, get_or, set, slice_index_or, add-one}
-use Rattle.std.proofs.lemmas.Bool.{cases_eq, and_parts}
+use Rattle.std.proofs.lemmas.Bool.{cases_eq}
 use Rattle.std.proofs.lemmas.List.{set-get_or, get_or-set_other}
 use Rattle.sig_types.specs.declared.aspect.Aspect.{Aspect}
 use Rattle.sig_types.specs.declared.aspect.Aspect.TheVariants.{Red, RedAmber, Green, Amber}
 use Rattle.sig_types.specs.Turns.{Picture, History, shown, trace, is_red, is_green, is_on}
 use Rattle.sig_types.specs.Rules.{Rules}
-use Rattle.sig_guard.specs.Step.{shows_wish, is_left, IsSteadyBelow, natural_after, natural_to, natural, wants_end, wants_start, end_breach, start_breach, ends_to, starts_to, refused_ends_to, refused_to, guard_picture, guard_refused}
-use Rattle.sig_guard.proofs.Aged.{same_is}
+use Rattle.sig_guard.specs.Step.{shows_wish, IsSteadyBelow, natural_after, natural_to, natural, wants_end, wants_start, end_breach, start_breach, ends_to, starts_to, refused_ends_to, refused_to, guard_picture, guard_refused}
 use Rattle.sig_guard.proofs.MachineLemmas.{natural_red, natural_green, ends_unwanted, starts_unwanted, listed_off}
 
 no_end : (x : Aspect) (b : Bool) → is_on x ≡ b → (is_on x && not b) ≡ false
@@ -50,17 +49,6 @@ wish_on Green true h = refl
 wish_on Green false h = absurd (cc)
 wish_on Amber true h = absurd (cc)
 wish_on Amber false h = refl
-
-pub left_on : (x y : Aspect) (b : Bool) → is_left x y b ≡ true → is_on x ≡ b
-left_on x y true h = (and_parts _ _ h).1
-left_on x y false h = off (is_on x) (and_parts _ _ h).1
-  where
-    off : (c : Bool) → not c ≡ true → c ≡ false
-    off true e = absurd (cc)
-    off false e = refl
-
-pub left_lasts : (x y : Aspect) (b : Bool) → is_left x y b ≡ true → y ≡ x
-left_lasts x y b h = sym (same_is x y (and_parts _ _ h).0)
 
 -- one group more: it lasts
 pub natural_left : (r : Rules) (h : History) (m g : ℕ) (p : Picture) → p ≡ natural_to r h m g →

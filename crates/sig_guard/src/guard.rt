@@ -130,7 +130,7 @@ impl Guard {
     ghost use Rattle.sig_types.specs.Turns.{ends_at};
     ghost use Rattle.sig_guard.specs.Count.{many};
     ghost use Rattle.sig_guard.specs.Stands.{kept_rules, HasPast};
-    ghost use Rattle.sig_guard.specs.Step.{natural_after, end_breach, start_breach, is_in_conflict, is_uncleared, natural as natural_spec, ends_to, starts_to, refused_ends_to, refused_to, refusal as refusal_spec, wants_end, wants_start, shows_wish, IsSteadyBelow};
+    ghost use Rattle.sig_guard.specs.Step.{natural_after, end_breach, start_breach, is_in_conflict, is_uncleared, natural as natural_spec, ends_to, starts_to, refused_ends_to, refused_to, refusal as refusal_spec, wants_end, wants_start, shows_wish, IsSteady, IsSteadyBelow};
 
     /// The second that comes next.
     fn now(&self) -> u32
@@ -175,18 +175,17 @@ impl Guard {
         self.ages[g as usize].last_end
     }
 
-    /// The first group that does not show what is wished of it, green or red, or else the number of groups.
-    fn first_unsteady(&self, wishes: &Wishes) -> u8
+    /// Whether each group shows what is wished of it, green or red. All are asked, whatever the first ones show, so that several
+    /// are asked at a time.
+    fn is_steady(&self, wishes: &Wishes) -> bool
         requires wished { length wishes.now ≡ (kept_rules self.now).count }
-        ensures below { (g : ℕ) → g < result → shows_wish (shown self.now.picture g) (slice_index_or wishes.now g false) ≡ true }
-        ensures at_most { result ≤ (kept_rules self.now).count }
+        ensures steady { result ≡ true → (g : ℕ) → g < (kept_rules self.now).count → shows_wish (shown self.now.picture g) (slice_index_or wishes.now g false) ≡ true }
     {
+        let mut others: u8 = 0;
         for g in 0..self.times.groups() {
-            if !shows_wish(self.aspect(g), wishes.get(g)) {
-                return g;
-            }
+            others += u8::from(!shows_wish(self.aspect(g), wishes.get(g)));
         }
-        self.times.groups()
+        others == 0
     }
 
     /// What the group shows in the next second by nature.
@@ -329,14 +328,27 @@ impl Guard {
         None
     }
 
+    /// Whether the group does not turn in the next second, by nature or by a wish.
+    fn stays(&self, wishes: &Wishes, g: u8) -> bool
+        requires group { g < (kept_rules self.now).count }
+        requires wished { length wishes.now ≡ (kept_rules self.now).count }
+        ensures stays { (h : History) → HasPast self.now h → result ≡ true → IsSteady (kept_rules self.now) h (length h - 1) wishes.now g }
+    {
+        let (aspect, green) = (self.aspect(g), wishes.get(g));
+        shows_wish(aspect, green) || is_left(aspect, self.natural_aspect(g), green)
+    }
+
     /// The first group that may turn in the next second, or else the number of groups.
     fn first_turning(&self, wishes: &Wishes) -> u8
         requires wished { length wishes.now ≡ (kept_rules self.now).count }
         ensures below { (h : History) → HasPast self.now h → IsSteadyBelow (kept_rules self.now) h (length h - 1) wishes.now result }
         ensures at_most { result ≤ (kept_rules self.now).count }
     {
-        for g in self.first_unsteady(wishes)..self.times.groups() {
-            if !is_left(self.aspect(g), self.natural_aspect(g), wishes.get(g)) {
+        if self.is_steady(wishes) {
+            return self.times.groups();
+        }
+        for g in 0..self.times.groups() {
+            if !self.stays(wishes, g) {
                 return g;
             }
         }

@@ -1,10 +1,12 @@
-use Rattle.std.proofs.Common.{rules}
-use Rattle.sig_guard.proofs.StandsAfter.{shown_steady, left_steady}
+use Rattle.std.proofs.Common.{◌-◌, length, arith}
+use Rattle.sig_guard.specs.Stands.{kept_rules}
+use Rattle.sig_guard.proofs.StandsAfter.{shown_steady, steady_more}
 use Rattle.sig_guard.proofs.guard.Guard.first_turning.Goals as goal
 
-pub loop-g-init : goal.loop-g-init
-loop-g-init c = λ h s. shown_steady c.args.self.now h c.args.wishes.now c.first_unsteady-g.result s c.first_unsteady-g.ensures.below
+pub returns-then-is_steady-clause-below : goal.returns-then-is_steady-clause-below
+returns-then-is_steady-clause-below c = λ h s g lt.
+    shown_steady c.args.self.now h c.args.wishes.now g s (c.is_steady.ensures.steady c.if-is_steady.true g (omega (arith, lt, c.groups.ensures.count)))
 
 pub loop-g-preserved : goal.loop-g-preserved
 loop-g-preserved c = λ h s.
-    left_steady c.args.self.now h c.args.wishes.now c.loop-g.g c.natural_aspect.result s (c.loop-g.invariant h s) (c.natural_aspect.ensures h s) (search rules)
+    steady_more (kept_rules c.args.self.now) h (length h - 1) c.args.wishes.now c.loop-g.g (c.loop-g.invariant h s) (c.stays.ensures.stays h s c.if-not-stays.false)

@@ -1,7 +1,0 @@
-use Rattle.std.proofs.Common.{◌≡◌, ℕ, ◌<◌, true, false, slice_index_or}
-use Rattle.sig_types.specs.Turns.{shown}
-use Rattle.sig_guard.specs.Step.{shows_wish}
-use Rattle.sig_guard.proofs.guard.Guard.first_unsteady.Given as goal
-
-abbrev pub invariant-loop-g : goal.invariant-loop-g
-invariant-loop-g l = (k : ℕ) → k < l.g → shows_wish (shown l.self.picture k) (slice_index_or l.wishes k false) ≡ true
