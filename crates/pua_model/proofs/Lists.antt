@@ -1,5 +1,5 @@
 -- What a plan's lists say of its parts.
-use Rattle.std.proofs.Common.{◌≡◌, ℕ, zero, suc, ◌<◌, ◌≤◌, ◌+◌, ◌==◌, Bool, true, false, ◌⊎◌, not, set, ◌&&◌, ◌||◌, List, [], ◌∷◌, length, get_or, Option, Some, None, refl, sym, ap, ◌∙◌, arith, map, nat_le, nat_lt, ℤ, pos, negsuc, inl, inr}
+use Rattle.std.proofs.Common.{◌≡◌, ℕ, zero, suc, ◌<◌, ◌≤◌, ◌+◌, ◌%◌, ◌==◌, Bool, true, false, ◌⊎◌, not, set, ◌&&◌, ◌||◌, List, [], ◌∷◌, length, get_or, Option, Some, None, refl, sym, ap, ◌∙◌, arith, map, nat_le, nat_lt, ℤ, pos, negsuc, inl, inr}
 use Rattle.std.specs.Prelude.{◌≤ℤ◌, ◌<ℤ◌, unsigned_abs, IfSome}
 use Rattle.std.proofs.lemmas.List.Quantifiers.{position-Some}
 use Rattle.sig_types.specs.declared.numbers.GroupNo.{GroupNo}
@@ -11,6 +11,8 @@ use Rattle.std.specs.Str.{IsAscii}
 use Rattle.std.proofs.lemmas.Bool.{and_parts, le-leb, leb-true, le-ltb, ne_eqb, eqb-true, eqb-false, ltb-true, ltb-false, cases_Bool}
 use Rattle.std.proofs.lemmas.Bool.Decides.{nat_tests}
 use Rattle.std.proofs.lemmas.Int.{ints}
+use mir.Val.{SFits, of_z}
+use mir.Syntax.{w32}
 use Rattle.pua_model.specs.declared.parts.Group.{Group}
 use Rattle.pua_model.specs.declared.parts.Stage.{Stage}
 use Rattle.std.proofs.lemmas.List.{length-map, get_or-map, length-set, get_or-set_same, get_or-set_other}
@@ -83,6 +85,16 @@ unfolding stage_of
 no_stage_of p (pos n) h = grind (arith, nat_tests)
 no_stage_of p (negsuc n) h = refl
 
+-- the bits of a number, less 1, are the place of its stage
+pub stage_in_place : (p : PlanOf) (z : ℤ) (m : ℕ) → SFits w32 z → m ≡ of_z w32 z → m < 4294967296 → length p.stages ≤ 32 →
+    ((m + 4294967295) % 4294967296 < length p.stages → stage_of p z ≡ Some m) × (length p.stages ≤ (m + 4294967295) % 4294967296 → stage_of p z ≡ None)
+stage_in_place p (pos zero) m fits is inside few =
+    (λ lt. absurd (omega (arith, is, few, lt)), λ le. no_stage_of p (pos 0) (λ above. absurd (omega (arith, ints, above))))
+stage_in_place p (pos (suc n)) m fits is inside few =
+    let here : (m + 4294967295) % 4294967296 ≡ n = omega (arith, is, inside) in
+    (λ lt. stage_of_number p (pos (suc n)) (omega (arith, ints)) (omega (arith, here, lt)) ∙ ap Some (omega (arith, is)), λ le. no_stage_of p (pos (suc n)) (λ above. omega (arith, here, le)))
+stage_in_place p (negsuc n) m fits is inside few = (λ lt. absurd (omega (arith, ints, fits, is, few, lt)), λ le. no_stage_of p (negsuc n) (λ above. absurd (omega (arith, ints, above))))
+
 pub greens_at : (stages : List Stage) (i : ℕ) (s : Stage) → i < length stages → s ≡ get_or stages i s → get_or (map (λ s. s.greens) stages) i [] ≡ s.greens
 greens_at stages i s lt is = get_or-map (λ s. s.greens) stages i s [] lt ∙ ap (λ s. s.greens) (sym is)
 
@@ -136,3 +148,13 @@ wished_more out wished before n k b h lt here =
         let ne : g ≡ k → ⊥ = eqb-false g k other in
         let less : g < k = less_than g k below ne in
         get_or-set_other out k g b false ne ∙ h.1 g less
+
+-- one group more, which is wished as it was before
+pub wished_left : (out : List Bool) (wished before : ℕ → Bool) (n k : ℕ) → Wished out wished before n k → k < n → before k ≡ wished k → Wished out wished before n (k + 1)
+wished_left out wished before n k h lt same_wish = (h.0, λ g below. one g below (cases_Bool (g == k)), λ g from lt2. h.2 g (omega (arith, from)) lt2)
+  where
+    one : (g : ℕ) → g < k + 1 → ((g == k) ≡ true) ⊎ ((g == k) ≡ false) → get_or out g false ≡ wished g
+    one g below (inl same) =
+        let e : g ≡ k = eqb-true g k same in
+        rw e (h.2 k (omega arith) lt ∙ same_wish)
+    one g below (inr other) = h.1 g (less_than g k below (eqb-false g k other))

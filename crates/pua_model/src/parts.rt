@@ -1,8 +1,8 @@
 // The parts of a plan.
-ghost use Rattle.std.specs.Prelude.{◌≡◌, ◌<◌, length, slice_index_or, None, pos};
+ghost use Rattle.std.specs.Prelude.{◌≡◌, ◌<◌, ℕ, length, slice_index_or, None, false, pos};
 ghost use Rattle.pua_model.specs.Wish.{wished_by};
 
-use crate::wish::wished;
+use crate::wish::{is_green_in, wished};
 use sig_types::{GroupNo, ShortName, StageNo, Wishes};
 use std::marker::Model;
 
@@ -85,5 +85,20 @@ impl Interstage {
         ensures { result ≡ wished_by (slice_index_or self.now.rows g.0 None) (pos t) before }
     {
         wished(self.row(g), i16::from(t), before)
+    }
+
+    /// Writes the wish in second `t` of each group that has a row. The others stay as they are in the from-stage.
+    pub(crate) fn wish_rows(&self, t: u8, out: &mut Wishes)
+        requires { length out.old ≡ length self.now.rows }
+        ensures groups { length out.new ≡ length out.old }
+        ensures wishes { (g : ℕ) → g < length out.old →
+            slice_index_or out.new g false ≡ wished_by (slice_index_or self.now.rows g None) (pos t) (slice_index_or out.old g false) }
+    {
+        let rows: &[Option<(i8, i8)>] = &self.rows;
+        for g in 0..out.len() {
+            if let Some(row) = rows[g as usize] {
+                out.set(g, is_green_in(row, t));
+            }
+        }
     }
 }

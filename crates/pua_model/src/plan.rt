@@ -137,8 +137,9 @@ impl Plan {
         ensures found { stage_number result ≡ stage_of self.now number }
         ensures stage { IfSome result (λ s. HasStage self.now s.0) }
     {
-        let wanted = number.unsigned_abs();
-        if 1 <= number && wanted <= self.stages.len() as u32 {
+        // Stages are numbered from 1. Less 1, the number 0 and negative numbers are past all stages, so one comparison is enough.
+        let wanted = number.cast_unsigned();
+        if wanted.wrapping_sub(1) < self.stages.len() as u32 {
             Some(StageNo(wanted as u8))
         } else {
             None
@@ -228,9 +229,6 @@ impl Plan {
     {
         let interstage = &self.interstages[i.0 as usize];
         self.stage_wishes(interstage.from_stage(), out);
-        for g in 0..self.groups() {
-            let green = interstage.wish(t, GroupNo(g), out.get(g));
-            out.set(g, green);
-        }
+        interstage.wish_rows(t, out);
     }
 }
