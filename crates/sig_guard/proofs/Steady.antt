@@ -7,6 +7,7 @@ use Rattle.sig_types.specs.declared.aspect.Aspect.TheVariants.{Red, RedAmber, Gr
 use Rattle.sig_types.specs.Turns.{Picture, History, shown, trace, is_red, is_green, is_on}
 use Rattle.sig_types.specs.Rules.{Rules}
 use Rattle.sig_guard.specs.Step.{shows_wish, IsSteadyBelow, natural_after, natural_to, natural, wants_end, wants_start, end_breach, start_breach, ends_to, starts_to, refused_ends_to, refused_to, guard_picture, guard_refused}
+use Rattle.sig_guard.proofs.Pictures.{set_if-other, ends_to-before, starts_to-before}
 use Rattle.sig_guard.proofs.MachineLemmas.{natural_red, natural_green, ends_unwanted, starts_unwanted, listed_off}
 
 no_end : (x : Aspect) (b : Bool) → is_on x ≡ b → (is_on x && not b) ≡ false
@@ -118,6 +119,35 @@ no_start_refused r h m w n zero steady le = refl
 no_start_refused r h m w n (suc k) steady le =
     listed_off _ k (start_breach r h m (starts_to r h m w k) k) (refused_ends_to r h m w r.count) _ (no_start_refused r h m w n k steady (omega arith))
     (no_start_wanted r h m w n k steady (omega arith))
+
+-- whatever the others do, the groups below n show what they showed
+ends_keep : (r : Rules) (h : History) (m : ℕ) (w : List Bool) (n k g : ℕ) → IsSteadyBelow r h m w n → g < n → shown (ends_to r h m w k) g ≡ shown (natural r h m) g
+ends_keep r h m w n zero g steady lt = refl
+ends_keep r h m w n (suc k) g steady lt = elim (cases_eq g k) [
+  | inl same ↦ (
+      let next = ends_unwanted r h m w g (natural r h m) (ends_to r h m w g) refl refl (no_end_wanted r h m w n g steady lt) ∙ ap (λ (j : ℕ). ends_to r h m w j) (add-one g) in
+      subst (λ (j : ℕ). shown (ends_to r h m w (suc j)) g ≡ shown (natural r h m) g) same
+      (ap (λ (q : Picture). shown q g) (sym next) ∙ ends_to-before r h m w g g (omega arith)))
+  | inr ne ↦ set_if-other _ (ends_to r h m w k) k g _ ne ∙ ends_keep r h m w n k g steady lt
+]
+
+starts_keep : (r : Rules) (h : History) (m : ℕ) (w : List Bool) (n k g : ℕ) → IsSteadyBelow r h m w n → g < n →
+    shown (starts_to r h m w k) g ≡ shown (ends_to r h m w r.count) g
+starts_keep r h m w n zero g steady lt = refl
+starts_keep r h m w n (suc k) g steady lt = elim (cases_eq g k) [
+  | inl same ↦ (
+      let next = starts_unwanted r h m w g (natural r h m) (starts_to r h m w g) refl refl (no_start_wanted r h m w n g steady lt) ∙ ap (λ (j : ℕ). starts_to r h m w j) (add-one g) in
+      subst (λ (j : ℕ). shown (starts_to r h m w (suc j)) g ≡ shown (ends_to r h m w r.count) g) same
+      (ap (λ (q : Picture). shown q g) (sym next) ∙ starts_to-before r h m w g g (omega arith)))
+  | inr ne ↦ set_if-other _ (starts_to r h m w k) k g _ ne ∙ starts_keep r h m w n k g steady lt
+]
+
+pub steady_keeps : (r : Rules) (h : History) (w : List Bool) (n g : ℕ) → IsSteadyBelow r h (length h - 1) w n → g < n →
+    shown (guard_picture r h w) g ≡ trace h g (length h - 1)
+unfolding guard_picture
+steady_keeps r h w n g steady lt =
+    starts_keep r h (length h - 1) w n r.count g steady lt ∙ ends_keep r h (length h - 1) w n r.count g steady lt
+    ∙ natural_keeps r h (length h - 1) r.count g (steady g lt).0
 
 pub steady_picture : (r : Rules) (h : History) (w : List Bool) → IsSteadyBelow r h (length h - 1) w r.count →
     get_or h (length h - 1) [] ≡ guard_picture r h w

@@ -81,7 +81,7 @@ impl Guard {
         self.show_ends(&natural, wishes, &mut picture, out, first);
         self.show_starts(&natural, wishes, &mut picture, out, first);
         let now = self.now();
-        age_all(&mut self.ages, &self.picture, &picture, now);
+        age_all(&mut self.ages, &self.picture, &picture, first, now);
         self.picture = picture;
         self.seconds = now;
     }
@@ -249,8 +249,9 @@ impl Guard {
         self.last_ended(i)
     }
 
-    /// Whether an end of `i` lies too close before a green of `g` that starts in the next second.
-    fn is_uncleared(&self, picture: &Picture, g: u8, i: u8) -> bool
+    /// Whether an end of `i` lies too close before the second `green`, in which `g` is green after a start in the next second.
+    fn is_uncleared(&self, picture: &Picture, green: u32, g: u8, i: u8) -> bool
+        requires green { green ≡ self.now.seconds + 1 + (kept_rules self.now).red_amber g }
         requires first { i < (kept_rules self.now).count }
         requires second { g < (kept_rules self.now).count }
         requires size { length picture.now ≡ (kept_rules self.now).count }
@@ -259,10 +260,7 @@ impl Guard {
             (trace (h ++ picture.now ∷ []) i) }
     {
         match self.intergreens.between(GroupNo(i), GroupNo(g)) {
-            Some(z) => {
-                let green = self.now() + u32::from(self.times.red_amber(GroupNo(g)));
-                green < self.last_end(picture, i) + u32::from(z)
-            }
+            Some(z) => { green < self.last_end(picture, i) + u32::from(z) }
             None => false,
         }
     }
@@ -292,8 +290,9 @@ impl Guard {
             (kept_rules self.now).count }
         ensures inside { IfSome result (λ i. i < (kept_rules self.now).count) }
     {
+        let green = self.now() + u32::from(self.times.red_amber(GroupNo(g)));
         for i in 0..self.times.groups() {
-            if self.is_uncleared(picture, g, i) {
+            if self.is_uncleared(picture, green, g, i) {
                 return Some(i);
             }
         }

@@ -1,11 +1,13 @@
-use Rattle.std.proofs.Common.{rules, ◌∙◌, ◌-◌, length, refl, arith}
-use Rattle.sig_types.specs.Turns.{shown}
-use Rattle.sig_guard.specs.Ages.{age_at}
+use Rattle.std.proofs.Common.{rules, ◌≡◌, ◌∙◌, ◌-◌, length, refl, sym, ap, inl, inr, arith}
+use Rattle.std.proofs.lemmas.Bool.{cases_lt}
+use Rattle.sig_types.specs.declared.aspect.Aspect.{Aspect}
+use Rattle.sig_types.specs.Turns.{Picture, shown}
+use Rattle.sig_guard.specs.Ages.{age_at, next_age}
 use Rattle.sig_guard.specs.Step.{IsSteadyBelow, guard_picture}
 use Rattle.sig_guard.specs.Stands.{kept_rules, StandsFor, rules as rules_of_guard}
 use Rattle.sig_guard.proofs.Aged.{stays_aged}
-use Rattle.sig_guard.proofs.StandsAfter.{stands_after}
-use Rattle.sig_guard.proofs.Steady.{steady_picture, steady_refused}
+use Rattle.sig_guard.proofs.StandsAfter.{shows, stands_after}
+use Rattle.sig_guard.proofs.Steady.{steady_picture, steady_refused, steady_keeps}
 use Rattle.sig_guard.proofs.TwoWay.{two_way}
 use Rattle.sig_guard.proofs.guard.Guard.step.Goals as goal
 
@@ -34,5 +36,13 @@ unfolding StandsFor rules_of_guard guard_picture
 returns-clause-history c = λ h s.
     let me = c.args.self.now in
     stands_after me _ c.args.wishes.now h refl (c.show_starts.ensures.picture h s) c.now-now.ensures.now
-    (λ g lt. c.age_all.ensures.each g (omega (arith, lt, me.aged)))
+    (λ g lt. elim (cases_lt g c.first_turning-first.result) [
+      | inl below ↦ (
+          let same : shown me.picture g ≡ shown c.show_starts.new.picture g =
+          shows me h g s ∙ sym (steady_keeps (kept_rules me) h c.args.wishes.now c.first_turning-first.result g (c.first_turning-first.ensures.below h s) below)
+          ∙ ap (λ (p : Picture). shown p g) (sym (c.show_starts.ensures.picture h s)) in
+          c.age_all.ensures.kept g below ∙ stays_aged (age_at me.ages.items g) (shown me.picture g) c.now-now.result
+          ∙ ap (λ (x : Aspect). next_age (age_at me.ages.items g) (shown me.picture g) x c.now-now.result) same)
+      | inr above ↦ c.age_all.ensures.each g above (omega (arith, lt, me.aged))
+    ])
     (two_way me.times me.intergreens me.pairs) s
