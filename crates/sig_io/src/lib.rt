@@ -10,7 +10,7 @@ mod sure;
 mod whole;
 
 pub use adapters::{DiskFiles, ErrSink, OutSink};
-pub use draft::Draft;
+pub use draft::{Draft, Piece};
 pub use gate::{FreeGate, Gate};
 pub use memory::{MemFiles, MemSink};
 pub use outside::{Failed, Files, Sink};

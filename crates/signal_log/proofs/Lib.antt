@@ -1,5 +1,7 @@
 pub mod CountTexts
+pub mod Digits
 pub mod FieldTexts
+pub mod Fronts
 pub mod Lists
 pub mod LogLaws
 pub mod Pieces
