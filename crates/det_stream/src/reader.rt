@@ -1,10 +1,11 @@
 // The lines of one file, read through a window that is taken once.
-ghost use Rattle.std.specs.Prelude.{◌≡◌, ℕ, ◌+◌, ◌-◌, ◌<◌, ◌≤◌, ◌^◌, ◌==◌, List, [], None, Some, length, take, drop, OnErr, IfOk, position, vec_len, Err};
+ghost use Rattle.std.specs.Prelude.{◌≡◌, ℕ, ◌+◌, ◌-◌, ◌<◌, ◌≤◌, ◌^◌, ◌==◌, List, [], None, Some, length, take, drop, OnErr, IfOk, IfSome, position, vec_len, Err};
 ghost use Rattle.std.specs.Option.{ForSome};
 ghost use Rattle.std.specs.Str.Lines.{strip_carriage_return};
 ghost use Rattle.det_stream.specs.Fill.{FillsBuffer};
 ghost use Rattle.sig_io.specs.Outside.{HasCause, Rose};
 
+use memchr::memchr;
 use sig_io::{Failed, Files};
 use sig_types::Memory;
 use std::alloc::Global;
@@ -23,6 +24,9 @@ const LONGEST: usize = 1024;
 
 // A line with its line end.
 const ENDED: usize = 1026;
+
+// How many bytes are searched at once where a line begins.
+const NEAR: usize = 32;
 
 // How many bytes are held at once.
 const WINDOW: usize = 65536;
@@ -79,10 +83,26 @@ fn fill<F: Files>(
     files.read_at(name, place, &mut buffer[end - start..])
 }
 
-// Where the first line feed stands.
+// Where the first line feed stands among the next 32 bytes, if there are so many.
+fn near_newline(bytes: &[u8]) -> Option<usize>
+    ensures { IfSome result (λ place. position (λ b. b == 10) bytes.now ≡ Some place) }
+{
+    if bytes.len() < NEAR {
+        return None;
+    }
+    memchr(b'\n', &bytes[..NEAR])
+}
+
+// Where the first line feed stands. Most lines are empty or short, and are asked for first.
 fn find_newline(bytes: &[u8]) -> Option<usize>
     ensures { result ≡ position (λ b. b == 10) bytes.now }
 {
+    if let [b'\n', ..] = bytes {
+        return Some(0);
+    }
+    if let Some(place) = near_newline(bytes) {
+        return Some(place);
+    }
     bytes.iter().position(|b| *b == b'\n')
 }
 
