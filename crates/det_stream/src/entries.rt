@@ -5,7 +5,7 @@ ghost use Rattle.det_stream.specs.Totals.{HasAtMost, IsSum, RearsWithinFronts};
 ghost use Rattle.det_stream.specs.Entries.{BeginsWith, HasNumbers, HasParts, IsJudged, ends_at, entries_reason, entry_end, field_number, first_entry, frame_of, numbers_of, numbers_why};
 
 use crate::refusal::StreamWhy;
-use crate::totals::add_counts;
+use crate::totals::{Totals, add_counts};
 use sig_types::Frame;
 use sig_types::text::{cut_at, is_digit, is_number, number};
 
@@ -228,7 +228,7 @@ fn next_entry(last: u32, text: &[u8]) -> Result<(Entry, usize), StreamWhy>
 
 /// Reads the entries of a line into a frame, whatever it had before, and adds them to the counts so far; whether no
 /// detector has more rears than fronts in these.
-pub fn read_entries(line: &[u8], totals: &mut Frame, frame: &mut Frame) -> Result<bool, StreamWhy>
+pub fn read_entries(line: &[u8], totals: &mut Totals, frame: &mut Frame) -> Result<bool, StreamWhy>
     requires totals { HasAtMost 59875101 totals.old }
     requires within_fronts { RearsWithinFronts totals.old }
     ensures judged { IsJudged (entries_reason line.now) result }

@@ -6,7 +6,7 @@ ghost use Rattle.det_stream.specs.Totals.{HasAtMost, IsSum, RearsWithinFronts};
 
 use crate::entries::read_entries;
 use crate::refusal::StreamWhy;
-use crate::totals::judge_totals;
+use crate::totals::{Totals, judge_totals};
 use sig_types::Frame;
 
 /// The most lines of a detector file.
@@ -28,7 +28,7 @@ pub fn too_long(second: u32) -> StreamWhy
 pub fn read_line(
     second: u32,
     line: &[u8],
-    totals: &mut Frame,
+    totals: &mut Totals,
     frame: &mut Frame,
 ) -> Result<(), StreamWhy>
     requires at_most { second ≤ 604800 }

@@ -8,6 +8,7 @@ ghost use Rattle.det_stream.specs.Unread.{bytes_given};
 use crate::line::{read_line, too_long};
 use crate::reader::{LineReader, LineRefusal};
 use crate::refusal::{StreamRefusal, StreamWhy};
+use crate::totals::Totals;
 use sig_io::Files;
 use sig_types::{Frame, Memory, Second};
 use std::alloc::Global;
@@ -17,7 +18,7 @@ use std::alloc::Global;
 #[derive(Drop)]
 pub struct Lines {
     reader: LineReader,
-    totals: Frame,
+    totals: Totals,
     frame: Frame,
     second: u32,
     live: bool,
@@ -45,7 +46,7 @@ impl Lines {
         };
         Ok(Lines {
             reader,
-            totals: Frame::empty(),
+            totals: Totals::zero(),
             frame: Frame::empty(),
             second: 0,
             live: true,
