@@ -1,12 +1,6 @@
-//! Tests of the top call: whole runs over files and sinks in memory, compared byte for byte, and hostile use.
+//! Tests of the top call: whole runs over files and sinks in memory, compared byte for byte.
 #![tactic(auto)]
 
-#[cfg(test)]
-mod codes;
-#[cfg(test)]
-mod faults;
-#[cfg(test)]
-mod hostile;
 #[cfg(test)]
 mod runs;
 #[cfg(test)]
