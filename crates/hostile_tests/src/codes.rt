@@ -7,14 +7,15 @@ use test_texts::programs::JUMP;
 
 const COMPILE: &[&str] = &["compile", "p.vap"];
 
-/// The bytes that a program is compiled to.
-pub fn compiled(alloc: Global, program: &[u8]) -> Result<Vec<u8>, Fail> {
+// The bytes that a program is compiled to.
+pub(crate) fn compiled(alloc: Global, program: &[u8]) -> Result<Vec<u8>, Fail> {
     let case = Case {
         words: COMPILE,
         program,
+        room: 10000,
         ..DONE
     };
-    let (status, out, notes) = run_over(alloc, &case, 10000)?;
+    let (status, out, notes) = run_over(alloc, &case)?;
     if status != Status::Done || !notes.bytes().is_empty() {
         return Err(Fail::new("not compiled"));
     }
@@ -137,8 +138,8 @@ fn looped(alloc: Global, instrs: u32, pairs: u32, rest: &str) -> Result<String, 
     Ok(text)
 }
 
-// Whether a code file without detector lines gives anything but the header alone.
-fn is_refused(alloc: Global, code: &[u8]) -> Result<bool, Fail> {
+// Whether a code file without detector lines is answered otherwise than by the header alone.
+fn fails_to_run(alloc: Global, code: &[u8]) -> Result<bool, Fail> {
     let case = Case {
         words: EXEC,
         program: code,
@@ -159,7 +160,7 @@ fn refuses_otherwise(alloc: Global, code: &[u8], line: u32, reason: &str) -> Res
 }
 
 #[test]
-fn code_files_are_judged(rt: HostRuntime) -> Result<(), Fail> {
+fn wrong_lines_are_told(rt: HostRuntime) -> Result<(), Fail> {
     let alloc = rt.alloc();
     for (change, line, reason) in WRONG {
         let code = changed(alloc, change)?;
@@ -168,10 +169,16 @@ fn code_files_are_judged(rt: HostRuntime) -> Result<(), Fail> {
             "{line} {reason}"
         );
     }
+    Ok(())
+}
+
+#[test]
+fn loops_and_heights_are_judged(rt: HostRuntime) -> Result<(), Fail> {
+    let alloc = rt.alloc();
     for (instrs, pairs, rest, wrong) in LOOPED {
         let code = looped(alloc, instrs, pairs, rest)?;
         let otherwise = match wrong {
-            None => is_refused(alloc, code.as_bytes())?,
+            None => fails_to_run(alloc, code.as_bytes())?,
             Some((line, reason)) => refuses_otherwise(alloc, code.as_bytes(), line, reason)?,
         };
         assert!(rt; !otherwise, "{instrs}");

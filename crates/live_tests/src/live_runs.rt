@@ -3,34 +3,45 @@ use crate::pair_gate::PairGate;
 use crate::sums::{file_sums, first_sums, log_sums};
 use junction_live::live;
 use junction_run::Status;
-use run_cases::cases::{Case, DONE, REFUSED, files, texts};
-use run_cases::watched::{WatchedFiles, WatchedSink};
-use sig_io::{FreeGate, Gate, MemFiles, MemSink};
+use run_cases::cases::{
+    CUT_RUN, Case, DECIMAL_RUN, DONE, FOUR_ARMS_RUN, ONE_WAY_RUN, REARS_AHEAD_RUN, RUN, files,
+    is_log, texts,
+};
+use run_cases::watched::{Side, failing};
+use sig_io::{Files, FreeGate, Gate, MemFiles, MemSink, Sink};
 use std::alloc::Global;
 use std::test::Fail;
 use std::thread::Threads;
-use test_texts::programs::{DECIMAL, FOUR_ARMS};
-use test_texts::sites::{
-    FOUR_ARMS_INTERGREENS, FOUR_ARMS_PLAN, FOUR_ARMS_TIMES, ONE_WAY, TWO_STAGES,
-};
 
-const LIVE: [&str; 6] = ["live", "p.vap", "p.pua", "t.csv", "g.csv", "d.txt"];
+const LIVE: &[&str] = &["live", "p.vap", "p.pua", "t.csv", "g.csv", "d.txt"];
 
 const HEADER: &[u8] = b"VAPLOG 1 K1 K2";
 
-// What a live run of a case answers, with so much room for its log.
+// What a live run answers to these words, over these files and this output, with the notes.
+fn live_answer<R: Threads + Sync, F: Files, O: Sink + Send, G: Gate>(
+    rt: &R,
+    alloc: Global,
+    words: &[&str],
+    files: &mut F,
+    out: &mut O,
+    gate: &G,
+) -> Result<(Status, MemSink), Fail> {
+    let words = texts(alloc, words)?;
+    let mut notes = MemSink::new(alloc, 1000, Vec::new(alloc))?;
+    let status = live(rt, alloc, &words, files, out, &mut notes, gate);
+    Ok((status, notes))
+}
+
+// What a live run of a case answers, with the output and the notes.
 fn play<R: Threads + Sync, G: Gate>(
     rt: &R,
     alloc: Global,
     case: &Case<'_>,
-    room: usize,
     gate: &G,
 ) -> Result<(Status, MemSink, MemSink), Fail> {
-    let words = texts(alloc, &LIVE)?;
     let mut files = MemFiles::new(files(alloc, case)?, Vec::new(alloc), 50);
-    let mut out = MemSink::new(alloc, room, Vec::new(alloc))?;
-    let mut notes = MemSink::new(alloc, 1000, Vec::new(alloc))?;
-    let status = live(rt, alloc, &words, &mut files, &mut out, &mut notes, gate);
+    let mut out = MemSink::new(alloc, case.room, Vec::new(alloc))?;
+    let (status, notes) = live_answer(rt, alloc, LIVE, &mut files, &mut out, gate)?;
     Ok((status, out, notes))
 }
 
@@ -42,7 +53,7 @@ const TWO_FRONTS: Case<'static> = Case {
 
 #[test]
 fn two_fronts_stand_in_two_seconds(rt: HostRuntime) -> Result<(), Fail> {
-    let (status, out, notes) = play(&rt, rt.alloc(), &TWO_FRONTS, 2000, &FreeGate)?;
+    let (status, out, notes) = play(&rt, rt.alloc(), &TWO_FRONTS, &FreeGate)?;
     let (sums, lines) = log_sums(out.bytes());
     assert_eq!(rt; status, Status::Done);
     assert_eq!(rt; lines, 3);
@@ -58,14 +69,11 @@ const TRAFFIC: &[u8] =
 #[test]
 fn four_arms_keep_their_sums(rt: HostRuntime) -> Result<(), Fail> {
     let case = Case {
-        program: FOUR_ARMS,
-        plan: FOUR_ARMS_PLAN,
-        times: FOUR_ARMS_TIMES,
-        intergreens: FOUR_ARMS_INTERGREENS,
         detectors: TRAFFIC,
-        ..DONE
+        room: 5000,
+        ..FOUR_ARMS_RUN
     };
-    let (status, out, _notes) = play(&rt, rt.alloc(), &case, 5000, &FreeGate)?;
+    let (status, out, _notes) = play(&rt, rt.alloc(), &case, &FreeGate)?;
     let (sums, lines) = log_sums(out.bytes());
     assert_eq!(rt; status, Status::Done);
     assert_eq!(rt; lines, 15);
@@ -75,172 +83,106 @@ fn four_arms_keep_their_sums(rt: HostRuntime) -> Result<(), Fail> {
 
 // What is refused, before the header is written.
 const REFUSALS: [Case<'static>; 4] = [
+    DECIMAL_RUN,
+    ONE_WAY_RUN,
     Case {
-        program: DECIMAL,
-        detectors: b"x\n",
-        note: b"junction: p.vap:2: Decimal\n",
-        ..REFUSED
-    },
-    Case {
-        intergreens: ONE_WAY,
-        note: b"junction: g.csv:2: OneWay K1 K2\n",
-        ..REFUSED
-    },
-    Case {
-        detectors: b"\n\n\n\n\n\n1:0:1\n",
-        status: Status::RefusedLine,
-        note: b"junction: d.txt:7: RearsAhead 1\n",
-        ..REFUSED
+        records: None,
+        ..REARS_AHEAD_RUN
     },
     Case {
         detectors: b"65:0:0\n",
         status: Status::RefusedLine,
+        records: None,
         note: b"junction: d.txt:1: Unknown\n",
-        ..REFUSED
+        ..DONE
     },
 ];
 
-// Whether a live run of a case is refused as it must be, with this note, and writes nothing.
-fn is_refused<R: Threads + Sync>(
-    rt: &R,
-    alloc: Global,
-    case: &Case<'_>,
-    note: &[u8],
-) -> Result<bool, Fail> {
-    let (status, out, notes) = play(rt, alloc, case, 2000, &FreeGate)?;
-    Ok(status == case.status && out.bytes().is_empty() && notes.bytes() == note)
+// Whether a live run of a case answers otherwise than it must.
+fn fails_live<R: Threads + Sync>(rt: &R, alloc: Global, case: &Case<'_>) -> Result<bool, Fail> {
+    let (status, out, notes) = play(rt, alloc, case, &FreeGate)?;
+    Ok(status != case.status || !is_log(out.bytes(), case.records) || notes.bytes() != case.note)
 }
 
 #[test]
 fn refusals_write_nothing(rt: HostRuntime) -> Result<(), Fail> {
     for (i, case) in REFUSALS.iter().enumerate() {
-        assert!(rt; is_refused(&rt, rt.alloc(), case, case.note)?, "case {i}");
+        assert!(rt; !fails_live(&rt, rt.alloc(), case)?, "case {i}");
     }
-    Ok(())
-}
-
-const WRONG_WORDS: [&[&str]; 3] = [
-    &["run", "p.vap", "p.pua", "t.csv", "g.csv", "d.txt"],
-    &["live", "a"],
-    &[],
-];
-
-#[test]
-fn words_are_judged_and_missing_files_told(rt: HostRuntime) -> Result<(), Fail> {
-    let alloc = rt.alloc();
-    for (i, words) in WRONG_WORDS.iter().enumerate() {
-        let words = texts(alloc, words)?;
-        let mut none = MemFiles::new(Vec::new(alloc), Vec::new(alloc), 50);
-        let mut out = MemSink::new(alloc, 10, Vec::new(alloc))?;
-        let mut notes = MemSink::new(alloc, 100, Vec::new(alloc))?;
-        let status = live(
-            &rt, alloc, &words, &mut none, &mut out, &mut notes, &FreeGate,
-        );
-        assert_eq!(rt; status, Status::Words, "words {i}");
-        assert!(rt; out.bytes().is_empty());
-        assert_eq!(rt; notes.bytes(), b"junction: Words\n".as_slice());
-    }
-    // All files but the last one.
-    let words = texts(alloc, &LIVE)?;
-    let mut some = files(alloc, &DONE)?;
-    some.pop();
-    let mut some = MemFiles::new(some, Vec::new(alloc), 50);
-    let mut out = MemSink::new(alloc, 10, Vec::new(alloc))?;
-    let mut notes = MemSink::new(alloc, 100, Vec::new(alloc))?;
-    let status = live(
-        &rt, alloc, &words, &mut some, &mut out, &mut notes, &FreeGate,
-    );
-    assert_eq!(rt; status, Status::ReadFault);
-    assert!(rt; out.bytes().is_empty());
-    assert_eq!(rt; notes.bytes(), b"junction: d.txt: ReadFault\n".as_slice());
     Ok(())
 }
 
 #[test]
 fn a_log_is_cut_where_the_sink_has_no_room(rt: HostRuntime) -> Result<(), Fail> {
-    let case = Case {
-        plan: TWO_STAGES,
-        detectors: b"\n\n\n\n",
-        ..DONE
-    };
-    let (status, out, notes) = play(&rt, rt.alloc(), &case, 50, &FreeGate)?;
-    assert_eq!(rt; status, Status::WriteFault);
-    assert_eq!(rt;
-        out.bytes(),
-        b"VAPLOG 1 K1 K2\n1|S1|RR|-|K1:Intergreen:K2|-\n2|S1|R".as_slice()
-    );
-    assert_eq!(rt; notes.bytes(), b"junction: WriteFault\n".as_slice());
+    assert!(rt; !fails_live(&rt, rt.alloc(), &CUT_RUN)?);
+    Ok(())
+}
+
+// Words that are no form over no files, and the words over all files but the last one.
+const FEW_FILES: [(&[&str], usize, Status, &[u8]); 4] = [
+    (RUN, 0, Status::Words, b"junction: Words\n"),
+    (&["live", "a"], 0, Status::Words, b"junction: Words\n"),
+    (&[], 0, Status::Words, b"junction: Words\n"),
+    (LIVE, 4, Status::ReadFault, b"junction: d.txt: ReadFault\n"),
+];
+
+#[test]
+fn words_are_judged_and_missing_files_told(rt: HostRuntime) -> Result<(), Fail> {
+    let alloc = rt.alloc();
+    for (words, count, wanted, note) in FEW_FILES {
+        let mut held = files(alloc, &DONE)?;
+        held.truncate(count);
+        let mut held = MemFiles::new(held, Vec::new(alloc), 50);
+        let mut out = MemSink::new(alloc, 10, Vec::new(alloc))?;
+        let (status, notes) = live_answer(&rt, alloc, words, &mut held, &mut out, &FreeGate)?;
+        assert_eq!(rt; status, wanted);
+        assert!(rt; out.bytes().is_empty());
+        assert_eq!(rt; notes.bytes(), note);
+    }
     Ok(())
 }
 
 // More calls than a live run of one line makes.
 const MOST: u64 = 500;
 
-// A live run over files that give one byte a call, of which the call of that number fails: nothing is asked for after the
-// failure, and nothing is written.
-fn with_read_fault<R: Threads + Sync>(
+// Whether a live run is done before its call of that number on this side, which fails; an error where it answers otherwise than
+// it must. After a read that failed nothing is asked for, and nothing is written. After a write that failed nothing is written,
+// and no event is counted twice.
+fn is_done_before<R: Threads + Sync>(
     rt: &R,
     alloc: Global,
-    case: &Case<'_>,
+    side: Side,
     call: u64,
-) -> Result<(Status, bool), Fail> {
-    let words = texts(alloc, &LIVE)?;
-    let mut files = WatchedFiles {
-        files: MemFiles::new(files(alloc, case)?, vec![in alloc; call]?, 1),
-        asked: Vec::new(alloc),
-    };
-    let mut out = MemSink::new(alloc, 2000, Vec::new(alloc))?;
-    let mut notes = MemSink::new(alloc, 1000, Vec::new(alloc))?;
-    let status = live(
-        rt, alloc, &words, &mut files, &mut out, &mut notes, &FreeGate,
-    );
-    let stopped = files.asked.last().copied() == Some(b'!');
-    Ok((status, stopped && out.bytes().is_empty()))
-}
-
-// The same with a sink that takes a few bytes a call: nothing is written after the failure, and no event is counted twice.
-fn with_write_fault<R: Threads + Sync>(
-    rt: &R,
-    alloc: Global,
-    case: &Case<'_>,
-    call: u64,
-) -> Result<(Status, bool), Fail> {
-    let words = texts(alloc, &LIVE)?;
-    let mut files = MemFiles::new(files(alloc, case)?, Vec::new(alloc), 50);
-    let mut out = WatchedSink {
-        sink: MemSink::new(alloc, 2000, vec![in alloc; call]?)?,
-        failed: false,
-        late: 0,
-    };
-    let mut notes = MemSink::new(alloc, 1000, Vec::new(alloc))?;
-    let status = live(
-        rt, alloc, &words, &mut files, &mut out, &mut notes, &FreeGate,
-    );
-    let (sums, _lines) = log_sums(out.sink.bytes());
-    Ok((
-        status,
-        out.failed && out.late == 0 && sums[0].0 <= 2 && sums[0].1 == 0,
-    ))
-}
-
-// How many calls fail one after the other, each as it must, until a live run meets no failure.
-fn failing_calls<R: Threads + Sync>(rt: &R, alloc: Global, writes: bool) -> Result<u64, Fail> {
-    for call in 0..MOST {
-        let (status, as_wanted) = if writes {
-            with_write_fault(rt, alloc, &TWO_FRONTS, call)?
-        } else {
-            with_read_fault(rt, alloc, &TWO_FRONTS, call)?
-        };
-        let wanted = if writes {
-            Status::WriteFault
-        } else {
-            Status::ReadFault
-        };
-        if status == Status::Done {
-            return Ok(call);
+) -> Result<bool, Fail> {
+    let (mut files, mut out) = failing(alloc, &TWO_FRONTS, side, call)?;
+    let (status, _notes) = live_answer(rt, alloc, LIVE, &mut files, &mut out, &FreeGate)?;
+    let as_wanted = match status {
+        Status::ReadFault => {
+            files.asked.last().copied() == Some(b'!') && out.sink.bytes().is_empty()
         }
-        if status != wanted || !as_wanted {
-            return Err(Fail::new("answers otherwise than it must"));
+        Status::WriteFault => {
+            let (sums, _lines) = log_sums(out.sink.bytes());
+            out.failed && out.late == 0 && sums[0].0 <= 2 && sums[0].1 == 0
+        }
+        Status::Done => true,
+        Status::Memory
+        | Status::Words
+        | Status::RefusedFile
+        | Status::RefusedLine
+        | Status::TooLong => false,
+    };
+    if as_wanted {
+        Ok(status == Status::Done)
+    } else {
+        Err(Fail::new("answers otherwise than it must"))
+    }
+}
+
+// How many calls fail one after the other until a live run is done before the next one.
+fn failing_calls<R: Threads + Sync>(rt: &R, alloc: Global, side: Side) -> Result<u64, Fail> {
+    for call in 0..MOST {
+        if is_done_before(rt, alloc, side, call)? {
+            return Ok(call);
         }
     }
     Err(Fail::new("never ends"))
@@ -248,8 +190,8 @@ fn failing_calls<R: Threads + Sync>(rt: &R, alloc: Global, writes: bool) -> Resu
 
 #[test]
 fn each_call_of_a_live_run_fails_in_turn(rt: HostRuntime) -> Result<(), Fail> {
-    let reads = failing_calls(&rt, rt.alloc(), false)?;
-    let writes = failing_calls(&rt, rt.alloc(), true)?;
+    let reads = failing_calls(&rt, rt.alloc(), Side::Read)?;
+    let writes = failing_calls(&rt, rt.alloc(), Side::Write)?;
     assert!(rt; 100 < reads && 5 < writes, "{reads} {writes}");
     Ok(())
 }
@@ -262,7 +204,7 @@ fn all_actors_run_at_once(rt: HostRuntime) -> Result<(), Fail> {
         ..DONE
     };
     let gate = PairGate::new();
-    let (status, out, _notes) = play(&rt, rt.alloc(), &case, 2000, &gate)?;
+    let (status, out, _notes) = play(&rt, rt.alloc(), &case, &gate)?;
     assert_eq!(rt; status, Status::Done);
     assert_eq!(rt; gate.given_up(), 0);
     let first = first_sums(out.bytes());

@@ -10,14 +10,14 @@ const TURNS: u32 = 100_000_000;
 
 /// Three pairs of calls, each of which returns only once the other of its pair was called.
 #[derive(Drop)]
-pub struct PairGate {
+pub(crate) struct PairGate {
     called: [AtomicU64; 6],
     gave_up: AtomicU64,
 }
 
 impl PairGate {
     /// No call was made.
-    pub fn new() -> PairGate {
+    pub(crate) fn new() -> PairGate {
         PairGate {
             called: [
                 AtomicU64::new(0),
@@ -32,7 +32,7 @@ impl PairGate {
     }
 
     /// How many calls gave up waiting.
-    pub fn given_up(&self) -> u64 {
+    pub(crate) fn given_up(&self) -> u64 {
         self.gave_up.load(Ordering::SeqCst)
     }
 

@@ -2,7 +2,7 @@
 use sig_types::text::cut_at;
 
 /// The fronts and the rears of each detector.
-pub type Sums = [(u32, u32); 64];
+pub(crate) type Sums = [(u32, u32); 64];
 
 fn number(digits: &[u8]) -> u32 {
     let mut n = 0u32;
@@ -33,7 +33,7 @@ fn add_counts(counts: &[u8], sums: &mut Sums) {
 }
 
 /// The sums of a detector file.
-pub fn file_sums(bytes: &[u8]) -> Sums {
+pub(crate) fn file_sums(bytes: &[u8]) -> Sums {
     let mut sums = [(0, 0); 64];
     for line in bytes.split(|b| *b == b'\n') {
         add_counts(line, &mut sums);
@@ -42,7 +42,7 @@ pub fn file_sums(bytes: &[u8]) -> Sums {
 }
 
 /// The sums of a log, and the number of its lines.
-pub fn log_sums(bytes: &[u8]) -> (Sums, usize) {
+pub(crate) fn log_sums(bytes: &[u8]) -> (Sums, usize) {
     let mut sums = [(0, 0); 64];
     let mut lines = 0usize;
     for line in bytes.split(|b| *b == b'\n') {
@@ -57,7 +57,7 @@ pub fn log_sums(bytes: &[u8]) -> (Sums, usize) {
 }
 
 /// The counts of the first record of a log.
-pub fn first_sums(bytes: &[u8]) -> Sums {
+pub(crate) fn first_sums(bytes: &[u8]) -> Sums {
     let mut sums = [(0, 0); 64];
     if let Some(line) = bytes.split(|b| *b == b'\n').nth(1)
         && let Some(counts) = line.split(|b| *b == b'|').nth(3)

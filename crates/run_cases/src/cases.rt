@@ -1,11 +1,18 @@
 // Runs over files in memory, and what they must answer.
+ghost use Rattle.std.specs.Prelude.{◌≡◌, ◌≢◌, [], IfOk, IsFalse, IsTrue, MatchOption, Some, map, string_bytes};
+ghost use Rattle.sig_types.specs.Text.{strip};
+ghost use Rattle.run_cases.specs.Logs.{header};
+
 use junction_run::{Status, junction};
 use sig_io::{Files, MemFiles, MemSink, Sink};
 use sig_types::text::strip;
 use std::alloc::{AllocError, Global};
 use std::test::Fail;
-use test_texts::programs::{EMPTY, JUMP, TIMER};
-use test_texts::sites::{DARK, INTERGREENS, TIMES, TWO_STAGES};
+use test_texts::programs::{DECIMAL, EMPTY, FOUR_ARMS, JUMP, TIMER};
+use test_texts::sites::{
+    DARK, FOUR_ARMS_INTERGREENS, FOUR_ARMS_PLAN, FOUR_ARMS_TIMES, INTERGREENS, ONE_WAY, TIMES,
+    TWO_STAGES,
+};
 
 const HEADER: &[u8] = b"VAPLOG 1 K1 K2\n";
 
@@ -30,6 +37,8 @@ pub struct Case<'a> {
     pub intergreens: &'a [u8],
     /// The bytes of the detector file.
     pub detectors: &'a [u8],
+    /// How many bytes the output takes.
+    pub room: usize,
     /// The status that is wanted.
     pub status: Status,
     /// What follows the header in the log that is wanted; None where nothing is to be written.
@@ -46,6 +55,7 @@ pub const DONE: Case<'static> = Case {
     times: TIMES,
     intergreens: INTERGREENS,
     detectors: b"",
+    room: 2000,
     status: Status::Done,
     records: Some(b""),
     note: b"",
@@ -55,6 +65,52 @@ pub const DONE: Case<'static> = Case {
 pub const REFUSED: Case<'static> = Case {
     status: Status::RefusedFile,
     records: None,
+    ..DONE
+};
+
+/// A program with a decimal number, before a detector file that is none.
+pub const DECIMAL_RUN: Case<'static> = Case {
+    program: DECIMAL,
+    detectors: b"x\n",
+    note: b"junction: p.vap:2: Decimal\n",
+    ..REFUSED
+};
+
+/// Intergreens of one way alone.
+pub const ONE_WAY_RUN: Case<'static> = Case {
+    intergreens: ONE_WAY,
+    note: b"junction: g.csv:2: OneWay K1 K2\n",
+    ..REFUSED
+};
+
+/// A rear without its front after six seconds.
+pub const REARS_AHEAD_RUN: Case<'static> = Case {
+    detectors: b"\n\n\n\n\n\n1:0:1\n",
+    status: Status::RefusedLine,
+    records: Some(
+        b"1|S1|RR|-|-|-\n2|S1|RR|-|-|-\n3|S1|RR|-|-|-\n4|S1|RR|-|-|-\n5|S1|RR|-|-|-\n6|S1|RR|-|-|-\n",
+    ),
+    note: b"junction: d.txt:7: RearsAhead 1\n",
+    ..DONE
+};
+
+/// A run whose log is cut where the output has no room.
+pub const CUT_RUN: Case<'static> = Case {
+    plan: TWO_STAGES,
+    detectors: b"\n\n\n\n",
+    room: 50,
+    status: Status::WriteFault,
+    records: Some(b"1|S1|RR|-|K1:Intergreen:K2|-\n2|S1|R"),
+    note: b"junction: WriteFault\n",
+    ..DONE
+};
+
+/// The junction of four arms, without a second.
+pub const FOUR_ARMS_RUN: Case<'static> = Case {
+    program: FOUR_ARMS,
+    plan: FOUR_ARMS_PLAN,
+    times: FOUR_ARMS_TIMES,
+    intergreens: FOUR_ARMS_INTERGREENS,
     ..DONE
 };
 
@@ -88,7 +144,9 @@ fn file(alloc: Global, name: &str, bytes: &[u8]) -> Result<(String, Vec<u8>), Al
 }
 
 /// The words as the calls take them.
-pub fn texts(alloc: Global, words: &[&str]) -> Result<Vec<String>, AllocError> {
+pub fn texts(alloc: Global, words: &[&str]) -> Result<Vec<String>, AllocError>
+    ensures { IfOk result (λ texts. map string_bytes texts.items ≡ map (λ word. word.now) words.now) }
+{
     let mut texts = Vec::new(alloc);
     for word in words {
         texts.push(String::from_str(alloc, word)?)?;
@@ -122,23 +180,25 @@ pub fn answer<F: Files, O: Sink>(
     Ok((status, notes))
 }
 
-/// What a case answers, with an output of so much room, and the notes.
-pub fn run_over(
-    alloc: Global,
-    case: &Case<'_>,
-    room: usize,
-) -> Result<(Status, MemSink, MemSink), Fail> {
+/// What a case answers, with the output and the notes.
+pub fn run_over(alloc: Global, case: &Case<'_>) -> Result<(Status, MemSink, MemSink), Fail> {
     let mut files = MemFiles::new(files(alloc, case)?, Vec::new(alloc), 65536);
-    let mut out = MemSink::new(alloc, room, Vec::new(alloc))?;
+    let mut out = MemSink::new(alloc, case.room, Vec::new(alloc))?;
     let (status, notes) = answer(alloc, case.words, &mut files, &mut out)?;
     Ok((status, out, notes))
 }
 
 /// Whether these bytes are the header with these records, or nothing where none were written.
-pub fn is_log(bytes: &[u8], records: Option<&[u8]>) -> bool {
+pub fn is_log(bytes: &[u8], records: Option<&[u8]>) -> bool
+    ensures yes { IsTrue result → MatchOption records.entry (bytes.now ≡ []) (λ records. strip header bytes.now ≡ Some records.now) }
+    ensures no { IsFalse result → MatchOption records.entry (bytes.now ≢ []) (λ records. strip header bytes.now ≢ Some records.now) }
+{
     match records {
         None => bytes.is_empty(),
-        Some(records) => strip(HEADER, bytes) == Some(records),
+        Some(records) => match strip(HEADER, bytes) {
+            Some(rest) => rest == records,
+            None => false,
+        },
     }
 }
 
@@ -153,7 +213,7 @@ pub fn is_log_front(bytes: &[u8], records: Option<&[u8]>) -> bool {
 
 /// Whether a case answers otherwise than it must, with this note.
 pub fn fails_with(alloc: Global, case: &Case<'_>, note: &[u8]) -> Result<bool, Fail> {
-    let (status, out, notes) = run_over(alloc, case, 2000)?;
+    let (status, out, notes) = run_over(alloc, case)?;
     Ok(status != case.status || !is_log(out.bytes(), case.records) || notes.bytes() != note)
 }
 

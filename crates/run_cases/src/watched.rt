@@ -1,7 +1,10 @@
 // Files and sinks of a test's own, which watch how they are called.
-ghost use Rattle.std.specs.Prelude.{None};
+ghost use Rattle.std.specs.Prelude.{◌≡◌, [], false, None, IfOk};
 
+use crate::cases::{Case, files};
 use sig_io::{Failed, Files, MemFiles, MemSink, Sink};
+use std::alloc::Global;
+use std::test::Fail;
 
 /// Files in memory that don't tell what they hold. They note the first byte of each name that is asked for, once while the same
 /// is asked for on and on, and a `!` for each call that fails; a name after a `!` is noted anew.
@@ -58,4 +61,39 @@ impl Sink for WatchedSink {
         self.failed = self.failed || taken.is_err();
         taken
     }
+}
+
+/// Whose call fails.
+#[derive(Clone, Copy)]
+pub enum Side {
+    /// A read of a file.
+    Read,
+    /// A write to the output.
+    Write,
+}
+
+/// The files of a case, which give one byte a call, and its output, of which the call of that number fails on this side.
+pub fn failing(
+    alloc: Global,
+    case: &Case<'_>,
+    side: Side,
+    call: u64,
+) -> Result<(WatchedFiles, WatchedSink), Fail>
+    ensures { IfOk result (λ made. (made.0.asked.items ≡ []) × (made.1.failed ≡ false) × (made.1.late ≡ 0)) }
+{
+    let calls = vec![in alloc; call]?;
+    let (reads, writes) = match side {
+        Side::Read => (calls, Vec::new(alloc)),
+        Side::Write => (Vec::new(alloc), calls),
+    };
+    let files = WatchedFiles {
+        files: MemFiles::new(files(alloc, case)?, reads, 1),
+        asked: Vec::new(alloc),
+    };
+    let out = WatchedSink {
+        sink: MemSink::new(alloc, case.room, writes)?,
+        failed: false,
+        late: 0,
+    };
+    Ok((files, out))
 }

@@ -1,7 +1,8 @@
 // Worked runs, byte for byte.
 use junction_run::Status;
 use run_cases::cases::{
-    Case, DONE, JUMP_RUN, REFUSED, RUN, TIMER_RUN, answer, fails, files, is_log, run_over,
+    CUT_RUN, Case, DECIMAL_RUN, DONE, FOUR_ARMS_RUN, JUMP_RUN, ONE_WAY_RUN, REARS_AHEAD_RUN,
+    REFUSED, RUN, TIMER_RUN, answer, fails, fails_with, files, run_over,
 };
 use run_cases::watched::WatchedFiles;
 use sig_io::{MemFiles, MemSink};
@@ -9,15 +10,15 @@ use sig_types::text::strip;
 use std::alloc::Global;
 use std::test::Fail;
 use test_texts::programs::{
-    ALL_UNITS, BOTH_GREEN, BOTH_SIDES, CALLS, DECIMAL, ENDLESS, ENDS_EARLY, FAULTS, FOUR_ARMS,
-    ONE_UNIT_MORE, TURNS,
+    ALL_UNITS, BOTH_GREEN, BOTH_SIDES, CALLS, DECIMAL, ENDLESS, ENDS_EARLY, FAULTS, ONE_UNIT_MORE,
+    TURNS,
 };
 use test_texts::sites::{
-    FOUR_ARMS_INTERGREENS, FOUR_ARMS_PLAN, FOUR_ARMS_TIMES, NO_WAIT_INTERGREENS, NO_WAIT_TIMES,
-    ONE_WAY, ROWS, TWO_STAGES, WRONG_ROWS,
+    NO_WAIT_INTERGREENS, NO_WAIT_TIMES, ONE_WAY, ROWS, TWO_STAGES, WRONG_ROWS,
 };
 
-const CASES: [Case<'static>; 17] = [
+// Signals, stages and what the guard refuses.
+const SIGNALS: [Case<'static>; 8] = [
     DONE,
     Case {
         plan: TWO_STAGES,
@@ -53,6 +54,12 @@ const CASES: [Case<'static>; 17] = [
         ..DONE
     },
     JUMP_RUN,
+    TIMER_RUN,
+    Case { plan: ROWS, ..DONE },
+];
+
+// How the passes of the program end.
+const PASSES: [Case<'static>; 6] = [
     Case {
         program: ENDLESS,
         detectors: b"\n\n",
@@ -91,27 +98,17 @@ const CASES: [Case<'static>; 17] = [
         records: Some(b"1|S1|RR|-|-|Budget@5\n"),
         ..DONE
     },
-    TIMER_RUN,
-    Case { plan: ROWS, ..DONE },
+];
+
+// Files and lines that are refused, and a log that is cut.
+const STOPPED: [Case<'static>; 4] = [
     Case {
-        program: DECIMAL,
-        note: b"junction: p.vap:2: Decimal\n",
-        ..REFUSED
+        detectors: b"",
+        ..DECIMAL_RUN
     },
-    Case {
-        intergreens: ONE_WAY,
-        note: b"junction: g.csv:2: OneWay K1 K2\n",
-        ..REFUSED
-    },
-    Case {
-        detectors: b"\n\n\n\n\n\n1:0:1\n",
-        status: Status::RefusedLine,
-        records: Some(
-            b"1|S1|RR|-|-|-\n2|S1|RR|-|-|-\n3|S1|RR|-|-|-\n4|S1|RR|-|-|-\n5|S1|RR|-|-|-\n6|S1|RR|-|-|-\n",
-        ),
-        note: b"junction: d.txt:7: RearsAhead 1\n",
-        ..DONE
-    },
+    ONE_WAY_RUN,
+    REARS_AHEAD_RUN,
+    CUT_RUN,
 ];
 
 // Of several wrong files the first one that is read is told.
@@ -133,16 +130,9 @@ const ORDER: [Case<'static>; 4] = [
     },
     Case {
         program: DECIMAL,
-        intergreens: ONE_WAY,
-        note: b"junction: g.csv:2: OneWay K1 K2\n",
-        ..REFUSED
+        ..ONE_WAY_RUN
     },
-    Case {
-        program: DECIMAL,
-        detectors: b"x\n",
-        note: b"junction: p.vap:2: Decimal\n",
-        ..REFUSED
-    },
+    DECIMAL_RUN,
 ];
 
 // The first case that answers otherwise than it must.
@@ -156,8 +146,20 @@ fn first_failing(alloc: Global, cases: &[Case<'_>]) -> Result<Option<usize>, Fai
 }
 
 #[test]
-fn logs_are_as_they_must(rt: HostRuntime) -> Result<(), Fail> {
-    assert_eq!(rt; first_failing(rt.alloc(), &CASES)?, None);
+fn signals_are_logged(rt: HostRuntime) -> Result<(), Fail> {
+    assert_eq!(rt; first_failing(rt.alloc(), &SIGNALS)?, None);
+    Ok(())
+}
+
+#[test]
+fn ends_of_passes_are_logged(rt: HostRuntime) -> Result<(), Fail> {
+    assert_eq!(rt; first_failing(rt.alloc(), &PASSES)?, None);
+    Ok(())
+}
+
+#[test]
+fn runs_stop_where_they_must(rt: HostRuntime) -> Result<(), Fail> {
+    assert_eq!(rt; first_failing(rt.alloc(), &STOPPED)?, None);
     Ok(())
 }
 
@@ -175,7 +177,7 @@ const NO_FILES: [(&[&str], Status, &[u8]); 3] = [
 ];
 
 #[test]
-fn words_and_sizes_are_judged(rt: HostRuntime) -> Result<(), Fail> {
+fn words_are_judged(rt: HostRuntime) -> Result<(), Fail> {
     let alloc = rt.alloc();
     for (words, wanted, note) in NO_FILES {
         let mut files = MemFiles::new(Vec::new(alloc), Vec::new(alloc), 50);
@@ -185,21 +187,28 @@ fn words_and_sizes_are_judged(rt: HostRuntime) -> Result<(), Fail> {
         assert!(rt; out.bytes().is_empty());
         assert_eq!(rt; notes.bytes(), note);
     }
-    // A plan filled up to its limit with blank lines, and one with a line more.
-    for (blank, wanted, records, note) in [
-        (0, Status::Done, Some(b"".as_slice()), b"".as_slice()),
-        (1, Status::TooLong, None, b"junction: p.pua: TooLong\n"),
-    ] {
+    Ok(())
+}
+
+// How many bytes a plan that is filled up with blank lines has beyond its limit, and what must be answered.
+const FILLED_UP: [(usize, Status, Option<&[u8]>, &[u8]); 2] = [
+    (0, Status::Done, Some(b""), b""),
+    (1, Status::TooLong, None, b"junction: p.pua: TooLong\n"),
+];
+
+#[test]
+fn sizes_are_judged(rt: HostRuntime) -> Result<(), Fail> {
+    let alloc = rt.alloc();
+    for (more, status, records, note) in FILLED_UP {
         let mut plan = Vec::from_slice(alloc, TWO_STAGES)?;
-        plan.resize(1048576 + blank, b'\n')?;
+        plan.resize(1048576 + more, b'\n')?;
         let case = Case {
             plan: plan.as_slice(),
+            status,
+            records,
             ..DONE
         };
-        let (status, out, notes) = run_over(alloc, &case, 100)?;
-        assert_eq!(rt; status, wanted);
-        assert!(rt; is_log(out.bytes(), records));
-        assert_eq!(rt; notes.bytes(), note);
+        assert!(rt; !fails_with(alloc, &case, note)?, "{more}");
     }
     Ok(())
 }
@@ -238,22 +247,15 @@ fn arms_record(alloc: Global, k: u32) -> Result<String, Fail> {
     }
 }
 
-const FOUR_ARMS_RUN: Case<'static> = Case {
-    program: FOUR_ARMS,
-    plan: FOUR_ARMS_PLAN,
-    times: FOUR_ARMS_TIMES,
-    intergreens: FOUR_ARMS_INTERGREENS,
-    ..DONE
-};
-
 // The log of an hour of the four arms without traffic.
 fn arms_log(alloc: Global) -> Result<MemSink, Fail> {
     let seconds = vec![in alloc; b'\n'; 3600]?;
     let case = Case {
         detectors: seconds.as_slice(),
+        room: 200000,
         ..FOUR_ARMS_RUN
     };
-    let (status, out, _notes) = run_over(alloc, &case, 200000)?;
+    let (status, out, _notes) = run_over(alloc, &case)?;
     if status != Status::Done {
         return Err(Fail::new("not done"));
     }
@@ -282,34 +284,22 @@ const LOG_OF_MOST: usize = 15
     + 604800 * 13
     + (9 + 2 * 90 + 3 * 900 + 4 * 9000 + 5 * 90000 + 6 * 504801);
 
-// The longest detector file, and a log that is cut where the sink has no room.
 #[test]
-fn runs_end_where_they_must(rt: HostRuntime) -> Result<(), Fail> {
+fn the_longest_run_ends(rt: HostRuntime) -> Result<(), Fail> {
     let alloc = rt.alloc();
     let seconds = vec![in alloc; b'\n'; 604801]?;
     let case = Case {
         detectors: seconds.as_slice(),
+        room: 20000000,
         ..DONE
     };
-    let (status, out, notes) = run_over(alloc, &case, 20000000)?;
+    let (status, out, notes) = run_over(alloc, &case)?;
     assert_eq!(rt; status, Status::RefusedLine);
     assert_eq!(rt;
         notes.bytes(),
         b"junction: d.txt:604801: TooManySeconds\n".as_slice()
     );
     assert_eq!(rt; out.bytes().len(), LOG_OF_MOST);
-    let case = Case {
-        plan: TWO_STAGES,
-        detectors: b"\n\n\n\n",
-        ..DONE
-    };
-    let (status, out, notes) = run_over(alloc, &case, 50)?;
-    assert_eq!(rt; status, Status::WriteFault);
-    assert_eq!(rt;
-        out.bytes(),
-        b"VAPLOG 1 K1 K2\n1|S1|RR|-|K1:Intergreen:K2|-\n2|S1|R".as_slice()
-    );
-    assert_eq!(rt; notes.bytes(), b"junction: WriteFault\n".as_slice());
     Ok(())
 }
 

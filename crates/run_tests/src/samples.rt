@@ -1,10 +1,8 @@
 // Samples: drawn detectors of a junction of four arms, and the summary of their records.
 use junction_run::Status;
-use run_cases::cases::{Case, DONE, run_over};
+use run_cases::cases::{Case, FOUR_ARMS_RUN, run_over};
 use std::alloc::Global;
 use std::test::Fail;
-use test_texts::programs::FOUR_ARMS;
-use test_texts::sites::{FOUR_ARMS_INTERGREENS, FOUR_ARMS_PLAN, FOUR_ARMS_TIMES};
 
 // No interstage begins in nine seconds, so the seed doesn't matter.
 const NINE: &[u8] =
@@ -21,13 +19,9 @@ const AN_HOUR: &[&str] = &["sample", "p.vap", "p.pua", "t.csv", "g.csv", "7", "3
 fn sampled(alloc: Global, words: &'static [&'static str]) -> Result<Vec<u8>, Fail> {
     let case = Case {
         words,
-        program: FOUR_ARMS,
-        plan: FOUR_ARMS_PLAN,
-        times: FOUR_ARMS_TIMES,
-        intergreens: FOUR_ARMS_INTERGREENS,
-        ..DONE
+        ..FOUR_ARMS_RUN
     };
-    let (status, out, notes) = run_over(alloc, &case, 1000)?;
+    let (status, out, notes) = run_over(alloc, &case)?;
     if status != Status::Done || !notes.bytes().is_empty() {
         return Err(Fail::new("no sample"));
     }
