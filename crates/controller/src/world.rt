@@ -142,6 +142,7 @@ impl SecondWorld<'_> {
     ghost use Rattle.controller.specs.World.{reading_in};
 
     #[tactic(auto, unfolding(crate::specs::World::reading_in))]
+    #[inline(always)]
     fn read_in(&self, kind: ReadingKind, a: i32, b: i32) -> Option<i32>
         ensures { (past : Past) (frames : List Counts) → Standing self.now.plan.now self.now.guard.now self.now.stages.now self.now.actuation.now past frames →
             self.now.second ≡ next past →
@@ -212,6 +213,7 @@ impl World for SecondWorld<'_> {
 
     ghost allows = { λ w command. IsCommand w.plan.now command };
 
+    #[inline(always)]
     fn reading(&self, kind: ReadingKind, a: i32, b: i32) -> Option<i32> {
         self.read_in(kind, a, b)
     }

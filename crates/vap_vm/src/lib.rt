@@ -14,6 +14,7 @@ mod passes;
 mod run;
 mod slots;
 mod steps;
+mod uses;
 mod world;
 
 pub use passes::{PassEnd, Vm};
