@@ -13,6 +13,11 @@ fn put_name(out: &mut String, name: &Name) -> Result<(), Fail> {
     Ok(())
 }
 
+fn put_named(out: &mut String, word: &str, name: &Name) -> Result<(), Fail> {
+    write!(out, "{word} ")?;
+    put_name(out, name)
+}
+
 #[cycle(shown_expr)]
 fn put_args(out: &mut String, args: &[Expr]) -> Result<(), Fail> {
     for arg in args {
@@ -82,14 +87,8 @@ fn put_stmt(out: &mut String, what: &Stmt) -> Result<(), Fail> {
             put_items(out, &no.0)?;
             write!(out, "}}")?;
         }
-        Stmt::Goto { label } => {
-            write!(out, "goto ")?;
-            put_name(out, label)?;
-        }
-        Stmt::Gosub { sub } => {
-            write!(out, "gosub ")?;
-            put_name(out, sub)?;
-        }
+        Stmt::Goto { label } => put_named(out, "goto", label)?,
+        Stmt::Gosub { sub } => put_named(out, "gosub", sub)?,
         Stmt::Do { kind, args } => {
             write!(out, "{kind:?}")?;
             put_args(out, args)?;
