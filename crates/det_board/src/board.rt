@@ -5,6 +5,7 @@ ghost use Rattle.det_board.specs.Rule.{most_fronts};
 use crate::rule::{Counting, Front, Rear};
 use crate::view::View;
 use atomic_table::{Seat, Table};
+use crossbeam_utils::CachePadded;
 use std::alloc::Global;
 use std::marker::Model;
 
@@ -26,24 +27,32 @@ impl Model for Board {
     ghost invariant = { λ b. (b.table.shared.key ≡ b.detectors) × (b.table.shared.table_id.words ≡ 2 * b.detectors) × (0 < b.detectors) × (b.detectors ≤ 64) × (b.table.shared.table_id.slots ≡ 0) };
 }
 
+// What a feeder's thread writes at each event.
+#[derive(Clone, Copy)]
+pub(crate) struct FeederCounts {
+    pub(crate) fronts: u32,
+    pub(crate) rears: u32,
+}
+
+// The passes stand side by side in a list, and each is used by a thread of its own: so its counts have their own cache line.
 /// The right to count the fronts and rears of one detector. Contracts see it as the board's table, the detector's place from 0
 /// and its own counts.
 #[derive(Drop)]
 pub struct FeederPass {
     pub(crate) seat: Seat<(), View>,
     pub(crate) place: u8,
-    pub(crate) fronts: u32,
-    pub(crate) rears: u32,
+    pub(crate) counts: CachePadded<FeederCounts>,
 }
 
 impl Model for FeederPass {
+    ghost use Rattle.crossbeam_utils.specs.Padded.{padded_value};
     ghost use Rattle.det_board.specs.Passes.{Feeding, IsFeeding};
 
     ghost Value = { Feeding };
 
-    ghost view = { λ p. record { table = p.seat.table_id; place = p.place; fronts = p.fronts; rears = p.rears } };
+    ghost view = { λ p. record { table = p.seat.table_id; place = p.place; fronts = (padded_value p.counts).fronts; rears = (padded_value p.counts).rears } };
 
-    ghost invariant = { λ p. IsFeeding p.seat.table_id p.seat.me p.place p.fronts p.rears };
+    ghost invariant = { λ p. IsFeeding p.seat.table_id p.seat.me p.place (padded_value p.counts).fronts (padded_value p.counts).rears };
 }
 
 impl Board {
@@ -68,7 +77,7 @@ impl FeederPass {
             .table
             .shared
             .fetch_add::<Front>(&mut self.seat, 2 * usize::from(self.place), 1);
-        self.fronts += 1;
+        self.counts.fronts += 1;
     }
 
     /// A rear: one atomic step on the board.
@@ -81,20 +90,20 @@ impl FeederPass {
             .table
             .shared
             .fetch_add::<Rear>(&mut self.seat, 2 * usize::from(self.place) + 1, 1);
-        self.rears += 1;
+        self.counts.rears += 1;
     }
 
     /// How many fronts this pass has counted.
     pub fn fronts(&self) -> u32
         ensures { result ≡ self.now.fronts }
     {
-        self.fronts
+        self.counts.fronts
     }
 
     /// How many rears this pass has counted.
     pub fn rears(&self) -> u32
         ensures { result ≡ self.now.rears }
     {
-        self.rears
+        self.counts.rears
     }
 }

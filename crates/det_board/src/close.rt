@@ -4,7 +4,7 @@ ghost use Rattle.det_board.specs.Rule.{dealt_of, loads_of, owned_of};
 ghost use Rattle.det_board.specs.Passes.{AreAll, Closes, WithinCounts};
 ghost use Rattle.det_board.specs.declared.view.View.TheVariants.{Tick};
 
-use crate::board::{Board, FeederPass};
+use crate::board::{Board, FeederCounts, FeederPass};
 use crate::rule::GiveBack;
 use crate::tick::TickPass;
 use crate::view::View;
@@ -44,10 +44,10 @@ fn give_back(board: &Board, seat: &mut Seat<(), View>, feeder: FeederPass) -> (u
     let FeederPass {
         seat: other,
         place: _,
-        fronts,
-        rears,
+        counts,
     } = feeder;
     board.table.shared.join_seat::<GiveBack>(seat, other);
+    let FeederCounts { fronts, rears } = counts.into_inner();
     (fronts, rears)
 }
 

@@ -2,11 +2,12 @@
 ghost use Rattle.std.specs.Prelude.{◌≡◌, ◌+◌, ◌*◌, ◌<◌, ◌≤◌, [], replicate, IfOk};
 ghost use Rattle.det_board.specs.Passes.{IsOpening, Undealt};
 
-use crate::board::{Board, FeederPass};
+use crate::board::{Board, FeederCounts, FeederPass};
 use crate::rule::Deal;
 use crate::tick::TickPass;
 use crate::view::View;
 use atomic_table::{Seat, Table};
+use crossbeam_utils::CachePadded;
 use sig_types::{Frame, Memory};
 use std::alloc::Global;
 
@@ -75,7 +76,9 @@ fn deal(board: &Board, seat: &mut Seat<(), View>, place: u8) -> FeederPass
     FeederPass {
         seat: board.table.shared.split_seat::<Deal>(seat),
         place,
-        fronts: 0,
-        rears: 0,
+        counts: CachePadded::new(FeederCounts {
+            fronts: 0,
+            rears: 0,
+        }),
     }
 }
