@@ -1,18 +1,27 @@
 -- The rule at the start.
-use Rattle.std.proofs.Common.{◌≡◌, ℕ, zero, suc, ◌*◌, ◌<◌, ◌≤◌, List, [], ◌∷◌, length, take, refl, sym, ap, ◌∙◌, subst, arith, replicate, Some, None}
+use Rattle.std.proofs.Common.{◌≡◌, ℕ, zero, suc, ◌+◌, ◌*◌, ◌<◌, ◌≤◌, List, [], ◌∷◌, length, take, refl, sym, ap, ◌∙◌, subst, arith, replicate, Some, None}
 use Rattle.std.specs.Prelude.{slice_index, slice_index_or}
-use Rattle.std.proofs.lemmas.List.{take-replicate}
+use Rattle.std.proofs.lemmas.List.{take-replicate, get_or-replicate}
 use mathlib.Core.Option.{some, some-injective, some-ne-none}
 use lib.ListN.{get_elem?}
 use Rattle.atomic_table.specs.Table.{opening}
 use Rattle.det_board.specs.declared.view.View.{View}
 use Rattle.det_board.specs.declared.view.View.TheVariants.{Tick}
 use Rattle.det_board.specs.Rule.{last_from, last_read, owned_by, fronts_word, rears_word, CountsAt, Fits, Keeps, opening_view}
+use Rattle.det_board.specs.Passes.{AreSums}
 
 pub all_zero : (n d : ℕ) → let z : ℕ × ℕ = (0, 0) in slice_index_or (replicate n z) d z ≡ z
 all_zero zero d = refl
 all_zero (suc n) zero = refl
 all_zero (suc n) (suc d) = all_zero n d
+
+-- the sums of no counts
+pub zero_sums : AreSums (replicate 64 (0, 0)) (replicate 64 0)
+zero_sums = record {
+  size = refl;
+  sums_count = refl;
+  sum = λ d low. let z : ℕ × ℕ = (0, 0) in get_or-replicate 64 d 0 0 low ∙ ap (λ (p : ℕ × ℕ). p.0 + p.1) (sym (all_zero 64 d));
+}
 
 zeros : (n i : ℕ) → slice_index (replicate n 0) i ≡ 0
 zeros zero i = refl

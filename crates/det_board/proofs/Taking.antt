@@ -95,5 +95,10 @@ one_taken n old mid new frame g t one low =
     } in
     subst (λ (new : Ticking). Taking (n + 1) old new (set frame n g)) (λ i. record { table = sym one.table i; loads = sym one.loads i }) done
 
+-- the next one is taken
+pub next_taken : (n : ℕ) (old mid new : Ticking) (was now : List (ℕ × ℕ)) → Taking n old mid was → n < 64
+    → (g : ℕ × ℕ) × ReadsOne n mid new g × (now ≡ set was n g) → Taking (n + 1) old new now
+next_taken n old mid new was now t low one = subst (Taking (n + 1) old new) (sym one.2) (one_taken n old mid new was one.0 t one.1 low)
+
 pub all_taken : (n : ℕ) (old new : Ticking) (frame : List (ℕ × ℕ)) → Taking n old new frame → Takes n old new frame
 all_taken n old new frame t = record { table = t.table; fronts = t.fronts; rears = t.rears; size = t.size; gains = t.gains; absent = t.absent; ordered = t.ordered }

@@ -59,6 +59,20 @@ pub record IsTicking (id : TableId) (me : Me (Unit {0}) View) (totals : Counts) 
       (last_read (loads_of me.0) (rears_word d) ≤ last_read (loads_of me.0) (fronts_word d))
       × (last_read (loads_of me.0) (fronts_word d) ≤ most_fronts)
 
+-- each sum is that of the fronts and rears at its place
+pub record AreSums (counts : Counts) (sums : List ℕ) : Type 0 where
+  pub size : length counts ≡ 64
+  pub sums_count : length sums ≡ 64
+  pub sum : (d : ℕ) → d < 64 → slice_index_or sums d 0 ≡ (slice_index_or counts d (0, 0)).0 + (slice_index_or counts d (0, 0)).1
+
+-- the detector at place d, whose counts stand in `counts`, may now have the counts c
+pub record GrowsTo (counts : Counts) (d : ℕ) (c : ℕ × ℕ) : Type 0 where
+  pub inside : d < 64
+  pub fronts : (slice_index_or counts d (0, 0)).0 ≤ c.0
+  pub rears : (slice_index_or counts d (0, 0)).1 ≤ c.1
+  pub ordered : c.1 ≤ c.0
+  pub bounded : c.0 ≤ most_fronts
+
 -- the tick's seat after it loaded both words of the detector at place d, first that of its rears; it found c
 pub record LoadsOne (d : ℕ) (id : TableId) (me : Me (Unit {0}) View) (id' : TableId) (me' : Me (Unit {0}) View) (c : ℕ × ℕ) : Type 0 where
   pub table : id' ≡ id

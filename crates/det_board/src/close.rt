@@ -7,6 +7,7 @@ ghost use Rattle.det_board.specs.declared.view.View.TheVariants.{Tick};
 use crate::board::{Board, FeederCounts, FeederPass};
 use crate::rule::GiveBack;
 use crate::tick::TickPass;
+use crate::totals::Totals;
 use crate::view::View;
 use atomic_table::Seat;
 use sig_types::Frame;
@@ -64,7 +65,7 @@ fn close(board: Board, seat: Seat<(), View>)
 }
 
 // The counts that have not been read.
-fn rest(detectors: u8, totals: &Frame, counts: &Frame) -> Frame
+fn rest(detectors: u8, totals: &Totals, counts: &Frame) -> Frame
     requires room { detectors ≤ 64 }
     requires read { (d : ℕ) → d < detectors →
         ((slice_index_or totals.now d (0, 0)).0 ≤ (slice_index_or counts.now d (0, 0)).0)

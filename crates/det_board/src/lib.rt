@@ -10,6 +10,7 @@ pub mod laws;
 mod make;
 mod rule;
 mod tick;
+mod totals;
 mod view;
 
 pub use board::{Board, FeederPass};

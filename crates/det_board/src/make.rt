@@ -5,10 +5,11 @@ ghost use Rattle.det_board.specs.Passes.{IsOpening, Undealt};
 use crate::board::{Board, FeederCounts, FeederPass};
 use crate::rule::Deal;
 use crate::tick::TickPass;
+use crate::totals::Totals;
 use crate::view::View;
 use atomic_table::{Seat, Table};
 use crossbeam_utils::CachePadded;
-use sig_types::{Frame, Memory};
+use sig_types::Memory;
 use std::alloc::Global;
 
 /// A board for 1 to 64 detectors with no count, a feeder's pass for each detector in order, and the tick's pass.
@@ -46,7 +47,7 @@ fn deal_all(
     }
     let tick = TickPass {
         seat,
-        totals: Frame::empty(),
+        totals: Totals::zero(),
     };
     Ok((feeders, tick))
 }

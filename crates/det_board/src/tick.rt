@@ -1,11 +1,12 @@
 // The tick's pass, which reads the board.
-ghost use Rattle.std.specs.Prelude.{◌≡◌, ◌<◌, [], length, MatchOption};
+ghost use Rattle.std.specs.Prelude.{◌≡◌, ℕ, ◌<◌, [], length, slice_index_or, slice_set};
 ghost use Rattle.det_board.specs.Rule.{dealt_of, loads_of, owned_of};
 ghost use Rattle.det_board.specs.Passes.{LoadsOne, ReadsOne, Takes};
 ghost use Rattle.det_board.specs.declared.view.View.TheVariants.{Tick};
 
 use crate::board::Board;
 use crate::rule::{ReadFronts, ReadRears};
+use crate::totals::Totals;
 use crate::view::View;
 use atomic_table::Seat;
 use sig_types::Frame;
@@ -15,7 +16,7 @@ use std::marker::Model;
 #[derive(Drop)]
 pub struct TickPass {
     pub(crate) seat: Seat<(), View>,
-    pub(crate) totals: Frame,
+    pub(crate) totals: Totals,
 }
 
 impl Model for TickPass {
@@ -47,21 +48,19 @@ fn load_counts(board: &Board, seat: &mut Seat<(), View>, place: u8) -> (u32, u32
 }
 
 impl TickPass {
-    // Loads the counts of a detector. What they gained since the last take. Most gain nothing in most seconds, and then
-    // nothing is written.
+    // Loads the counts of a detector, and puts what they gained since the last take into the frame. Most gain nothing in most
+    // seconds, and then nothing is written.
     #[inline(always)]
-    fn read_one(&mut self, board: &Board, place: u8) -> Option<(u32, u32)>
+    fn read_one(&mut self, board: &Board, place: u8, frame: &mut Frame)
         requires board { self.old.table ≡ board.now.table }
         requires inside { (place < board.now.detectors) × (place < 64) }
-        ensures { MatchOption result (ReadsOne place self.old self.new (0, 0)) (λ gained. ReadsOne place self.old self.new gained) }
+        requires silent { slice_index_or frame.old place (0, 0) ≡ (0, 0) }
+        ensures { (gained : ℕ × ℕ) × ReadsOne place self.old self.new gained × (frame.new ≡ slice_set frame.old place gained) }
     {
-        let (fronts, rears) = load_counts(board, &mut self.seat, place);
-        let (fronts_before, rears_before) = self.totals.get(place);
-        if fronts == fronts_before && rears == rears_before {
-            return None;
+        let counts = load_counts(board, &mut self.seat, place);
+        if !self.totals.are_still(place, counts) {
+            frame.set(place, self.totals.grow(place, counts));
         }
-        self.totals.set(place, (fronts, rears));
-        Some((fronts - fronts_before, rears - rears_before))
     }
 
     /// Takes what each detector counted since the last take: first its rears are loaded, and then its fronts, so that in all
@@ -71,10 +70,14 @@ impl TickPass {
         ensures { Takes board.now.detectors self.old self.new frame.new }
     {
         frame.clear();
-        for place in 0..board.detectors() {
-            if let Some(gained) = self.read_one(board, place) {
-                frame.set(place, gained);
-            }
+        let detectors = board.detectors();
+        // Two in each turn, since a turn of the loop costs about as much as a silent detector.
+        for pair in 0..detectors / 2 {
+            self.read_one(board, 2 * pair, frame);
+            self.read_one(board, 2 * pair + 1, frame);
+        }
+        if detectors % 2 == 1 {
+            self.read_one(board, detectors - 1, frame);
         }
     }
 }
