@@ -1,5 +1,4 @@
 pub mod CountTexts
-pub mod Digits
 pub mod FieldTexts
 pub mod Fronts
 pub mod Lists
