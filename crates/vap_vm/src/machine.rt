@@ -25,8 +25,10 @@ pub struct Machine {
 /// What an instruction comes to.
 #[derive(Clone, Copy, PartialEq, Eq, Debug)]
 pub enum Next {
-    /// The next instruction follows.
+    /// The instruction at the next place follows.
     On,
+    /// The instruction at the place that the head has now follows.
+    At,
     /// The pass came to its end.
     End,
     /// A fault ends the pass.

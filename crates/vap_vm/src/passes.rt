@@ -4,7 +4,7 @@ ghost use Rattle.std.specs.Prelude.{◌≡◌, ◌+◌, ◌<◌, ◌≤◌, leng
 ghost use Rattle.std.specs.List.{All};
 ghost use Rattle.sig_types.specs.Pass.{World as WorldOf};
 ghost use Rattle.sig_types.specs.Pass.{counted, without_commands};
-ghost use Rattle.vap_code.specs.Machine.{machine as machine_of, machine_steps, last_start as last_start_of, step_limit as step_limit_of, unit_limit as unit_limit_of};
+ghost use Rattle.vap_code.specs.Machine.{machine as machine_of, machine_steps, last_start as last_start_of, unit_limit as unit_limit_of};
 ghost use Rattle.vap_vm.specs.Passes.{PassIs, Ready, first_store};
 
 use crate::machine::{Machine, Next};
@@ -105,15 +105,7 @@ impl Vm {
         let instrs = code.instrs.as_slice();
         let starts = code.starts.as_slice();
         let mut head = self.machine.begin(last_start(starts), unit_limit());
-        match run(
-            instrs,
-            starts,
-            world,
-            &mut head,
-            &mut self.machine,
-            step_limit(),
-            steps,
-        ) {
+        match run(instrs, starts, world, &mut head, &mut self.machine, steps) {
             Next::End => PassEnd::Done,
             Next::Fault(kind) => {
                 mem::swap(&mut self.machine.slots, &mut self.before);
@@ -123,7 +115,7 @@ impl Vm {
                     line: head.line,
                 })
             }
-            Next::On => unreachable!(),
+            Next::On | Next::At => unreachable!(),
         }
     }
 
@@ -170,12 +162,4 @@ fn unit_limit() -> u32
     ensures number { result ≡ 10000 }
 {
     10_000
-}
-
-// The most instructions of a pass.
-fn step_limit() -> u32
-    ensures same { result ≡ step_limit_of }
-    ensures number { result ≡ 10241024 }
-{
-    10_241_024
 }

@@ -1,10 +1,10 @@
-use Rattle.std.proofs.Common.{◌≡◌, length, map, sym, ap, ◌∙◌, subst, arith, false}
+use Rattle.std.proofs.Common.{◌≡◌, length, map, sym, ap, ◌∙◌, subst, arith, false, inl, inr}
 use Rattle.sig_types.specs.Pass.{Done, Unfinished}
 use Rattle.vap_code.specs.Machine.{last_start, machine, unit_limit}
 use Rattle.vap_vm.specs.Passes.{Kept}
 use Rattle.vap_vm.specs.Run.{end_of}
 use Rattle.vap_vm.specs.View.{state_of, store_of, SameSizes}
-use Rattle.vap_vm.proofs.PassFacts.{begun_state, start_of, exec_is, steps_is, over_is, room_is, ready_done, few_done, never, ready_fault, restored}
+use Rattle.vap_vm.proofs.PassFacts.{begun_state, start_of, exec_is, steps_is, over_is, room_is, ready_done, few_done, never, ready_fault, restored, step_limit_number}
 use Rattle.vap_vm.proofs.Sizes.{sizes_on, sizes_back}
 use Rattle.vap_vm.proofs.passes.Vm.pass.Goals as goal
 
@@ -17,7 +17,7 @@ run-requires-clause-room g c =
     let same_instrs = c.as_slice-instrs.ensures.value ∙ ap (λ code. code.instrs) c.code-code.ensures.same in
     let same_starts = c.as_slice-starts.ensures.value ∙ ap (λ code. code.starts) c.code-code.ensures.same in
     let begun = begun_state c.begin-head.result c.begin-head.new.self s.machine.slots (last_start s.code.starts) unit_limit (c.begin-head.ensures.place ∙ c.last_start.ensures ∙ ap last_start same_starts) c.begin-head.ensures.line (c.begin-head.ensures.units ∙ c.unit_limit.ensures.same) c.begin-head.ensures.operands c.begin-head.ensures.noted c.begin-head.ensures.commands c.begin-head.ensures.slots in
-    λ w m. room_is kept instrs starts same_instrs same_starts c.step_limit.result c.step_limit.ensures.same (state_of c.begin-head.result c.begin-head.new.self) begun w (c.valid_code_runs_well.ensures s.code w (start_of kept) c.code-code.ensures.valid c.self.invariant.0.fits) c.self.invariant.0
+    λ w m. room_is kept instrs starts same_instrs same_starts (state_of c.begin-head.result c.begin-head.new.self) begun w (c.valid_code_runs_well.ensures s.code w (start_of kept) c.code-code.ensures.valid c.self.invariant.0.fits) c.self.invariant.0
 
 pub run-requires-clause-over : goal.run-requires-clause-over
 run-requires-clause-over g c =
@@ -28,7 +28,7 @@ run-requires-clause-over g c =
     let same_instrs = c.as_slice-instrs.ensures.value ∙ ap (λ code. code.instrs) c.code-code.ensures.same in
     let same_starts = c.as_slice-starts.ensures.value ∙ ap (λ code. code.starts) c.code-code.ensures.same in
     let begun = begun_state c.begin-head.result c.begin-head.new.self s.machine.slots (last_start s.code.starts) unit_limit (c.begin-head.ensures.place ∙ c.last_start.ensures ∙ ap last_start same_starts) c.begin-head.ensures.line (c.begin-head.ensures.units ∙ c.unit_limit.ensures.same) c.begin-head.ensures.operands c.begin-head.ensures.noted c.begin-head.ensures.commands c.begin-head.ensures.slots in
-    λ w m. over_is kept instrs starts same_instrs same_starts c.step_limit.result c.step_limit.ensures.same (state_of c.begin-head.result c.begin-head.new.self) begun w (c.valid_code_runs_well.ensures s.code w (start_of kept) c.code-code.ensures.valid c.self.invariant.0.fits)
+    λ w m. over_is kept instrs starts same_instrs same_starts (state_of c.begin-head.result c.begin-head.new.self) begun w (c.valid_code_runs_well.ensures s.code w (start_of kept) c.code-code.ensures.valid c.self.invariant.0.fits)
 
 pub invariant_of-self : goal.invariant_of-self
 invariant_of-self g c =
@@ -41,7 +41,7 @@ invariant_of-self g c =
     let begun = begun_state c.begin-head.result c.begin-head.new.self s.machine.slots (last_start s.code.starts) unit_limit (c.begin-head.ensures.place ∙ c.last_start.ensures ∙ ap last_start same_starts) c.begin-head.ensures.line (c.begin-head.ensures.units ∙ c.unit_limit.ensures.same) c.begin-head.ensures.operands c.begin-head.ensures.noted c.begin-head.ensures.commands c.begin-head.ensures.slots in
     let w = c.requires.0 in
     let r = c.valid_code_runs_well.ensures s.code w (start_of kept) c.code-code.ensures.valid c.self.invariant.0.fits in
-    let is : Done (store_of c.run.new.m) ≡ machine s.code w (start_of kept) = ap (λ x. end_of x c.run.new.h c.run.new.m) (sym c.in-End.is) ∙ c.run.ensures.how w c.requires.1 ∙ exec_is kept instrs starts same_instrs same_starts c.step_limit.result c.step_limit.ensures.same (state_of c.begin-head.result c.begin-head.new.self) begun w in
+    let is : Done (store_of c.run.new.m) ≡ machine s.code w (start_of kept) = ap (λ x. end_of x c.run.new.h c.run.new.m) (sym c.in-End.is) ∙ c.run.ensures.how w c.requires.1 ∙ exec_is kept instrs starts same_instrs same_starts (state_of c.begin-head.result c.begin-head.new.self) begun w in
     let back : SameSizes c.copy_from.new.self s.machine.slots = record { variables = ap length c.copy_from.ensures.variables; arrays = ap (map length) c.copy_from.ensures.arrays; timers = ap length c.copy_from.ensures.timers } in
     let on : SameSizes c.run.new.m.slots s.machine.slots = subst (λ x. SameSizes c.run.new.m.slots x) c.begin-head.ensures.slots c.run.ensures.keeps.sizes in
     let cells : c.run.new.m.wrote_cells ≡ false → c.run.new.m.slots.arrays ≡ c.copy_from.new.self.arrays = λ none. (c.run.ensures.keeps.cells none).1 ∙ ap (λ x. x.arrays) c.begin-head.ensures.slots ∙ sym c.copy_from.ensures.arrays in
@@ -58,7 +58,7 @@ returns-in-End-clause-ready g c =
     let begun = begun_state c.begin-head.result c.begin-head.new.self s.machine.slots (last_start s.code.starts) unit_limit (c.begin-head.ensures.place ∙ c.last_start.ensures ∙ ap last_start same_starts) c.begin-head.ensures.line (c.begin-head.ensures.units ∙ c.unit_limit.ensures.same) c.begin-head.ensures.operands c.begin-head.ensures.noted c.begin-head.ensures.commands c.begin-head.ensures.slots in
     let w = c.requires.0 in
     let r = c.valid_code_runs_well.ensures s.code w (start_of kept) c.code-code.ensures.valid c.self.invariant.0.fits in
-    let is : Done (store_of c.run.new.m) ≡ machine s.code w (start_of kept) = ap (λ x. end_of x c.run.new.h c.run.new.m) (sym c.in-End.is) ∙ c.run.ensures.how w c.requires.1 ∙ exec_is kept instrs starts same_instrs same_starts c.step_limit.result c.step_limit.ensures.same (state_of c.begin-head.result c.begin-head.new.self) begun w in
+    let is : Done (store_of c.run.new.m) ≡ machine s.code w (start_of kept) = ap (λ x. end_of x c.run.new.h c.run.new.m) (sym c.in-End.is) ∙ c.run.ensures.how w c.requires.1 ∙ exec_is kept instrs starts same_instrs same_starts (state_of c.begin-head.result c.begin-head.new.self) begun w in
     ready_done kept w c.run.new.m c.self.invariant.0 r is
 
 pub invariant_of-self-in-Fault : goal.invariant_of-self-in-Fault
@@ -86,8 +86,13 @@ unreachable-requires g c =
     let begun = begun_state c.begin-head.result c.begin-head.new.self s.machine.slots (last_start s.code.starts) unit_limit (c.begin-head.ensures.place ∙ c.last_start.ensures ∙ ap last_start same_starts) c.begin-head.ensures.line (c.begin-head.ensures.units ∙ c.unit_limit.ensures.same) c.begin-head.ensures.operands c.begin-head.ensures.noted c.begin-head.ensures.commands c.begin-head.ensures.slots in
     let w = c.requires.0 in
     let r = c.valid_code_runs_well.ensures s.code w (start_of kept) c.code-code.ensures.valid c.self.invariant.0.fits in
-    let how = c.run.ensures.how w c.requires.1 ∙ exec_is kept instrs starts same_instrs same_starts c.step_limit.result c.step_limit.ensures.same (state_of c.begin-head.result c.begin-head.new.self) begun w in
-    never kept w c.run.new.m r Unfinished (λ h. h) (ap (λ x. end_of x c.run.new.h c.run.new.m) (sym c.in-On.is) ∙ how)
+    let how = c.run.ensures.how w c.requires.1 ∙ exec_is kept instrs starts same_instrs same_starts (state_of c.begin-head.result c.begin-head.new.self) begun w in
+    let goes : Unfinished ≡ end_of c.run.result c.run.new.h c.run.new.m =
+    elim c.in-On.is [
+      | inl on ↦ ap (λ x. end_of x c.run.new.h c.run.new.m) (sym on)
+      | inr at ↦ ap (λ x. end_of x c.run.new.h c.run.new.m) (sym at)
+    ] in
+    never kept w c.run.new.m r Unfinished (λ h. h) (goes ∙ how)
 
 pub returns-in-End-clause-few : goal.returns-in-End-clause-few
 returns-in-End-clause-few g c =
@@ -100,7 +105,7 @@ returns-in-End-clause-few g c =
     let begun = begun_state c.begin-head.result c.begin-head.new.self s.machine.slots (last_start s.code.starts) unit_limit (c.begin-head.ensures.place ∙ c.last_start.ensures ∙ ap last_start same_starts) c.begin-head.ensures.line (c.begin-head.ensures.units ∙ c.unit_limit.ensures.same) c.begin-head.ensures.operands c.begin-head.ensures.noted c.begin-head.ensures.commands c.begin-head.ensures.slots in
     let w = c.requires.0 in
     let r = c.valid_code_runs_well.ensures s.code w (start_of kept) c.code-code.ensures.valid c.self.invariant.0.fits in
-    let is : Done (store_of c.run.new.m) ≡ machine s.code w (start_of kept) = ap (λ x. end_of x c.run.new.h c.run.new.m) (sym c.in-End.is) ∙ c.run.ensures.how w c.requires.1 ∙ exec_is kept instrs starts same_instrs same_starts c.step_limit.result c.step_limit.ensures.same (state_of c.begin-head.result c.begin-head.new.self) begun w in
+    let is : Done (store_of c.run.new.m) ≡ machine s.code w (start_of kept) = ap (λ x. end_of x c.run.new.h c.run.new.m) (sym c.in-End.is) ∙ c.run.ensures.how w c.requires.1 ∙ exec_is kept instrs starts same_instrs same_starts (state_of c.begin-head.result c.begin-head.new.self) begun w in
     few_done kept w c.run.new.m r is
 
 pub returns-in-End-clause-bounded : goal.returns-in-End-clause-bounded
@@ -114,8 +119,8 @@ returns-in-End-clause-bounded g c =
     let begun = begun_state c.begin-head.result c.begin-head.new.self s.machine.slots (last_start s.code.starts) unit_limit (c.begin-head.ensures.place ∙ c.last_start.ensures ∙ ap last_start same_starts) c.begin-head.ensures.line (c.begin-head.ensures.units ∙ c.unit_limit.ensures.same) c.begin-head.ensures.operands c.begin-head.ensures.noted c.begin-head.ensures.commands c.begin-head.ensures.slots in
     let w = c.requires.0 in
     let r = c.valid_code_runs_well.ensures s.code w (start_of kept) c.code-code.ensures.valid c.self.invariant.0.fits in
-    let steps = steps_is kept instrs starts same_instrs same_starts c.step_limit.result c.step_limit.ensures.same (state_of c.begin-head.result c.begin-head.new.self) begun w in
-    omega (arith, steps, c.run.ensures.counted w c.requires.1, r.few, c.step_limit.ensures.same, c.step_limit.ensures.number)
+    let steps = steps_is kept instrs starts same_instrs same_starts (state_of c.begin-head.result c.begin-head.new.self) begun w in
+    omega (arith, steps, c.run.ensures.counted w c.requires.1, r.few, step_limit_number)
 
 pub returns-in-Fault-clause-bounded : goal.returns-in-Fault-clause-bounded
 returns-in-Fault-clause-bounded g c =
@@ -128,5 +133,5 @@ returns-in-Fault-clause-bounded g c =
     let begun = begun_state c.begin-head.result c.begin-head.new.self s.machine.slots (last_start s.code.starts) unit_limit (c.begin-head.ensures.place ∙ c.last_start.ensures ∙ ap last_start same_starts) c.begin-head.ensures.line (c.begin-head.ensures.units ∙ c.unit_limit.ensures.same) c.begin-head.ensures.operands c.begin-head.ensures.noted c.begin-head.ensures.commands c.begin-head.ensures.slots in
     let w = c.requires.0 in
     let r = c.valid_code_runs_well.ensures s.code w (start_of kept) c.code-code.ensures.valid c.self.invariant.0.fits in
-    let steps = steps_is kept instrs starts same_instrs same_starts c.step_limit.result c.step_limit.ensures.same (state_of c.begin-head.result c.begin-head.new.self) begun w in
-    omega (arith, steps, c.run.ensures.counted w c.requires.1, r.few, c.step_limit.ensures.same, c.step_limit.ensures.number)
+    let steps = steps_is kept instrs starts same_instrs same_starts (state_of c.begin-head.result c.begin-head.new.self) begun w in
+    omega (arith, steps, c.run.ensures.counted w c.requires.1, r.few, step_limit_number)
