@@ -1,3 +1,4 @@
 pub mod PassFacts
 pub mod Sizes
 pub mod StepFacts
+pub mod TaskFacts

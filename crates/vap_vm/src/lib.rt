@@ -14,7 +14,7 @@ mod passes;
 mod run;
 mod slots;
 mod steps;
-mod uses;
+mod tasks;
 mod world;
 
 pub use passes::{PassEnd, Vm};
