@@ -17,24 +17,17 @@ get_or-zeros (suc n) (suc p) = get_or-zeros n p
 pub zeros_outside : (low high n : ℕ) → IsZeroOutside low high (replicate n nothing)
 zeros_outside low high n = record { before = λ p _. get_or-zeros n p; after = λ p _. get_or-zeros n p }
 
--- all that is zero below a place and from one before it on is zero
-pub all_zero : (frame : Counts) (place end : ℕ) → length frame ≡ 64 → end ≤ place →
-    ((p : ℕ) → p < place → get_or frame p (0, 0) ≡ (0, 0)) → ((p : ℕ) → end ≤ p → get_or frame p (0, 0) ≡ (0, 0)) →
-    frame ≡ replicate 64 (0, 0)
-all_zero frame place end size past before after =
-    ext_get_or (0, 0) frame (replicate 64 (0, 0)) size (λ p _. each p (cases_lt p place) ∙ sym (get_or-zeros 64 p))
-  where
-    each : (p : ℕ) → (p < place) ⊎ (place ≤ p) → get_or frame p (0, 0) ≡ (0, 0)
-    each p (inl lt) = before p lt
-    each p (inr ge) = after p (omega arith)
+-- what is zero at each place
+pub all_zero : (frame : Counts) → length frame ≡ 64 → ((p : ℕ) → get_or frame p (0, 0) ≡ (0, 0)) → frame ≡ replicate 64 (0, 0)
+all_zero frame size each = ext_get_or (0, 0) frame (replicate 64 (0, 0)) size (λ p _. each p ∙ sym (get_or-zeros 64 p))
 
--- two frames that agree below a place and are zero from it on, or from one before it, are one
-pub same_frame : (frame other : Counts) (place end : ℕ) → length frame ≡ 64 → length other ≡ 64 → end ≤ place →
-    ((p : ℕ) → p < place → get_or frame p (0, 0) ≡ get_or other p (0, 0)) → ((p : ℕ) → place ≤ p → get_or frame p (0, 0) ≡ (0, 0)) →
-    ((p : ℕ) → end ≤ p → get_or other p (0, 0) ≡ (0, 0)) → frame ≡ other
-same_frame frame other place end size size' past below rest after =
-    ext_get_or (0, 0) frame other (size ∙ sym size') (λ p _. each p (cases_lt p place))
+-- the first places are those of another frame, and in what follows neither has a count
+pub first_same : (before after other : Counts) (high high' : ℕ) → high ≤ 16 → high' ≤ 16 →
+    ((p : ℕ) → high ≤ p → get_or before p (0, 0) ≡ (0, 0)) → ((p : ℕ) → high' ≤ p → get_or other p (0, 0) ≡ (0, 0)) →
+    ((p : ℕ) → p < 16 → get_or after p (0, 0) ≡ get_or other p (0, 0)) → ((p : ℕ) → 16 ≤ p → get_or after p (0, 0) ≡ get_or before p (0, 0)) →
+    (p : ℕ) → get_or after p (0, 0) ≡ get_or other p (0, 0)
+first_same before after other high high' few few' none none' first rest p = each (cases_lt p 16)
   where
-    each : (p : ℕ) → (p < place) ⊎ (place ≤ p) → get_or frame p (0, 0) ≡ get_or other p (0, 0)
-    each p (inl lt) = below p lt
-    each p (inr ge) = rest p ge ∙ sym (after p (omega arith))
+    each : (p < 16) ⊎ (16 ≤ p) → get_or after p (0, 0) ≡ get_or other p (0, 0)
+    each (inl lt) = first p lt
+    each (inr ge) = rest p ge ∙ none p (omega (arith, ge, few)) ∙ sym (none' p (omega (arith, ge, few')))

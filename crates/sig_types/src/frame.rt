@@ -25,6 +25,61 @@ impl Model for Frame {
     ghost invariant = { λ f. (length f.counts ≡ 64) × (f.low ≤ 64) × (f.high ≤ 64) × IsZeroOutside f.low f.high f.counts };
 }
 
+// So many places are cleared or copied at once, whatever their counts: most sites have no more detectors, and a length that
+// is known beforehand costs no guess.
+const FEW: u8 = 16;
+
+// Clears the first places.
+fn clear_few(counts: &mut [(u32, u32)])
+    requires { 16 ≤ length counts.old }
+    ensures size { length counts.new ≡ length counts.old }
+    ensures first { (p : ℕ) → p < 16 → slice_index_or counts.new p (0, 0) ≡ (0, 0) }
+    ensures rest { (p : ℕ) → 16 ≤ p → slice_index_or counts.new p (0, 0) ≡ slice_index_or counts.old p (0, 0) }
+{
+    for place in 0..FEW {
+        counts[usize::from(place)] = (0, 0);
+    }
+}
+
+// Clears the places outside which there is nothing.
+fn clear_span(counts: &mut [(u32, u32)], low: u8, high: u8)
+    requires inside { high ≤ length counts.old }
+    requires outside { IsZeroOutside low high counts.old }
+    ensures size { length counts.new ≡ length counts.old }
+    ensures zero { (p : ℕ) → slice_index_or counts.new p (0, 0) ≡ (0, 0) }
+{
+    for place in low..high {
+        counts[usize::from(place)] = (0, 0);
+    }
+}
+
+// Copies the first places.
+fn copy_few(counts: &mut [(u32, u32)], other: &[(u32, u32)])
+    requires size { 16 ≤ length counts.old }
+    requires other { 16 ≤ length other.now }
+    ensures size { length counts.new ≡ length counts.old }
+    ensures first { (p : ℕ) → p < 16 → slice_index_or counts.new p (0, 0) ≡ slice_index_or other.now p (0, 0) }
+    ensures rest { (p : ℕ) → 16 ≤ p → slice_index_or counts.new p (0, 0) ≡ slice_index_or counts.old p (0, 0) }
+{
+    for place in 0..FEW {
+        counts[usize::from(place)] = other[usize::from(place)];
+    }
+}
+
+// Copies the places outside which the other one has nothing over cleared ones.
+fn copy_span(counts: &mut [(u32, u32)], other: &[(u32, u32)], low: u8, high: u8)
+    requires size { high ≤ length counts.old }
+    requires other { high ≤ length other.now }
+    requires outside { IsZeroOutside low high other.now }
+    requires zero { (p : ℕ) → slice_index_or counts.old p (0, 0) ≡ (0, 0) }
+    ensures size { length counts.new ≡ length counts.old }
+    ensures same { (p : ℕ) → slice_index_or counts.new p (0, 0) ≡ slice_index_or other.now p (0, 0) }
+{
+    for place in low..high {
+        counts[usize::from(place)] = other[usize::from(place)];
+    }
+}
+
 impl Frame {
     /// A second without a front or a rear.
     pub fn empty() -> Frame
@@ -74,8 +129,10 @@ impl Frame {
     pub fn clear(&mut self)
         ensures { self.new ≡ replicate 64 (0, 0) }
     {
-        for place in self.low..self.high {
-            self.counts[usize::from(place)] = (0, 0);
+        if self.high <= FEW {
+            clear_few(&mut self.counts);
+        } else {
+            clear_span(&mut self.counts, self.low, self.high);
         }
         self.low = 64;
         self.high = 0;
@@ -98,9 +155,11 @@ impl Frame {
         ensures counts { self.new ≡ other.now }
         ensures length { length other.now ≡ 64 }
     {
-        self.clear();
-        for place in other.low..other.high {
-            self.counts[usize::from(place)] = other.counts[usize::from(place)];
+        if self.high <= FEW && other.high <= FEW {
+            copy_few(&mut self.counts, &other.counts);
+        } else {
+            clear_span(&mut self.counts, self.low, self.high);
+            copy_span(&mut self.counts, &other.counts, other.low, other.high);
         }
         self.low = other.low;
         self.high = other.high;

@@ -1,21 +1,24 @@
-use Rattle.std.proofs.Common.{◌≡◌, ◌∙◌, ℕ, arith, ap, sym, get_or, length, replicate}
-use Rattle.sig_types.specs.Counts.{Counts}
-use Rattle.sig_types.proofs.Zeros.{get_or-zeros, same_frame}
+use Rattle.std.proofs.Common.{◌∙◌, ap, sym}
+use Rattle.std.proofs.lemmas.List.{ext_get_or}
+use Rattle.sig_types.proofs.Zeros.{first_same}
+use Rattle.sig_types.proofs.frame.Frame.copy_from.Goals.{then-self-le-FEW+then-other-le-FEW, else-self-le-FEW}
 use Rattle.sig_types.proofs.frame.Frame.copy_from.Goals as goal
-
-pub loop-place-init : goal.loop-place-init
-loop-place-init c =
-    let zeros : c.self.inside.counts ≡ replicate 64 (0, 0) = c.self.view_is ∙ c.clear.ensures in
-    let zero_at = λ (p : ℕ). ap (λ (l : Counts). get_or l p (0, 0)) zeros ∙ get_or-zeros 64 p in
-    record {
-      size = c.self.invariant.0;
-      copied = λ p lt. zero_at p ∙ sym (ap (λ (l : Counts). get_or l p (0, 0)) (sym c.other.view_is) ∙ c.other.invariant.3.before p lt);
-      rest = λ p _. zero_at p;
-    }
 
 pub returns-clause-counts : goal.returns-clause-counts
 returns-clause-counts c =
-    let i = c.loop-place.invariant in
-    same_frame c.loop-place.self-inside.counts c.args.other.now c.loop-place.place c.other.inside.high i.size
-    (ap length (sym c.other.view_is) ∙ c.other.invariant.0) (omega arith) i.copied i.rest
-    (λ p le. ap (λ (l : Counts). get_or l p (0, 0)) (sym c.other.view_is) ∙ c.other.invariant.3.after p le)
+    let before = c.self.inside in
+    let other = c.other.inside in
+    elim c.if-self-le-FEW.branch [
+      | then-self-le-FEW+then-other-le-FEW w ↦ (
+          let copied = w.copy_few.ensures in
+          let same = first_same before.counts w.copy_few.new.counts other.counts before.high other.high w.if-self-le-FEW.true w.if-other-le-FEW.true
+          c.self.invariant.3.after c.other.invariant.3.after copied.first copied.rest in
+          ap (λ s. s.counts) w.self-inside-is
+          ∙ ext_get_or (0, 0) w.copy_few.new.counts other.counts (copied.size ∙ c.self.invariant.0 ∙ sym c.other.invariant.0) (λ p _. same p)
+          ∙ c.other.view_is)
+      | else-self-le-FEW w ↦ (
+          let copied = w.copy_span.ensures in
+          ap (λ s. s.counts) w.self-inside-is
+          ∙ ext_get_or (0, 0) w.copy_span.new.counts other.counts (copied.size ∙ w.clear_span.ensures.size ∙ c.self.invariant.0 ∙ sym c.other.invariant.0) (λ p _. copied.same p)
+          ∙ c.other.view_is)
+    ]
