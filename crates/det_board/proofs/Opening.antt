@@ -8,7 +8,7 @@ use Rattle.atomic_table.specs.Table.{opening}
 use Rattle.det_board.specs.declared.view.View.{View}
 use Rattle.det_board.specs.declared.view.View.TheVariants.{Tick}
 use Rattle.det_board.specs.Rule.{last_from, last_read, owned_by, fronts_word, rears_word, CountsAt, Fits, Keeps, opening_view}
-use Rattle.det_board.specs.Passes.{AreSums}
+use Rattle.det_board.specs.Passes.{AreSums, events_at}
 
 pub all_zero : (n d : ℕ) → let z : ℕ × ℕ = (0, 0) in slice_index_or (replicate n z) d z ≡ z
 all_zero zero d = refl
@@ -16,11 +16,14 @@ all_zero (suc n) zero = refl
 all_zero (suc n) (suc d) = all_zero n d
 
 -- the sums of no counts
-pub zero_sums : AreSums (replicate 64 (0, 0)) (replicate 64 0)
+pub zero_sums : AreSums (replicate 64 (0, 0)) (replicate 16 0)
 zero_sums = record {
   size = refl;
   sums_count = refl;
-  sum = λ d low. let z : ℕ × ℕ = (0, 0) in get_or-replicate 64 d 0 0 low ∙ ap (λ (p : ℕ × ℕ). p.0 + p.1) (sym (all_zero 64 d));
+  sum = λ g low. let z : ℕ × ℕ = (0, 0) in
+      let none : (d : ℕ) → events_at (replicate 64 z) d ≡ 0 = λ d. ap (λ (p : ℕ × ℕ). p.0 + p.1) (all_zero 64 d) in
+      let n : ℕ = 4 * g in
+      get_or-replicate 16 g 0 0 low ∙ (λ i. sym (none n) i + sym (none (n + 1)) i + (sym (none (n + 2)) i + sym (none (n + 3)) i));
 }
 
 zeros : (n i : ℕ) → slice_index (replicate n 0) i ≡ 0

@@ -4,22 +4,9 @@ use Rattle.std.specs.Prelude.{slice_index_or}
 use mathlib.Core.Logic.{dite}
 use native.Mathlib.Decide.{ℕ_discrete}
 use Rattle.det_board.specs.Rule.{most_fronts, last_from, last_read, loads_after, fronts_word, rears_word}
-use Rattle.det_board.specs.Passes.{Ticking, ReadsOne, fronts_read, rears_read, fronts_loads, rears_loads, Takes}
+use Rattle.det_board.specs.Passes.{Ticking, ReadsOne, fronts_read, rears_read, fronts_loads, rears_loads, ReadsFour, Taking, Takes}
 use Rattle.det_board.proofs.Opening.{all_zero}
 use Rattle.det_board.proofs.Reading.{both_loads, fronts_last, rears_last, fronts_kept, rears_kept}
-
--- the first n detectors are taken
-pub record Taking (n : ℕ) (old new : Ticking) (frame : List (ℕ × ℕ)) : Type 0 where
-  pub table : new.table ≡ old.table
-  pub count : length new.loads ≡ length old.loads
-  pub fronts : (d : ℕ) → d < n → fronts_loads new d ≡ fronts_loads old d ++ fronts_read new d ∷ []
-  pub rears : (d : ℕ) → d < n → rears_loads new d ≡ rears_loads old d ++ rears_read new d ∷ []
-  pub left_fronts : (d : ℕ) → n ≤ d → fronts_loads new d ≡ fronts_loads old d
-  pub left_rears : (d : ℕ) → n ≤ d → rears_loads new d ≡ rears_loads old d
-  pub size : length frame ≡ 64
-  pub gains : (d : ℕ) → d < n → ((slice_index_or frame d (0, 0)).0 + fronts_read old d ≡ fronts_read new d) × ((slice_index_or frame d (0, 0)).1 + rears_read old d ≡ rears_read new d)
-  pub absent : (d : ℕ) → n ≤ d → slice_index_or frame d (0, 0) ≡ (0, 0)
-  pub ordered : (d : ℕ) → d < n → (rears_read new d ≤ fronts_read new d) × (fronts_read new d ≤ most_fronts)
 
 pub nothing_taken : (old : Ticking) (frame : List (ℕ × ℕ)) → frame ≡ replicate 64 (0, 0) → Taking 0 old old frame
 nothing_taken old frame is = subst (Taking 0 old old) (sym is) (record {
@@ -102,3 +89,15 @@ next_taken n old mid new was now t low one = subst (Taking (n + 1) old new) (sym
 
 pub all_taken : (n : ℕ) (old new : Ticking) (frame : List (ℕ × ℕ)) → Taking n old new frame → Takes n old new frame
 all_taken n old new frame t = record { table = t.table; fronts = t.fronts; rears = t.rears; size = t.size; gains = t.gains; absent = t.absent; ordered = t.ordered }
+
+-- the next four are taken
+pub four_taken : (n : ℕ) (old mid new : Ticking) (was now : List (ℕ × ℕ)) → Taking n old mid was → n + 3 < 64 → ReadsFour n mid new was now → Taking (n + 4) old new now
+four_taken n old mid new was now t low r =
+    let f1 = set was n r.gained.0 in
+    let f2 = set f1 (n + 1) r.gained.1 in
+    let f3 = set f2 (n + 2) r.gained.2 in
+    let one : Taking (n + 1) old r.passes.0 f1 = one_taken n old mid r.passes.0 was r.gained.0 t r.one (omega arith) in
+    let two : Taking (n + 2) old r.passes.1 f2 = subst (λ (k : ℕ). Taking k old r.passes.1 f2) (omega arith) (one_taken (n + 1) old r.passes.0 r.passes.1 f1 r.gained.1 one r.two (omega arith)) in
+    let three : Taking (n + 3) old r.passes.2 f3 = subst (λ (k : ℕ). Taking k old r.passes.2 f3) (omega arith) (one_taken (n + 2) old r.passes.1 r.passes.2 f2 r.gained.2 two r.three (omega arith)) in
+    let four : Taking (n + 4) old new (set f3 (n + 3) r.gained.3) = subst (λ (k : ℕ). Taking k old new (set f3 (n + 3) r.gained.3)) (omega arith) (one_taken (n + 3) old r.passes.2 new f3 r.gained.3 three r.four low) in
+    subst (Taking (n + 4) old new) (sym r.frame) four

@@ -1,5 +1,5 @@
 -- What a clause sees of the board and of its passes.
-use Rattle.std.specs.Prelude.{◌≡◌, ℕ, ◌+◌, ◌*◌, ◌<◌, ◌≤◌, List, [], ◌∷◌, ◌++◌, length, Some, None, slice_get, slice_index_or, replicate}
+use Rattle.std.specs.Prelude.{◌≡◌, ℕ, ◌+◌, ◌-◌, ◌*◌, ◌<◌, ◌≤◌, List, [], ◌∷◌, ◌++◌, length, Some, None, slice_get, slice_index_or, slice_set, replicate}
 use Rattle.atomic_table.specs.Table.{Me}
 use Rattle.atomic_table.specs.Seated.{TableId}
 use Rattle.sig_types.specs.Counts.{Counts}
@@ -59,11 +59,31 @@ pub record IsTicking (id : TableId) (me : Me (Unit {0}) View) (totals : Counts) 
       (last_read (loads_of me.0) (rears_word d) ≤ last_read (loads_of me.0) (fronts_word d))
       × (last_read (loads_of me.0) (fronts_word d) ≤ most_fronts)
 
--- each sum is that of the fronts and rears at its place
+-- the fronts and rears of the detector at place d together
+abbrev pub events_at : Counts → ℕ → ℕ
+events_at counts d = (slice_index_or counts d (0, 0)).0 + (slice_index_or counts d (0, 0)).1
+
+-- those of the four detectors from place d on
+abbrev pub events_from : Counts → ℕ → ℕ
+events_from counts d = events_at counts d + events_at counts (d + 1) + (events_at counts (d + 2) + events_at counts (d + 3))
+
+-- each sum is that of the fronts and rears of four detectors, the first of which is at four times its place
 pub record AreSums (counts : Counts) (sums : List ℕ) : Type 0 where
   pub size : length counts ≡ 64
-  pub sums_count : length sums ≡ 64
-  pub sum : (d : ℕ) → d < 64 → slice_index_or sums d 0 ≡ (slice_index_or counts d (0, 0)).0 + (slice_index_or counts d (0, 0)).1
+  pub sums_count : length sums ≡ 16
+  pub sum : (g : ℕ) → g < 16 → slice_index_or sums g 0 ≡ events_from counts (4 * g)
+
+-- a detector may have these counts
+abbrev pub AreCounts : ℕ × ℕ → Type 0
+AreCounts c = (c.1 ≤ c.0) × (c.0 ≤ most_fronts)
+
+-- what the counts c exceed those of the detector at place d
+abbrev pub gain_of : Counts → ℕ → ℕ × ℕ → ℕ × ℕ
+gain_of counts d c = (c.0 - (slice_index_or counts d (0, 0)).0, c.1 - (slice_index_or counts d (0, 0)).1)
+
+-- the place is one of a group of four
+abbrev pub IsInGroup : ℕ → ℕ → Type 0
+IsInGroup group place = (group < 16) × (4 * group ≤ place) × (place < 4 * group + 4)
 
 -- the detector at place d, whose counts stand in `counts`, may now have the counts c
 pub record GrowsTo (counts : Counts) (d : ℕ) (c : ℕ × ℕ) : Type 0 where
@@ -90,6 +110,29 @@ pub record ReadsOne (d : ℕ) (old new : Ticking) (g : ℕ × ℕ) : Type 0 wher
   pub inside : 2 * d + 1 < length old.loads
   pub ordered : g.1 + rears_read old d ≤ g.0 + fronts_read old d
   pub bounded : g.0 + fronts_read old d ≤ most_fronts
+
+-- one value more of each word of the four detectors from place d on, one detector after the other; the frame has what they gained
+pub record ReadsFour (d : ℕ) (old new : Ticking) (was now : Counts) : Type 0 where
+  pub passes : Ticking × Ticking × Ticking
+  pub gained : (ℕ × ℕ) × (ℕ × ℕ) × (ℕ × ℕ) × (ℕ × ℕ)
+  pub one : ReadsOne d old passes.0 gained.0
+  pub two : ReadsOne (d + 1) passes.0 passes.1 gained.1
+  pub three : ReadsOne (d + 2) passes.1 passes.2 gained.2
+  pub four : ReadsOne (d + 3) passes.2 new gained.3
+  pub frame : now ≡ slice_set (slice_set (slice_set (slice_set was d gained.0) (d + 1) gained.1) (d + 2) gained.2) (d + 3) gained.3
+
+-- the first n detectors are taken
+pub record Taking (n : ℕ) (old new : Ticking) (frame : Counts) : Type 0 where
+  pub table : new.table ≡ old.table
+  pub count : length new.loads ≡ length old.loads
+  pub fronts : (d : ℕ) → d < n → fronts_loads new d ≡ fronts_loads old d ++ fronts_read new d ∷ []
+  pub rears : (d : ℕ) → d < n → rears_loads new d ≡ rears_loads old d ++ rears_read new d ∷ []
+  pub left_fronts : (d : ℕ) → n ≤ d → fronts_loads new d ≡ fronts_loads old d
+  pub left_rears : (d : ℕ) → n ≤ d → rears_loads new d ≡ rears_loads old d
+  pub size : length frame ≡ 64
+  pub gains : (d : ℕ) → d < n → ((slice_index_or frame d (0, 0)).0 + fronts_read old d ≡ fronts_read new d) × ((slice_index_or frame d (0, 0)).1 + rears_read old d ≡ rears_read new d)
+  pub absent : (d : ℕ) → n ≤ d → slice_index_or frame d (0, 0) ≡ (0, 0)
+  pub ordered : (d : ℕ) → d < n → (rears_read new d ≤ fronts_read new d) × (fronts_read new d ≤ most_fronts)
 
 -- the tick's pass after a take by a board of `detectors` detectors: one value more of each word, and the frame is what they gained
 pub record Takes (detectors : ℕ) (old new : Ticking) (frame : Counts) : Type 0 where

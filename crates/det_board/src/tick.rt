@@ -1,7 +1,7 @@
 // The tick's pass, which reads the board.
-ghost use Rattle.std.specs.Prelude.{◌≡◌, ℕ, ◌<◌, [], length, slice_index_or, slice_set};
+ghost use Rattle.std.specs.Prelude.{◌≡◌, ℕ, ◌+◌, ◌*◌, ◌/◌, ◌<◌, ◌≤◌, [], length, slice_index_or, slice_set};
 ghost use Rattle.det_board.specs.Rule.{dealt_of, loads_of, owned_of};
-ghost use Rattle.det_board.specs.Passes.{LoadsOne, ReadsOne, Takes};
+ghost use Rattle.det_board.specs.Passes.{AreCounts, GrowsTo, IsInGroup, LoadsOne, ReadsFour, ReadsOne, Taking, Takes, Ticking, gain_of};
 ghost use Rattle.det_board.specs.declared.view.View.TheVariants.{Tick};
 
 use crate::board::Board;
@@ -32,7 +32,7 @@ impl Model for TickPass {
 
 // Loads the rears of a detector, and then its fronts.
 #[inline(always)]
-fn load_counts(board: &Board, seat: &mut Seat<(), View>, place: u8) -> (u32, u32)
+fn load_counts(board: &Board, seat: &mut Seat<(), View>, place: u8) -> (u64, u64)
     requires board { seat.old.table_id ≡ board.now.table }
     requires inside { place < board.now.detectors }
     requires tick { seat.old.me ≡ (Tick (dealt_of seat.old.me.0) (loads_of seat.old.me.0) (owned_of seat.old.me.0), []) }
@@ -44,22 +44,76 @@ fn load_counts(board: &Board, seat: &mut Seat<(), View>, place: u8) -> (u32, u32
     let table = &board.table.shared;
     let rears = table.load::<ReadRears>(seat, rears_word);
     let fronts = table.load::<ReadFronts>(seat, fronts_word);
-    (fronts as u32, rears as u32)
+    (fronts, rears)
+}
+
+// The fronts and rears of four detectors together.
+#[inline(always)]
+fn events_of(one: (u64, u64), two: (u64, u64), three: (u64, u64), four: (u64, u64)) -> u64
+    requires { AreCounts one × AreCounts two × AreCounts three × AreCounts four }
+    ensures { result ≡ one.0 + one.1 + (two.0 + two.1) + (three.0 + three.1 + (four.0 + four.1)) }
+{
+    let first = one.0 + one.1 + (two.0 + two.1);
+    let last = three.0 + three.1 + (four.0 + four.1);
+    first + last
+}
+
+// Takes over the counts of a detector, and puts what they gained into the frame.
+fn gain(totals: &mut Totals, group: u8, place: u8, counts: (u64, u64), frame: &mut Frame)
+    requires of_group { IsInGroup group place }
+    requires grows { GrowsTo totals.old place counts }
+    ensures totals { totals.new ≡ slice_set totals.old place counts }
+    ensures frame { frame.new ≡ slice_set frame.old place (gain_of totals.old place counts) }
+{
+    let gained = totals.grow(group, place, (counts.0 as u32, counts.1 as u32));
+    frame.set(place, gained);
 }
 
 impl TickPass {
-    // Loads the counts of a detector, and puts what they gained since the last take into the frame. Most gain nothing in most
-    // seconds, and then nothing is written.
-    #[inline(always)]
-    fn read_one(&mut self, board: &Board, place: u8, frame: &mut Frame)
+    // Loads the counts of a detector, and puts what they gained since the last take into the frame.
+    fn read_one(&mut self, board: &Board, group: u8, place: u8, frame: &mut Frame)
         requires board { self.old.table ≡ board.now.table }
-        requires inside { (place < board.now.detectors) × (place < 64) }
-        requires silent { slice_index_or frame.old place (0, 0) ≡ (0, 0) }
+        requires inside { place < board.now.detectors }
+        requires of_group { IsInGroup group place }
         ensures { (gained : ℕ × ℕ) × ReadsOne place self.old self.new gained × (frame.new ≡ slice_set frame.old place gained) }
     {
         let counts = load_counts(board, &mut self.seat, place);
-        if !self.totals.are_still(place, counts) {
-            frame.set(place, self.totals.grow(place, counts));
+        gain(&mut self.totals, group, place, counts, frame);
+    }
+
+    // The same of each of four detectors. Most gain nothing in most seconds, and then nothing is written.
+    #[inline(always)]
+    fn read_four(&mut self, board: &Board, group: u8, frame: &mut Frame)
+        requires board { self.old.table ≡ board.now.table }
+        requires inside { (4 * group + 3 < board.now.detectors) × (group < 16) }
+        requires silent { (d : ℕ) → 4 * group ≤ d → slice_index_or frame.old d (0, 0) ≡ (0, 0) }
+        ensures { ReadsFour (4 * group) self.old self.new frame.old frame.new }
+    {
+        let place = 4 * group;
+        let one = load_counts(board, &mut self.seat, place);
+        let two = load_counts(board, &mut self.seat, place + 1);
+        let three = load_counts(board, &mut self.seat, place + 2);
+        let four = load_counts(board, &mut self.seat, place + 3);
+        if !self
+            .totals
+            .are_still(group, events_of(one, two, three, four))
+        {
+            gain(&mut self.totals, group, place, one, frame);
+            gain(&mut self.totals, group, place + 1, two, frame);
+            gain(&mut self.totals, group, place + 2, three, frame);
+            gain(&mut self.totals, group, place + 3, four, frame);
+        }
+    }
+
+    // Those after the last whole group of four, one after the other.
+    fn read_rest(&mut self, board: &Board, frame: &mut Frame)
+        requires board { self.old.table ≡ board.now.table }
+        ensures { (begin : Ticking) → Taking (4 * (board.now.detectors / 4)) begin self.old frame.old → Taking board.now.detectors begin self.new frame.new }
+    {
+        let detectors = board.detectors();
+        let group = detectors / 4;
+        for place in 4 * group..detectors {
+            self.read_one(board, group, place, frame);
         }
     }
 
@@ -70,14 +124,9 @@ impl TickPass {
         ensures { Takes board.now.detectors self.old self.new frame.new }
     {
         frame.clear();
-        let detectors = board.detectors();
-        // Two in each turn, since a turn of the loop costs about as much as a silent detector.
-        for pair in 0..detectors / 2 {
-            self.read_one(board, 2 * pair, frame);
-            self.read_one(board, 2 * pair + 1, frame);
+        for group in 0..board.detectors() / 4 {
+            self.read_four(board, group, frame);
         }
-        if detectors % 2 == 1 {
-            self.read_one(board, detectors - 1, frame);
-        }
+        self.read_rest(board, frame);
     }
 }

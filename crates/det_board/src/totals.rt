@@ -1,17 +1,17 @@
 // The counts that the tick has loaded.
-ghost use Rattle.std.specs.Prelude.{◌≡◌, ◌-◌, ◌<◌, true, replicate, slice_index_or, slice_set};
-ghost use Rattle.det_board.specs.Passes.{GrowsTo};
+ghost use Rattle.std.specs.Prelude.{◌≡◌, ◌+◌, ◌*◌, ◌^◌, ◌<◌, true, replicate, slice_index_or, slice_set};
+ghost use Rattle.det_board.specs.Passes.{GrowsTo, IsInGroup, events_at as events_at_lem, events_from as events_from_lem, gain_of};
 
 use sig_types::Frame;
 use std::marker::Model;
 
-// Most detectors count nothing in most seconds, so the sum of each one's fronts and rears is kept: since neither falls, one
-// comparison tells that both have stayed.
+// Most detectors count nothing in most seconds, so the sum of the fronts and rears of each four is kept: since none of them
+// falls, one comparison tells that all have stayed.
 /// The fronts and rears of 64 detectors. Contracts see them as the list of these pairs.
 #[derive(Drop)]
 pub struct Totals {
     counts: Frame,
-    sums: [u32; 64],
+    sums: [u64; 16],
 }
 
 impl Model for Totals {
@@ -25,6 +25,26 @@ impl Model for Totals {
     ghost invariant = { λ t. AreSums t.counts t.sums };
 }
 
+// The fronts and rears of a detector together.
+fn events_at(counts: &Frame, place: u8) -> u64
+    requires { place < 64 }
+    ensures sum { result ≡ events_at_lem counts.now place }
+    ensures few { result < 2 ^ 33 }
+{
+    let (fronts, rears) = counts.get(place);
+    u64::from(fronts) + u64::from(rears)
+}
+
+// Those of four detectors, from this place on.
+fn events_from(counts: &Frame, place: u8) -> u64
+    requires { place + 3 < 64 }
+    ensures { result ≡ events_from_lem counts.now place }
+{
+    let first = events_at(counts, place) + events_at(counts, place + 1);
+    let last = events_at(counts, place + 2) + events_at(counts, place + 3);
+    first + last
+}
+
 impl Totals {
     /// Those of detectors that have counted nothing.
     pub fn zero() -> Totals
@@ -32,7 +52,7 @@ impl Totals {
     {
         Totals {
             counts: Frame::empty(),
-            sums: [0; 64],
+            sums: [0; 16],
         }
     }
 
@@ -44,24 +64,25 @@ impl Totals {
         self.counts.get(place)
     }
 
-    /// Whether the detector at that place, which now has these counts, has counted nothing more.
+    /// Whether the four detectors of that group, which now have so many fronts and rears together, have counted nothing more.
     #[inline(always)]
-    pub fn are_still(&self, place: u8, counts: (u32, u32)) -> bool
-        requires { GrowsTo self.now place counts }
-        ensures { result ≡ true → counts ≡ slice_index_or self.now place (0, 0) }
+    pub fn are_still(&self, group: u8, events: u64) -> bool
+        requires { group < 16 }
+        ensures { result ≡ true → events ≡ events_from_lem self.now (4 * group) }
     {
-        counts.0 + counts.1 == self.sums[usize::from(place)]
+        events == self.sums[usize::from(group)]
     }
 
     /// Takes over the counts that the detector at that place now has, and answers what it gained.
-    pub fn grow(&mut self, place: u8, counts: (u32, u32)) -> (u32, u32)
-        requires { GrowsTo self.old place counts }
+    pub fn grow(&mut self, group: u8, place: u8, counts: (u32, u32)) -> (u32, u32)
+        requires of_group { IsInGroup group place }
+        requires grows { GrowsTo self.old place counts }
         ensures counts { self.new ≡ slice_set self.old place counts }
-        ensures gained { result ≡ (counts.0 - (slice_index_or self.old place (0, 0)).0, counts.1 - (slice_index_or self.old place (0, 0)).1) }
+        ensures gained { result ≡ gain_of self.old place counts }
     {
         let before = self.counts.get(place);
         self.counts.set(place, counts);
-        self.sums[usize::from(place)] = counts.0 + counts.1;
+        self.sums[usize::from(group)] = events_from(&self.counts, 4 * group);
         (counts.0 - before.0, counts.1 - before.1)
     }
 }
