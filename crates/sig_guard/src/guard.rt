@@ -1,5 +1,5 @@
 // The guard, over its last picture and two numbers of each group.
-ghost use Rattle.std.specs.Prelude.{◌≡◌, ℕ, suc, All, ◌+◌, ◌-◌, ◌<◌, ◌≤◌, [], ◌∷◌, ◌++◌, length, replicate, slice_index_or, true, false, if◌then◌else◌, IfOk, IfSome, Some};
+ghost use Rattle.std.specs.Prelude.{◌≡◌, ℕ, suc, Bool, List, IsTrue, ◌↔◌, All, ◌+◌, ◌-◌, ◌<◌, ◌≤◌, [], ◌∷◌, ◌++◌, length, replicate, slice_index_or, true, false, if◌then◌else◌, IfOk, IfSome, Some};
 ghost use Rattle.sig_types.specs.Turns.{History, shown, trace, is_green, is_red};
 ghost use Rattle.sig_types.specs.Words.{last_below, least_below, run_to};
 ghost use Rattle.sig_types.specs.Recorded.{IsTurn};
@@ -36,7 +36,7 @@ pub struct Guard {
 }
 
 impl Guard {
-    ghost use Rattle.sig_guard.specs.Stands.{StandsFor, rules, tables, seconds_made};
+    ghost use Rattle.sig_guard.specs.Stands.{StandsFor, ShowsWishes, rules, tables, seconds_made, picture_of};
 
     /// A guard at second 0, in which every group is red. Both tables are of one plan.
     #[tactic(auto, unfolding(crate::specs::Stands::StandsFor, crate::specs::Stands::rules, crate::specs::Stands::tables, crate::specs::Stands::seconds_made))]
@@ -86,9 +86,34 @@ impl Guard {
         self.seconds = now;
     }
 
+    /// Whether each group shows what is wished of it: green, or else red.
+    #[tactic(auto, unfolding(crate::specs::Stands::rules, crate::specs::Stands::ShowsWishes))]
+    pub fn shows(&self, wishes: &Wishes) -> bool
+        requires wished { length wishes.now ≡ (rules self.now).count }
+        ensures { IsTrue result ↔ ShowsWishes self.now wishes.now }
+    {
+        self.is_steady(wishes)
+    }
+
+    /// Makes the next second where each group shows what is wished of it. The picture stays, and no turn is refused.
+    #[tactic(auto, unfolding(crate::specs::Stands::StandsFor, crate::specs::Stands::rules, crate::specs::Stands::tables, crate::specs::Stands::seconds_made, crate::specs::Stands::picture_of, crate::specs::Stands::ShowsWishes, crate::specs::Step::guard_picture, crate::specs::Step::guard_refused))]
+    pub fn stay(&mut self)
+        requires { seconds_made self.old < 604801 }
+        ensures tables { tables self.new ≡ tables self.old }
+        ensures rules { rules self.new ≡ rules self.old }
+        ensures seconds { seconds_made self.new ≡ seconds_made self.old + 1 }
+        ensures history { (h : History) (wishes : List Bool) → StandsFor self.old h → ShowsWishes self.old wishes → StandsFor self.new (h ++ guard_picture (rules self.old) h wishes ∷ []) }
+        ensures refused { (h : History) (wishes : List Bool) → StandsFor self.old h → ShowsWishes self.old wishes → guard_refused (rules self.old) h wishes ≡ [] }
+        ensures picture { picture_of self.new ≡ picture_of self.old }
+        ensures shown { (wishes : List Bool) → ShowsWishes self.old wishes → ShowsWishes self.new wishes }
+    {
+        self.seconds = self.now();
+    }
+
     /// The picture of the last second.
-    #[tactic(auto, unfolding(crate::specs::Stands::StandsFor, crate::specs::Stands::rules))]
+    #[tactic(auto, unfolding(crate::specs::Stands::StandsFor, crate::specs::Stands::rules, crate::specs::Stands::picture_of))]
     pub fn picture(&self) -> &Picture
+        ensures picture { result.now ≡ picture_of self.now }
         ensures history { (h : History) → StandsFor self.now h → result.now ≡ slice_index_or h (length h - 1) [] }
         ensures size { length result.now ≡ (rules self.now).count }
     {
@@ -179,7 +204,7 @@ impl Guard {
     /// are asked at a time.
     fn is_steady(&self, wishes: &Wishes) -> bool
         requires wished { length wishes.now ≡ (kept_rules self.now).count }
-        ensures steady { result ≡ true → (g : ℕ) → g < (kept_rules self.now).count → shows_wish (shown self.now.picture g) (slice_index_or wishes.now g false) ≡ true }
+        ensures { IsTrue result ↔ ((g : ℕ) → g < (kept_rules self.now).count → shows_wish (shown self.now.picture g) (slice_index_or wishes.now g false) ≡ true) }
     {
         let mut others: u8 = 0;
         for g in 0..self.times.groups() {

@@ -13,7 +13,7 @@ use Rattle.controller.specs.World.{world_in}
 use Rattle.vap_code.specs.Machine.{machine}
 use Rattle.controller.specs.Second.{record_after, past_after, orders_after, clears_after, refusals_of, wishes_of, wishes_in}
 use Rattle.actuation.proofs.Sums.{clears_of}
-use Rattle.controller.proofs.Pictures.{last-append, guard_is_safe}
+use Rattle.controller.proofs.Pictures.{last-append, picture_is, guard_is_safe}
 use Rattle.controller.proofs.Seconds.{passed_in}
 use Rattle.controller.proofs.controller.Controller.second.Goals as goal
 
@@ -37,13 +37,13 @@ returns-clause-record c = λ past s.
     let p = passed_in (world_in me.plan past frames) me.vm c.begin_second.new.self c.decide-end.new.vm c.decide-end.result past.store c.begin_second.ensures.store c.begin_second.ensures.code s.store (c.decide-end.ensures.pass past frames standing second) in
     let commands = c.commands-commands.ensures.same ∙ p.commands_are in
     let after = c.obey.ensures.stages past.orders (next past) stages_k in
-    let wishes : c.gather.new.wishes ≡ wishes_in (site_of me) past (machine me.vm.code (world_in me.plan past frames) (begun past.store))
-    = c.gather.ensures.wishes _ (next past) after ∙ ap (λ cs. wishes_of me.plan (place_at me.plan (orders_after me.plan (next past) past.orders cs) (next past)) cs) commands in
-    let guard = c.step-2.ensures.history past.history s.guard in
-    let place = c.place-self.ensures me.plan _ (next past) after ∙ ap (λ cs. place_at me.plan (orders_after me.plan (next past) past.orders cs) (next past)) commands in
-    let picture = c.copy-self.ensures ∙ c.picture.ensures.history _ guard ∙ last-append past.history _ [] ∙ ap (λ ws. guard_picture (rules me.guard) past.history ws) wishes in
-    let refused = c.obey.ensures.refused past.orders (next past) stages_k ∙ ap (λ cs. refusals_of me.plan (next past) past.orders cs) commands in
-    let turns = c.step-2.ensures.refused past.history s.guard ∙ ap (λ ws. guard_refused (rules me.guard) past.history ws) wishes in
+    let wishes : c.show.new.wishes ≡ wishes_in (site_of me) past (machine me.vm.code (world_in me.plan past frames) (begun past.store))
+    = c.show.ensures.wishes _ (next past) after ∙ ap (λ cs. wishes_of me.plan (place_at me.plan (orders_after me.plan (next past) past.orders cs) (next past)) cs) commands in
+    let guard = c.show.ensures.history past.history s.guard in
+    let place = c.show.ensures.place _ (next past) after ∙ ap (λ cs. place_at me.plan (orders_after me.plan (next past) past.orders cs) (next past)) commands in
+    let picture = c.show.ensures.picture ∙ picture_is c.show.new.guard _ guard ∙ last-append past.history _ [] ∙ ap (λ ws. guard_picture (rules me.guard) past.history ws) wishes in
+    let refused = c.show.ensures.stages ∙ c.obey.ensures.refused past.orders (next past) stages_k ∙ ap (λ cs. refusals_of me.plan (next past) past.orders cs) commands in
+    let turns = c.show.ensures.refused past.history s.guard ∙ ap (λ ws. guard_refused (rules me.guard) past.history ws) wishes in
     let fault = c.fault_of-self.ensures ∙ p.fault_is in
     λ i. record {
       second = record { 0 = second i };
@@ -75,9 +75,9 @@ returns-clause-stands c = λ past s.
     let p = passed_in (world_in me.plan past frames) me.vm c.begin_second.new.self c.decide-end.new.vm c.decide-end.result past.store c.begin_second.ensures.store c.begin_second.ensures.code s.store (c.decide-end.ensures.pass past frames standing second) in
     let commands = c.commands-commands.ensures.same ∙ p.commands_are in
     let after = c.obey.ensures.stages past.orders (next past) stages_k in
-    let wishes : c.gather.new.wishes ≡ wishes_in (site_of me) past (machine me.vm.code (world_in me.plan past frames) (begun past.store))
-    = c.gather.ensures.wishes _ (next past) after ∙ ap (λ cs. wishes_of me.plan (place_at me.plan (orders_after me.plan (next past) past.orders cs) (next past)) cs) commands in
-    let guard = c.step-2.ensures.history past.history s.guard in
+    let wishes : c.show.new.wishes ≡ wishes_in (site_of me) past (machine me.vm.code (world_in me.plan past frames) (begun past.store))
+    = c.show.ensures.wishes _ (next past) after ∙ ap (λ cs. wishes_of me.plan (place_at me.plan (orders_after me.plan (next past) past.orders cs) (next past)) cs) commands in
+    let guard = c.show.ensures.history past.history s.guard in
     let e = machine me.vm.code (world_in me.plan past frames) (begun past.store) in
     let len : length frames ≡ next past = standing.seconds in
     let acts = c.obey.ensures.clears frames past.clears standing.actuation_stands in
@@ -87,13 +87,13 @@ returns-clause-stands c = λ past s.
     let orders : orders_after me.plan (next past) past.orders c.commands-commands.result.now ≡ orders_after me.plan (next past) past.orders (commands_after e)
     = ap (λ cs. orders_after me.plan (next past) past.orders cs) commands in
     let long : length frames ≡ length past.frames + 1 = length-append past.frames (frame ∷ []) in
-    let stood = subst (λ ws. GuardStands c.step-2.new.self (past.history ++ guard_picture (rules me.guard) past.history ws ∷ [])) wishes guard in
+    let stood = subst (λ ws. GuardStands c.show.new.guard (past.history ++ guard_picture (rules me.guard) past.history ws ∷ [])) wishes guard in
     record {
-      groups = ap (λ r. r.count) c.step-2.ensures.rules ∙ s.groups;
-      wished = c.gather.ensures.groups;
+      groups = ap (λ r. r.count) c.show.ensures.rules ∙ s.groups;
+      wished = c.show.ensures.groups;
       guard = stood;
-      safe = guard_is_safe c.step-2.new.self _ stood;
-      made = c.step-2.ensures.seconds ∙ ap (λ n. n + 1) s.made ∙ sym long;
+      safe = guard_is_safe c.show.new.guard _ stood;
+      made = c.show.ensures.seconds ∙ ap (λ n. n + 1) s.made ∙ sym long;
       stages = subst (λ k. StagesStand c.obey.new.stages me.plan (orders_after me.plan (next past) past.orders (commands_after e)) k) (sym len)
           (subst (λ os. StagesStand c.obey.new.stages me.plan os (next past)) orders after);
       readings = readings;
@@ -101,6 +101,10 @@ returns-clause-stands c = λ past s.
       began = c.decide-end.ensures.seconds ∙ c.begin_second.ensures.seconds ∙ ap (λ n. n + 1) s.began ∙ sym long;
       seconds = length-append past.history _ ∙ ap (λ n. n + 1) (sym len);
       numbered = second ∙ sym len;
+      pictured = c.show.ensures.size;
+      settled = λ stage is.
+          let shown = c.show.ensures.settled stage is in
+          record { numbered = shown.numbered; place = shown.place; picture = shown.picture; wished = shown.wished; shown = shown.shown };
     }
 
 pub decide-end-requires-clause-stands : goal.decide-end-requires-clause-stands
@@ -124,3 +128,9 @@ decide-end-requires-clause-stands c =
       },
       ap (λ n. n + 1) s.numbered ∙ sym s.seconds,
     )
+
+pub show-requires-clause-settled : goal.show-requires-clause-settled
+unfolding StandsFor
+show-requires-clause-settled c = λ stage is.
+    let shown = c.requires.1.settled stage is in
+    record { numbered = shown.numbered; place = shown.place; picture = shown.picture; wished = shown.wished; shown = shown.shown }

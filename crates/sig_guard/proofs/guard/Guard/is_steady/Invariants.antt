@@ -6,5 +6,6 @@ use Rattle.sig_guard.proofs.guard.Guard.is_steady.Given as goal
 abbrev pub invariant-loop-g : goal.invariant-loop-g
 invariant-loop-g l = record {
   few : l.others ≤ l.g;
+  none : ((k : ℕ) → k < l.g → shows_wish (shown l.self.picture k) (slice_index_or l.wishes k false) ≡ true) → l.others ≡ 0;
   each : l.others ≡ 0 → (k : ℕ) → k < l.g → shows_wish (shown l.self.picture k) (slice_index_or l.wishes k false) ≡ true;
 }
