@@ -1,6 +1,7 @@
 pub mod Aged
 pub mod Agree
 pub mod EachRefusal
+pub mod InPlace
 pub mod LawProofs
 pub mod MachineLemmas
 pub mod Pictures

@@ -126,25 +126,11 @@ pub start_breach_none : (r : Rules) (h : History) (p : Picture) (g m : ℕ) → 
 unfolding start_breach
 start_breach_none r h p g m red none no_end = rw (red, none, no_end) refl
 
--- one group more
-pub ends_obeyed : (r : Rules) (h : History) (m : ℕ) (w : List Bool) (g : ℕ) (n p : Picture) → n ≡ natural r h m → p ≡ ends_to r h m w g → wants_end n w g ≡ true →
-    end_breach r h m g ≡ None → slice_set p g (ended (r.amber g)) ≡ ends_to r h m w (g + 1)
-ends_obeyed r h m w g n p nat so_far wants none =
-    let b : (wants_end (natural r h m) w g && is_none (end_breach r h m g)) ≡ true =
-    and_from _ _ (ap (λ (q : Picture). wants_end q w g) (sym nat) ∙ wants) (ap is_none none) in
-    ap (λ (q : Picture). slice_set q g (ended (r.amber g))) so_far
-    ∙ sym (ap (λ (c : Bool). if c then slice_set (ends_to r h m w g) g (ended (r.amber g)) else ends_to r h m w g) b)
-    ∙ sym (ap (λ (k : ℕ). ends_to r h m w k) (add-one g))
-
 pub ends_left : (r : Rules) (h : History) (m : ℕ) (w : List Bool) (g : ℕ) (p : Picture) → p ≡ ends_to r h m w g →
     (wants_end (natural r h m) w g && is_none (end_breach r h m g)) ≡ false → p ≡ ends_to r h m w (g + 1)
 ends_left r h m w g p so_far b =
     so_far ∙ sym (ap (λ (c : Bool). if c then slice_set (ends_to r h m w g) g (ended (r.amber g)) else ends_to r h m w g) b)
     ∙ sym (ap (λ (k : ℕ). ends_to r h m w k) (add-one g))
-
-pub ends_refused : (r : Rules) (h : History) (m : ℕ) (w : List Bool) (g : ℕ) (p : Picture) (breach : Breach) → p ≡ ends_to r h m w g →
-    end_breach r h m g ≡ Some breach → p ≡ ends_to r h m w (g + 1)
-ends_refused r h m w g p breach so_far some = ends_left r h m w g p so_far (and_right _ _ (ap is_none some))
 
 pub ends_unwanted : (r : Rules) (h : History) (m : ℕ) (w : List Bool) (g : ℕ) (n p : Picture) → n ≡ natural r h m → p ≡ ends_to r h m w g → wants_end n w g ≡ false →
     p ≡ ends_to r h m w (g + 1)

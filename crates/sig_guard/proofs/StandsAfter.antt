@@ -1,5 +1,5 @@
 -- What the numbers of a guard say of a history for which it stands, and that after a second they stand for the longer one.
-use Rattle.std.proofs.Common.{◌≡◌, ℕ, suc, ◌+◌, ◌-◌, ◌<◌, inl, inr, refl, Bool, true, false, List, [], ◌∷◌, ◌++◌, length, sym, ap, ◌∙◌, subst, arith, Some, slice_index_or}
+use Rattle.std.proofs.Common.{◌≡◌, ℕ, suc, ◌+◌, ◌-◌, ◌<◌, refl, Bool, true, false, List, [], ◌∷◌, ◌++◌, length, sym, ap, ◌∙◌, subst, arith, Some, slice_index_or}
 use Rattle.std.proofs.Math.ListN.{length-append}
 use Rattle.std.proofs.Math.Seq.{get_or-append_seam}
 use Rattle.sig_types.specs.declared.aspect.Aspect.{Aspect}
@@ -10,12 +10,11 @@ use Rattle.sig_types.specs.Rules.{Rules, IsTwoWay}
 use Rattle.sig_guard.specs.declared.guard.Guard.{Guard}
 use Rattle.sig_guard.specs.Ages.{HasAge, age_at, next_age}
 use Rattle.sig_guard.specs.Safety.{IsHistory, Safe, Sequence}
-use Rattle.sig_guard.specs.Step.{shows_wish, IsSteady, IsSteadyBelow, guard_picture}
+use Rattle.sig_guard.specs.Step.{shows_wish, IsSteady, guard_picture}
 use Rattle.sig_guard.specs.Stands.{kept_rules, HasPast}
 use Rattle.sig_guard.proofs.Aged.{aged_after, red_amber_since, green_since}
 use Rattle.sig_guard.proofs.LawProofs.{step_keeps_safe}
 use Rattle.sig_guard.proofs.Steady.{wish_lasts, wish_on}
-use Rattle.std.proofs.lemmas.Bool.{cases_eq}
 
 pub length_is : (guard : Guard) (h : History) → HasPast guard h → length h ≡ suc (length h - 1)
 length_is guard h s = omega (arith, s.seconds)
@@ -33,13 +32,6 @@ pub shown_steady : (guard : Guard) (h : History) (w : List Bool) (g : ℕ) → H
 shown_steady guard h w g s shown_is =
     let here = subst (λ (x : Aspect). shows_wish x (slice_index_or w g false) ≡ true) (shows guard h g s) shown_is in
     (wish_lasts _ _ (trace h g) (length h - 1) (trace h g (length h - 1)) (slice_index_or w g false) refl here, wish_on (trace h g (length h - 1)) (slice_index_or w g false) here)
-
--- one group more
-pub steady_more : (r : Rules) (h : History) (m : ℕ) (w : List Bool) (n : ℕ) → IsSteadyBelow r h m w n → IsSteady r h m w n → IsSteadyBelow r h m w (n + 1)
-steady_more r h m w n below here = λ g lt. elim (cases_eq g n) [
-  | inl same ↦ subst (IsSteady r h m w) (sym same) here
-  | inr ne ↦ below g (omega arith)
-]
 
 sequence_is : (guard : Guard) (h : History) (g : ℕ) → HasPast guard h → g < (kept_rules guard).count →
     Sequence ((kept_rules guard).red_amber g) ((kept_rules guard).amber g) (trace h g) (suc (length h - 1))

@@ -4,13 +4,13 @@ use Rattle.std.proofs.lemmas.Bool.{cases_eq}
 use Rattle.std.proofs.lemmas.List.{set-get_or, get_or-set_other}
 use Rattle.sig_types.specs.declared.aspect.Aspect.{Aspect}
 use Rattle.sig_types.specs.declared.aspect.Aspect.TheVariants.{Red, RedAmber, Green, Amber}
-use Rattle.sig_types.specs.Turns.{Picture, History, shown, trace, is_red, is_green, is_on}
+use Rattle.sig_types.specs.Turns.{Picture, History, shown, trace, is_on}
 use Rattle.sig_types.specs.Rules.{Rules}
 use Rattle.sig_guard.specs.Step.{shows_wish, IsSteadyBelow, natural_after, natural_to, natural, wants_end, wants_start, end_breach, start_breach, ends_to, starts_to, refused_ends_to, refused_to, guard_picture, guard_refused}
 use Rattle.sig_guard.proofs.Pictures.{set_if-other, ends_to-before, starts_to-before}
 use Rattle.sig_guard.proofs.MachineLemmas.{natural_red, natural_green, ends_unwanted, starts_unwanted, listed_off}
 
-no_end : (x : Aspect) (b : Bool) → is_on x ≡ b → (is_on x && not b) ≡ false
+pub no_end : (x : Aspect) (b : Bool) → is_on x ≡ b → (is_on x && not b) ≡ false
 no_end x true h = ap (λ (c : Bool). c && false) h
 no_end x false h = ap (λ (c : Bool). c && true) h
 
@@ -24,13 +24,6 @@ natural_to-above r h m zero g le = refl
 natural_to-above r h m (suc k) g le =
     let ne : g ≢ k = omega arith in
     get_or-set_other (natural_to r h m k) k g _ Red ne ∙ natural_to-above r h m k g (omega arith)
-
--- red and green last
-pub lasting : (ra am : ℕ) (a : ℕ → Aspect) (m : ℕ) (x : Aspect) → a m ≡ x → (not (is_red x) && not (is_green x)) ≡ false → natural_after ra am a m ≡ x
-lasting ra am a m Red was h = sym (natural_red ra am a m was)
-lasting ra am a m RedAmber was h = absurd (cc)
-lasting ra am a m Green was h = sym (natural_green ra am a m was)
-lasting ra am a m Amber was h = absurd (cc)
 
 -- and so does a group that shows what is wished of it
 pub wish_lasts : (ra am : ℕ) (a : ℕ → Aspect) (m : ℕ) (x : Aspect) (b : Bool) → a m ≡ x → shows_wish x b ≡ true → natural_after ra am a m ≡ x
@@ -59,10 +52,6 @@ natural_left r h m g p so_far lasts =
     so_far ∙ sym (set-get_or (natural_to r h m g) g Red)
     ∙ ap (λ (x : Aspect). set (natural_to r h m g) g x) (above ∙ sym lasts)
     ∙ sym (ap (λ (k : ℕ). natural_to r h m k) (add-one g))
-
-pub natural_changed : (r : Rules) (h : History) (m g : ℕ) (p : Picture) (x : Aspect) → p ≡ natural_to r h m g →
-    x ≡ natural_after (r.red_amber g) (r.amber g) (trace h g) m → set p g x ≡ natural_to r h m (g + 1)
-natural_changed r h m g p x so_far is = (λ j. set (so_far j) g (is j)) ∙ sym (ap (λ (k : ℕ). natural_to r h m k) (add-one g))
 
 -- by nature the groups below n last
 pub natural_stays : (r : Rules) (h : History) (m n k : ℕ) → ((g : ℕ) → g < n → natural_after (r.red_amber g) (r.amber g) (trace h g) m ≡ trace h g m) →

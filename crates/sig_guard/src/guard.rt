@@ -1,5 +1,5 @@
 // The guard, over its last picture and two numbers of each group.
-ghost use Rattle.std.specs.Prelude.{◌≡◌, ℕ, suc, Bool, List, IsTrue, ◌↔◌, All, ◌+◌, ◌-◌, ◌<◌, ◌≤◌, [], ◌∷◌, ◌++◌, length, replicate, slice_index_or, true, false, if◌then◌else◌, IfOk, IfSome, Some};
+ghost use Rattle.std.specs.Prelude.{◌≡◌, ℕ, suc, Bool, List, IsTrue, ◌↔◌, All, ◌+◌, ◌-◌, ◌<◌, ◌≤◌, [], ◌∷◌, ◌++◌, length, replicate, slice_index_or, true, false, if◌then◌else◌, is_none, IfOk, IfSome, Some};
 ghost use Rattle.sig_types.specs.Turns.{History, shown, trace, is_green, is_red};
 ghost use Rattle.sig_types.specs.Words.{last_below, least_below, run_to};
 ghost use Rattle.sig_types.specs.Recorded.{IsTurn};
@@ -10,8 +10,7 @@ ghost use Rattle.sig_guard.specs.Step.{guard_picture, guard_refused};
 
 use crate::ages::{GroupAge, age_all, first_ages};
 use crate::turn::{
-    Breach, ended, ends, is_due, is_left, is_on, is_passing, is_short_green, refusal, shows_wish,
-    started,
+    Breach, ended, ends, is_due, is_left, is_on, is_short_green, refusal, shows_wish, started,
 };
 use sig_tables::{Intergreens, Times};
 use sig_types::{Aspect, GroupNo, Memory, Picture, Rule, TurnRefusals, Wishes};
@@ -71,15 +70,13 @@ impl Guard {
         ensures turns { All (IsTurn (rules self.old).count) out.new }
     {
         out.clear();
-        let first = self.first_turning(wishes);
+        let mut picture = self.picture.copy();
+        let first = self.show_ends(wishes, &mut picture, out);
         if first == self.times.groups() {
             self.seconds = self.now();
             return;
         }
-        let natural = self.natural(first);
-        let mut picture = natural.copy();
-        self.show_ends(&natural, wishes, &mut picture, out, first);
-        self.show_starts(&natural, wishes, &mut picture, out, first);
+        self.show_starts(wishes, &mut picture, out, first);
         let now = self.now();
         age_all(&mut self.ages, &self.picture, &picture, first, now);
         self.picture = picture;
@@ -155,7 +152,7 @@ impl Guard {
     ghost use Rattle.sig_types.specs.Turns.{ends_at};
     ghost use Rattle.sig_guard.specs.Count.{many};
     ghost use Rattle.sig_guard.specs.Stands.{kept_rules, HasPast};
-    ghost use Rattle.sig_guard.specs.Step.{natural_after, end_breach, start_breach, is_in_conflict, is_uncleared, natural as natural_spec, ends_to, starts_to, refused_ends_to, refused_to, refusal as refusal_spec, wants_end, wants_start, shows_wish, IsSteady, IsSteadyBelow};
+    ghost use Rattle.sig_guard.specs.Step.{natural_after, end_breach, start_breach, is_in_conflict, is_uncleared, ended, ends_to, starts_to, refused_ends_to, refused_to, refusal as refusal_spec, listed, is_red_wished, is_green_wished, shows_wish, IsSteady, IsSteadyBelow};
 
     /// The second that comes next.
     fn now(&self) -> u32
@@ -352,104 +349,71 @@ impl Guard {
         None
     }
 
-    /// Whether the group does not turn in the next second, by nature or by a wish.
-    fn stays(&self, wishes: &Wishes, g: u8) -> bool
+    /// Shows the end of a group that is on by nature, or notes it where it breaks a rule.
+    fn end_wished(&self, picture: &mut Picture, out: &mut TurnRefusals, g: u8)
         requires group { g < (kept_rules self.now).count }
-        requires wished { length wishes.now ≡ (kept_rules self.now).count }
-        ensures stays { (h : History) → HasPast self.now h → result ≡ true → IsSteady (kept_rules self.now) h (length h - 1) wishes.now g }
-    {
-        let (aspect, green) = (self.aspect(g), wishes.get(g));
-        shows_wish(aspect, green) || is_left(aspect, self.natural_aspect(g), green)
-    }
-
-    /// The first group that may turn in the next second, or else the number of groups.
-    fn first_turning(&self, wishes: &Wishes) -> u8
-        requires wished { length wishes.now ≡ (kept_rules self.now).count }
-        ensures below { (h : History) → HasPast self.now h → IsSteadyBelow (kept_rules self.now) h (length h - 1) wishes.now result }
-        ensures at_most { result ≤ (kept_rules self.now).count }
-    {
-        if self.is_steady(wishes) {
-            return self.times.groups();
-        }
-        for g in 0..self.times.groups() {
-            if !self.stays(wishes, g) {
-                return g;
-            }
-        }
-        self.times.groups()
-    }
-
-    /// What the next second shows by nature; groups below `first` show what they showed.
-    fn natural(&self, first: u8) -> Picture
-        requires lasting { (h : History) → HasPast self.now h → (g : ℕ) → g < first →
-            natural_after ((kept_rules self.now).red_amber g) ((kept_rules self.now).amber g) (trace h g) (length h - 1) ≡ trace h g (length h - 1) }
-        requires at_most { first ≤ (kept_rules self.now).count }
-        ensures picture { (h : History) → HasPast self.now h → result ≡ natural_spec (kept_rules self.now) h (length h - 1) }
-        ensures size { length result ≡ (kept_rules self.now).count }
-    {
-        let mut picture = self.picture.copy();
-        for g in first..self.times.groups() {
-            if is_passing(self.aspect(g)) {
-                picture.set(g, self.natural_aspect(g));
-            }
-        }
-        picture
-    }
-
-    /// Shows a wished end of the group, or notes it where it breaks a rule.
-    fn end_one(
-        &self,
-        natural: &Picture,
-        wishes: &Wishes,
-        picture: &mut Picture,
-        out: &mut TurnRefusals,
-        g: u8,
-    )
-        requires group { g < (kept_rules self.now).count }
-        requires wished { length wishes.now ≡ (kept_rules self.now).count }
-        requires natural_size { length natural.now ≡ (kept_rules self.now).count }
         requires size { length picture.old ≡ (kept_rules self.now).count }
         requires room { length out.old < 64 }
-        ensures picture { (h : History) → HasPast self.now h → natural.now ≡ natural_spec (kept_rules self.now) h (length h - 1) →
-            picture.old ≡ ends_to (kept_rules self.now) h (length h - 1) wishes.now g → picture.new ≡ ends_to (kept_rules self.now) h (length h - 1) wishes.now (g + 1) }
+        ensures here { (h : History) → HasPast self.now h → shown picture.new g ≡
+            (if is_none (end_breach (kept_rules self.now) h (length h - 1) g) then ended ((kept_rules self.now).amber g) else shown picture.old g) }
+        ensures others { (j : ℕ) → (j ≡ g → ⊥) → shown picture.new j ≡ shown picture.old j }
         ensures size { length picture.new ≡ (kept_rules self.now).count }
-        ensures refused { (h : History) → HasPast self.now h → natural.now ≡ natural_spec (kept_rules self.now) h (length h - 1) →
-            out.old ≡ refused_ends_to (kept_rules self.now) h (length h - 1) wishes.now g → out.new ≡ refused_ends_to (kept_rules self.now) h (length h - 1) wishes.now (g + 1) }
+        ensures refused { (h : History) → HasPast self.now h → out.new ≡ listed true g (end_breach (kept_rules self.now) h (length h - 1) g) out.old }
         ensures turns { All (IsTurn (kept_rules self.now).count) out.old → All (IsTurn (kept_rules self.now).count) out.new }
-        ensures count { length out.new ≤ (if wants_end natural.now wishes.now g then suc (length out.old) else length out.old) }
+        ensures count { length out.new ≤ suc (length out.old) }
     {
-        if is_on(natural.get(g)) && !wishes.get(g) {
-            match self.end_breach(g) {
-                None => picture.set(g, ended(self.times.amber(GroupNo(g)))),
-                Some(breach) => out.push(refusal(g, breach)),
-            }
+        match self.end_breach(g) {
+            None => picture.set(g, ended(self.times.amber(GroupNo(g)))),
+            Some(breach) => out.push(refusal(g, breach)),
         }
+    }
+
+    /// Shows the natural change of the group and a wished end of it, or notes the end where it breaks a rule. Whether the group
+    /// does not turn in the next second, by nature or by a wish; a `true` is certain.
+    fn end_one(&self, wishes: &Wishes, picture: &mut Picture, out: &mut TurnRefusals, g: u8) -> bool
+        requires group { g < (kept_rules self.now).count }
+        requires wished { length wishes.now ≡ (kept_rules self.now).count }
+        requires size { length picture.old ≡ (kept_rules self.now).count }
+        requires room { length out.old < 64 }
+        requires start { shown picture.old g ≡ shown self.now.picture g }
+        ensures here { (h : History) → HasPast self.now h →
+            shown picture.new g ≡ shown (ends_to (kept_rules self.now) h (length h - 1) wishes.now (kept_rules self.now).count) g }
+        ensures others { (j : ℕ) → (j ≡ g → ⊥) → shown picture.new j ≡ shown picture.old j }
+        ensures size { length picture.new ≡ (kept_rules self.now).count }
+        ensures refused { (h : History) → HasPast self.now h → out.old ≡ refused_ends_to (kept_rules self.now) h (length h - 1) wishes.now g →
+            out.new ≡ refused_ends_to (kept_rules self.now) h (length h - 1) wishes.now (g + 1) }
+        ensures turns { All (IsTurn (kept_rules self.now).count) out.old → All (IsTurn (kept_rules self.now).count) out.new }
+        ensures count { length out.new ≤ (if is_red_wished wishes.now g then suc (length out.old) else length out.old) }
+        ensures steady { (h : History) → HasPast self.now h → result ≡ true → IsSteady (kept_rules self.now) h (length h - 1) wishes.now g }
+    {
+        let (aspect, green) = (self.aspect(g), wishes.get(g));
+        if shows_wish(aspect, green) {
+            return true;
+        }
+        let natural = self.natural_aspect(g);
+        picture.set(g, natural);
+        if is_on(natural) && !green {
+            self.end_wished(picture, out, g);
+        }
+        is_left(aspect, natural, green)
     }
 
     /// Shows a wished start of the group, or notes it where it breaks a rule.
-    fn start_one(
-        &self,
-        natural: &Picture,
-        wishes: &Wishes,
-        picture: &mut Picture,
-        out: &mut TurnRefusals,
-        g: u8,
-    )
+    fn start_one(&self, wishes: &Wishes, picture: &mut Picture, out: &mut TurnRefusals, g: u8)
         requires group { g < (kept_rules self.now).count }
         requires wished { length wishes.now ≡ (kept_rules self.now).count }
-        requires natural_size { length natural.now ≡ (kept_rules self.now).count }
         requires size { length picture.old ≡ (kept_rules self.now).count }
-        requires room { wants_start natural.now wishes.now g ≡ true → length out.old < 64 }
-        ensures picture { (h : History) → HasPast self.now h → natural.now ≡ natural_spec (kept_rules self.now) h (length h - 1) →
+        requires room { is_green_wished wishes.now g ≡ true → length out.old < 64 }
+        ensures picture { (h : History) → HasPast self.now h →
             picture.old ≡ starts_to (kept_rules self.now) h (length h - 1) wishes.now g → picture.new ≡ starts_to (kept_rules self.now) h (length h - 1) wishes.now (g + 1) }
         ensures size { length picture.new ≡ (kept_rules self.now).count }
-        ensures refused { (h : History) → HasPast self.now h → natural.now ≡ natural_spec (kept_rules self.now) h (length h - 1) →
+        ensures refused { (h : History) → HasPast self.now h →
             picture.old ≡ starts_to (kept_rules self.now) h (length h - 1) wishes.now g →
             out.old ≡ refused_to (kept_rules self.now) h (length h - 1) wishes.now g → out.new ≡ refused_to (kept_rules self.now) h (length h - 1) wishes.now (g + 1) }
         ensures turns { All (IsTurn (kept_rules self.now).count) out.old → All (IsTurn (kept_rules self.now).count) out.new }
-        ensures count { length out.new ≤ (if wants_start natural.now wishes.now g then suc (length out.old) else length out.old) }
+        ensures count { length out.new ≤ (if is_green_wished wishes.now g then suc (length out.old) else length out.old) }
     {
-        if !is_on(natural.get(g)) && wishes.get(g) {
+        if wishes.get(g) && !is_on(picture.get(g)) {
             match self.start_breach(picture, g) {
                 None => picture.set(g, started(self.times.red_amber(GroupNo(g)))),
                 Some(breach) => out.push(refusal(g, breach)),
@@ -457,56 +421,44 @@ impl Guard {
         }
     }
 
-    /// Shows the wished ends that break no rule in the natural picture, and notes the others. Groups below `first` do not turn.
-    fn show_ends(
-        &self,
-        natural: &Picture,
-        wishes: &Wishes,
-        picture: &mut Picture,
-        out: &mut TurnRefusals,
-        first: u8,
-    )
-        requires steady { (h : History) → HasPast self.now h → IsSteadyBelow (kept_rules self.now) h (length h - 1) wishes.now first }
-        requires at_most { first ≤ (kept_rules self.now).count }
+    /// Shows the natural changes, and the wished ends that break no rule, and notes the others. The first group that may turn in
+    /// the next second, or else the number of groups.
+    fn show_ends(&self, wishes: &Wishes, picture: &mut Picture, out: &mut TurnRefusals) -> u8
         requires wished { length wishes.now ≡ (kept_rules self.now).count }
-        requires natural { (h : History) → HasPast self.now h → natural.now ≡ natural_spec (kept_rules self.now) h (length h - 1) }
-        requires size { length natural.now ≡ (kept_rules self.now).count }
-        requires start { picture.old ≡ natural.now }
+        requires start { picture.old ≡ self.now.picture }
         requires none { out.old ≡ [] }
+        ensures below { (h : History) → HasPast self.now h → IsSteadyBelow (kept_rules self.now) h (length h - 1) wishes.now result }
+        ensures at_most { result ≤ (kept_rules self.now).count }
         ensures picture { (h : History) → HasPast self.now h →
             picture.new ≡ ends_to (kept_rules self.now) h (length h - 1) wishes.now (kept_rules self.now).count }
         ensures size { length picture.new ≡ (kept_rules self.now).count }
         ensures refused { (h : History) → HasPast self.now h →
             out.new ≡ refused_ends_to (kept_rules self.now) h (length h - 1) wishes.now (kept_rules self.now).count }
         ensures turns { All (IsTurn (kept_rules self.now).count) out.new }
-        ensures count { length out.new ≤ many (wants_end natural.now wishes.now) (kept_rules self.now).count }
+        ensures count { length out.new ≤ many (is_red_wished wishes.now) (kept_rules self.now).count }
     {
-        for g in first..self.times.groups() {
-            self.end_one(natural, wishes, picture, out, g);
+        let groups = self.times.groups();
+        let mut first = groups;
+        for g in 0..groups {
+            if !self.end_one(wishes, picture, out, g) {
+                first = first.min(g);
+            }
         }
+        first
     }
 
     /// Shows the wished starts that break no rule in the picture so far, and notes the others. Groups below `first` do not turn.
-    fn show_starts(
-        &self,
-        natural: &Picture,
-        wishes: &Wishes,
-        picture: &mut Picture,
-        out: &mut TurnRefusals,
-        first: u8,
-    )
+    fn show_starts(&self, wishes: &Wishes, picture: &mut Picture, out: &mut TurnRefusals, first: u8)
         requires steady { (h : History) → HasPast self.now h → IsSteadyBelow (kept_rules self.now) h (length h - 1) wishes.now first }
         requires at_most { first ≤ (kept_rules self.now).count }
         requires wished { length wishes.now ≡ (kept_rules self.now).count }
-        requires natural { (h : History) → HasPast self.now h → natural.now ≡ natural_spec (kept_rules self.now) h (length h - 1) }
-        requires size { length natural.now ≡ (kept_rules self.now).count }
         requires start_size { length picture.old ≡ (kept_rules self.now).count }
         requires start { (h : History) → HasPast self.now h →
             picture.old ≡ ends_to (kept_rules self.now) h (length h - 1) wishes.now (kept_rules self.now).count }
         requires ends { (h : History) → HasPast self.now h →
             out.old ≡ refused_ends_to (kept_rules self.now) h (length h - 1) wishes.now (kept_rules self.now).count }
         requires turns { All (IsTurn (kept_rules self.now).count) out.old }
-        requires count { length out.old ≤ many (wants_end natural.now wishes.now) (kept_rules self.now).count }
+        requires count { length out.old ≤ many (is_red_wished wishes.now) (kept_rules self.now).count }
         ensures picture { (h : History) → HasPast self.now h →
             picture.new ≡ starts_to (kept_rules self.now) h (length h - 1) wishes.now (kept_rules self.now).count }
         ensures size { length picture.new ≡ (kept_rules self.now).count }
@@ -515,7 +467,7 @@ impl Guard {
         ensures turns { All (IsTurn (kept_rules self.now).count) out.new }
     {
         for g in first..self.times.groups() {
-            self.start_one(natural, wishes, picture, out, g);
+            self.start_one(wishes, picture, out, g);
         }
     }
 }

@@ -7,7 +7,7 @@ use Rattle.sig_guard.specs.Step.{IsSteadyBelow, guard_picture}
 use Rattle.sig_guard.specs.Stands.{kept_rules, StandsFor, rules as rules_of_guard}
 use Rattle.sig_guard.proofs.Aged.{stays_aged}
 use Rattle.sig_guard.proofs.StandsAfter.{shows, stands_after}
-use Rattle.sig_guard.proofs.Steady.{steady_picture, steady_refused, steady_keeps}
+use Rattle.sig_guard.proofs.Steady.{no_end_refused, steady_picture, steady_refused, steady_keeps}
 use Rattle.sig_guard.proofs.TwoWay.{two_way}
 use Rattle.sig_guard.proofs.guard.Guard.step.Goals as goal
 
@@ -15,7 +15,7 @@ pub returns-then-first-groups-clause-history : goal.returns-then-first-groups-cl
 unfolding StandsFor rules_of_guard
 returns-then-first-groups-clause-history c = λ h s.
     let me = c.args.self.now in
-    let steady : IsSteadyBelow (kept_rules me) h (length h - 1) c.args.wishes.now (kept_rules me).count = λ g lt. c.first_turning-first.ensures.below h s g (search rules) in
+    let steady : IsSteadyBelow (kept_rules me) h (length h - 1) c.args.wishes.now (kept_rules me).count = λ g lt. c.show_ends-first.ensures.below h s g (search rules) in
     stands_after me _ c.args.wishes.now h refl
     (s.last ∙ steady_picture (kept_rules me) h c.args.wishes.now steady) c.now-self.ensures.now
     (λ g lt. stays_aged (age_at me.ages.items g) (shown me.picture g) c.now-self.result)
@@ -25,21 +25,20 @@ pub returns-then-first-groups-clause-refused : goal.returns-then-first-groups-cl
 unfolding StandsFor rules_of_guard
 returns-then-first-groups-clause-refused c = λ h s.
     let me = c.args.self.now in
-    let steady : IsSteadyBelow (kept_rules me) h (length h - 1) c.args.wishes.now (kept_rules me).count = λ g lt. c.first_turning-first.ensures.below h s g (search rules) in
-    c.clear.ensures ∙ steady_refused (kept_rules me) h c.args.wishes.now steady
-
-pub natural-natural-requires-clause-lasting : goal.natural-natural-requires-clause-lasting
-natural-natural-requires-clause-lasting c = λ h s g lt. (c.first_turning-first.ensures.below h s g lt).0
+    let steady : IsSteadyBelow (kept_rules me) h (length h - 1) c.args.wishes.now (kept_rules me).count = λ g lt. c.show_ends-first.ensures.below h s g (search rules) in
+    let r = kept_rules me in
+    c.show_ends-first.ensures.refused h s ∙ sym (no_end_refused r h (length h - 1) c.args.wishes.now r.count r.count steady (omega arith))
+    ∙ steady_refused r h c.args.wishes.now steady
 
 pub returns-clause-history : goal.returns-clause-history
 unfolding StandsFor rules_of_guard guard_picture
 returns-clause-history c = λ h s.
     let me = c.args.self.now in
     stands_after me _ c.args.wishes.now h refl (c.show_starts.ensures.picture h s) c.now-now.ensures.now
-    (λ g lt. elim (cases_lt g c.first_turning-first.result) [
+    (λ g lt. elim (cases_lt g c.show_ends-first.result) [
       | inl below ↦ (
           let same : shown me.picture g ≡ shown c.show_starts.new.picture g =
-          shows me h g s ∙ sym (steady_keeps (kept_rules me) h c.args.wishes.now c.first_turning-first.result g (c.first_turning-first.ensures.below h s) below)
+          shows me h g s ∙ sym (steady_keeps (kept_rules me) h c.args.wishes.now c.show_ends-first.result g (c.show_ends-first.ensures.below h s) below)
           ∙ ap (λ (p : Picture). shown p g) (sym (c.show_starts.ensures.picture h s)) in
           c.age_all.ensures.kept g below ∙ stays_aged (age_at me.ages.items g) (shown me.picture g) c.now-now.result
           ∙ ap (λ (x : Aspect). next_age (age_at me.ages.items g) (shown me.picture g) x c.now-now.result) same)
