@@ -61,42 +61,6 @@ fn is_settled(commands: &[Command], settled: Option<StageNo>, stages: &StageStat
     }
 }
 
-// Asks the guard for the picture of a second.
-fn show_anew(
-    commands: &[Command],
-    plan: &Plan,
-    stages: &StageState,
-    settled: &mut Option<StageNo>,
-    wishes: &mut Wishes,
-    guard: &mut Guard,
-    last: &mut Record,
-)
-    requires commands { All (IsCommand plan.now) commands.now }
-    requires wished { length wishes.old ≡ groups_in plan.now }
-    requires groups { (rules guard.old).count ≡ groups_in plan.now }
-    requires at_most { seconds_made guard.old < 604801 }
-    requires stands { (orders : List Order) × (k : ℕ) × StagesStand stages.now plan.now orders k }
-    ensures groups { length wishes.new ≡ groups_in plan.now }
-    ensures wishes { (orders : List Order) (k : ℕ) → StagesStand stages.now plan.now orders k →
-        wishes.new ≡ wishes_of plan.now (place_at plan.now orders k) commands.now }
-    ensures place { (orders : List Order) (k : ℕ) → StagesStand stages.now plan.now orders k → last.new.place ≡ place_at plan.now orders k }
-    ensures rules { rules guard.new ≡ rules guard.old }
-    ensures seconds { seconds_made guard.new ≡ seconds_made guard.old + 1 }
-    ensures history { (h : History) → GuardStands guard.old h → GuardStands guard.new (h ++ guard_picture (rules guard.old) h wishes.new ∷ []) }
-    ensures picture { last.new.picture ≡ picture_of guard.new }
-    ensures size { length last.new.picture ≡ groups_in plan.now }
-    ensures refused { (h : History) → GuardStands guard.old h → last.new.turns ≡ guard_refused (rules guard.old) h wishes.new }
-    ensures turns { All (IsTurn (groups_in plan.now)) last.new.turns }
-    ensures stages { last.new.stages ≡ last.old.stages }
-    ensures settled { ForSome settled.new (IsSettled plan.now wishes.new guard.new last.new) }
-{
-    gather(commands, plan, stages, wishes);
-    guard.step(wishes, &mut last.turns);
-    last.place = stages.place();
-    last.picture = guard.picture().copy();
-    *settled = settled_in(commands, last.place, guard, wishes);
-}
-
 /// Makes the picture of a second, and the turns that were refused. Where the groups show what the active stage wishes of
 /// them, it stays.
 pub fn show(
@@ -132,7 +96,11 @@ pub fn show(
     if is_settled(commands, *settled, stages) {
         guard.stay();
         last.turns.clear();
-    } else {
-        show_anew(commands, plan, stages, settled, wishes, guard, last);
+        return;
     }
+    gather(commands, plan, stages, wishes);
+    guard.step(wishes, &mut last.turns);
+    last.place = stages.place();
+    last.picture = guard.picture().copy();
+    *settled = settled_in(commands, last.place, guard, wishes);
 }
