@@ -49,6 +49,11 @@ abbrev pub AreFresh : Boarded → List Feeding → Type 0
 AreFresh board feeders = (k : ℕ) (d : Feeding) → k < length feeders →
     slice_index_or feeders k d ≡ record { table = board.table; place = k; fronts = 0; rears = 0 }
 
+-- the same of those from the place `first` on
+abbrev pub AreFreshFrom : ℕ → Boarded → List Feeding → Type 0
+AreFreshFrom first board feeders = (k : ℕ) (d : Feeding) → k < length feeders →
+    slice_index_or feeders k d ≡ record { table = board.table; place = first + k; fronts = 0; rears = 0 }
+
 -- in no prefix has a detector more rears than fronts
 abbrev pub NeverAhead : List Counts → Type 0
 NeverAhead fs = (n d : ℕ) → n ≤ length fs → d < 64 → all_rears d (take n fs) ≤ all_fronts d (take n fs)
