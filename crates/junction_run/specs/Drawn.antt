@@ -1,5 +1,5 @@
 -- The frames of a sample, drawn from a seed.
-use Rattle.std.specs.Prelude.{ℕ, zero, suc, ◌%◌, ◌==◌, List, [], ◌∷◌, ◌++◌, map, replicate, if◌then◌else◌}
+use Rattle.std.specs.Prelude.{ℕ, zero, suc, ◌%◌, ◌==◌, List, [], ◌∷◌, ◌++◌, fold, map, replicate, slice_set, if◌then◌else◌}
 use Rattle.rand_pcg.specs.Lcg.{Lcg, started, increment_of}
 use Rattle.rand_pcg.specs.Pcg.{pcg32, multiplier_64}
 use Rattle.sig_types.specs.Counts.{Counts}
@@ -17,6 +17,19 @@ after_words (suc n) g = after_words n (pcg32 g).1
 -- one front and one rear where 8 divides the word
 abbrev pub drawn_pair : ℕ → ℕ × ℕ
 drawn_pair word = if word % 8 == 0 then (1, 1) else (0, 0)
+
+-- the places below n whose words tell of a vehicle
+abbrev pub places_to : ℕ → Lcg → List ℕ
+places_to zero g = []
+places_to (suc n) g = places_to n g ++ (if (pcg32 (after_words n g)).0 % 8 == 0 then n ∷ [] else [])
+
+-- the places whose words tell of a vehicle in a second
+unfoldable pub places_from : Lcg → List ℕ
+places_from g = places_to 12 g
+
+-- one front and one rear at each of these places, and nothing elsewhere
+abbrev pub vehicles_at : List ℕ → Counts
+vehicles_at places = fold (λ counts place. slice_set counts place (1, 1)) (replicate 64 (0, 0)) places
 
 -- the frame of a second: a word for each of detectors 1 to 12, and nothing for the others
 unfoldable pub frame_from : Lcg → Counts
