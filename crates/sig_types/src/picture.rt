@@ -60,6 +60,14 @@ impl Picture {
         self.aspects[place as usize]
     }
 
+    /// The aspects of all 64 places. Those of the groups are the first, and what the others are isn't told.
+    pub fn places(&self) -> &[Aspect; 64]
+        ensures aspects { take (length self.now) result.now ≡ self.now }
+        ensures at_most { length self.now ≤ 64 }
+    {
+        &self.aspects
+    }
+
     /// Puts an aspect at that place.
     pub fn set(&mut self, place: u8, item: Aspect)
         requires { place < length self.old }

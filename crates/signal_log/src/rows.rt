@@ -8,7 +8,7 @@ ghost use Rattle.signal_log.specs.Log.{letter, place_text, head_text};
 use crate::words::letter;
 use itoa::Buffer;
 use sig_io::Piece;
-use sig_types::{Picture, Record, StagePlace};
+use sig_types::{Aspect, Picture, Record, StagePlace};
 
 // Writes a byte.
 #[inline(always)]
@@ -65,6 +65,39 @@ fn put_place(row: &mut [u8], at: usize, place: StagePlace) -> usize
     }
 }
 
+// Writes bytes.
+#[inline(always)]
+fn put_piece(row: &mut [u8], at: usize, piece: &[u8])
+    requires { at + length piece.now ≤ length row.old }
+    ensures written { take (at + length piece.now) row.new ≡ take at row.old ++ piece.now }
+    ensures length { length row.new ≡ length row.old }
+{
+    row[at..at + piece.len()].copy_from_slice(piece);
+}
+
+// The letters of the first sixteen places.
+#[inline(always)]
+fn first_letters(aspects: &[Aspect; 64]) -> [u8; 16]
+    ensures { result ≡ map letter (take 16 aspects.now) }
+{
+    let mut letters = [0; 16];
+    for place in 0..16usize {
+        letters[place] = letter(aspects[place]);
+    }
+    letters
+}
+
+// Writes the letters of the first sixteen places at once, of which `n` are to stay.
+#[inline(always)]
+fn put_first(row: &mut [u8], at: usize, aspects: &[Aspect; 64], n: usize)
+    requires room { at + 16 ≤ length row.old }
+    requires few { n ≤ 16 }
+    ensures written { take (at + n) row.new ≡ take at row.old ++ map letter (take n aspects.now) }
+    ensures length { length row.new ≡ length row.old }
+{
+    put_piece(row, at, &first_letters(aspects));
+}
+
 // Writes one letter for each group.
 #[inline(always)]
 fn put_letters(row: &mut [u8], at: usize, picture: &Picture) -> usize
@@ -73,8 +106,10 @@ fn put_letters(row: &mut [u8], at: usize, picture: &Picture) -> usize
     ensures written { take result row.new ≡ take at row.old ++ map letter picture.now }
     ensures length { length row.new ≡ length row.old }
 {
-    let mut at = at;
-    for place in 0..picture.len() {
+    let first = picture.len().min(16);
+    put_first(row, at, picture.places(), usize::from(first));
+    let mut at = at + usize::from(first);
+    for place in first..picture.len() {
         at = put_byte(row, at, letter(picture.get(place)));
     }
     at

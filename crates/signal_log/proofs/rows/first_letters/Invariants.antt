@@ -1,0 +1,9 @@
+use Rattle.std.proofs.Common.{◌≡◌, map, take, length}
+use Rattle.signal_log.specs.Log.{letter}
+use Rattle.signal_log.proofs.rows.first_letters.Given as goal
+
+abbrev pub invariant-loop-place : goal.invariant-loop-place
+invariant-loop-place l = record {
+  written : take l.place l.letters ≡ map letter (take l.place l.aspects);
+  length : length l.letters ≡ 16;
+}
