@@ -1,15 +1,13 @@
 -- The text of a program, judged stage by stage.
-use Rattle.std.proofs.Common.{◌≡◌, ◌∙◌, ◌≤◌, ◌<◌, ◌+◌, max, ℕ, List, length, All, Result, Ok, Err, refl, sym, ap, subst, arith}
+use Rattle.std.proofs.Common.{◌≡◌, ◌∙◌, ◌≤◌, ◌<◌, max, ℕ, List, length, Result, Ok, Err, refl, sym, ap, subst, arith}
 use Rattle.std.specs.Prelude.{IfOk, IfErr}
 use Rattle.vap_ast.specs.declared.tree.Program.{Program as Tree}
-use Rattle.vap_ast.specs.Parsed.{IsLine}
 use Rattle.vap_ast.specs.Tree.{program_of}
 use Rattle.vap_check.specs.Accepted.{Accepted}
 use Rattle.vap_check.specs.Numbers.{Meant, checked_of}
 use Rattle.vap_lex.specs.declared.token.Token.{Token}
 use Rattle.vap_lex.specs.declared.piece.LexWhy.{LexWhy}
 use Rattle.vap_lex.specs.declared.scan.LexRefusal.TheVariants as lex
-use Rattle.vap_lex.specs.Kept.{HasLine}
 use Rattle.vap_lex.specs.Refusal as lexed
 use Rattle.vap_lex.specs.Tokens.{HasTokens}
 use Rattle.vap_parse.specs.declared.program.ParseWhy.{ParseWhy}
@@ -34,10 +32,6 @@ use Rattle.junction_run.specs.Programs.{ProgramIs, no_token, no_tree, is_program
 use Rattle.junction_run.specs.Reasons.{reason_text, lex_reason, parse_reason, verify_reason}
 use Rattle.junction_run.specs.Sites.{IsRefusedProgram, IsCheckedText, IsProgramText, IsProgramFile, IsCodeText, IsCodeFile}
 use Rattle.junction_run.specs.Stop.{IsAt, IsUnread, IsRefusedBy, IsUnloadedBy, IsLoadStop}
-
--- a text has no more lines than bytes, and one
-pub lines_within : (n most : ℕ) (ts : List Token) → n + 1 ≤ most → All (λ t. HasLine n t) ts → All (λ t. IsLine most t.line) ts
-lines_within n most ts le all = λ k d below. ((all k d below).0, omega (arith, (all k d below).1, le))
 
 -- a place that is no token
 pub stuck_text : (text : List ℕ) (line : ℕ) (why : LexWhy) → lexed.IsRefused text (lex.At line why) → ProgramIs text (Err (line, lex_reason why))

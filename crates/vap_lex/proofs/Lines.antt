@@ -5,6 +5,7 @@ use Rattle.std.proofs.Math.Seq.{take-add}
 use Rattle.std.specs.Prelude.{Option, Some, None, IfSome}
 use Rattle.std.specs.List.{All}
 use Rattle.std.proofs.lemmas.List.Elements.{All-nil, All-cons, All-append}
+use Rattle.vap_ast.specs.Parsed.{IsLine}
 use Rattle.vap_lex.specs.declared.token.TokenKind.{TokenKind}
 use Rattle.vap_lex.specs.Kept.{IsKept, IsUnsigned, HasLine}
 use Rattle.vap_lex.specs.declared.token.Token.{Token}
@@ -53,3 +54,7 @@ kept_on p line kind tokens so_far lt h = All-append IsKept tokens (found p line 
 
 pub lines_on : (bytes p line : ℕ) (kind : Option TokenKind) (tokens : List Token) → All (HasLine bytes) tokens → 1 ≤ line → line ≤ bytes + 1 → All (HasLine bytes) (tokens ++ found p line kind)
 lines_on bytes p line kind tokens so_far one most = All-append (HasLine bytes) tokens (found p line kind) so_far (found_all (HasLine bytes) p line kind (has_line bytes p line kind one most))
+
+-- a text has no more lines than bytes, and one
+pub lines_within : (n most : ℕ) (ts : List Token) → n + 1 ≤ most → All (λ t. HasLine n t) ts → All (λ t. IsLine most t.line) ts
+lines_within n most ts le all = λ k d below. ((all k d below).0, omega (arith, (all k d below).1, le))

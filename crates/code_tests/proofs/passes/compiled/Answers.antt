@@ -1,5 +1,5 @@
 use Rattle.std.proofs.Common.{length, arith}
-use Rattle.code_tests.proofs.Lines.{lines_within}
+use Rattle.vap_lex.proofs.Lines.{lines_within}
 use Rattle.code_tests.proofs.passes.compiled.Goals as goal
 
 pub check-requires : goal.check-requires

@@ -1,5 +1,6 @@
 use Rattle.std.proofs.Common.{length, arith}
-use Rattle.junction_run.proofs.Texts.{lines_within, checked_text}
+use Rattle.vap_lex.proofs.Lines.{lines_within}
+use Rattle.junction_run.proofs.Texts.{checked_text}
 use Rattle.junction_run.proofs.program.read_program.Goals as goal
 
 pub check_tree-requires : goal.check_tree-requires

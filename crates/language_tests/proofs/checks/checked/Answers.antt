@@ -1,5 +1,5 @@
 use Rattle.std.proofs.Common.{length, arith}
-use Rattle.language_tests.proofs.Lines.{lines_within}
+use Rattle.vap_lex.proofs.Lines.{lines_within}
 use Rattle.language_tests.proofs.checks.checked.Goals as goal
 
 pub check-requires : goal.check-requires
