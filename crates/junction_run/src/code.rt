@@ -16,8 +16,8 @@ ghost use Rattle.junction_run.specs.declared.status.Status.TheVariants as status
 
 use crate::file::{CODE_LIMIT, read_file};
 use crate::form::SiteWords;
-use crate::load::Site;
-use crate::site::{SiteTables, take_site};
+use crate::load::{Site, with_code};
+use crate::site::take_site;
 use crate::stop::{Reason, Stop};
 use code_file::{CodeRefusal, read_code};
 use code_verify::{Verified, VerifyRefusal, verify};
@@ -114,21 +114,12 @@ pub(crate) fn load_code<'a, F: Files>(
     ensures later { F.faults files.old ≤ F.faults files.new }
     ensures cause { StopsWith status.ReadFault result → Rose (F.faults files.old) (F.faults files.new) }
 {
-    let SiteTables {
-        plan,
-        times,
-        intergreens,
-    } = match take_site(alloc, words, files) {
+    let tables = match take_site(alloc, words, files) {
         Ok(tables) => tables,
         Err(stop) => return Err(stop),
     };
     match take_code(alloc, code, files) {
-        Ok(code) => Ok(Site {
-            plan,
-            times,
-            intergreens,
-            code,
-        }),
+        Ok(code) => Ok(with_code(tables, code)),
         Err(stop) => Err(stop),
     }
 }

@@ -33,6 +33,23 @@ pub struct Site {
     pub code: Verified,
 }
 
+/// The site of these tables with this code.
+pub(crate) fn with_code(tables: SiteTables, code: Verified) -> Site
+    ensures { result ≡ record { plan = tables.plan; times = tables.times; intergreens = tables.intergreens; code = code } }
+{
+    let SiteTables {
+        plan,
+        times,
+        intergreens,
+    } = tables;
+    Site {
+        plan,
+        times,
+        intergreens,
+        code,
+    }
+}
+
 /// Reads and judges the plan, the times, the intergreens and a program, one after the other.
 pub(crate) fn load_program<'a, F: Files>(
     alloc: Global,
@@ -48,21 +65,12 @@ pub(crate) fn load_program<'a, F: Files>(
     ensures later { F.faults files.old ≤ F.faults files.new }
     ensures cause { StopsWith status.ReadFault result → Rose (F.faults files.old) (F.faults files.new) }
 {
-    let SiteTables {
-        plan,
-        times,
-        intergreens,
-    } = match take_site(alloc, words, files) {
+    let tables = match take_site(alloc, words, files) {
         Ok(tables) => tables,
         Err(stop) => return Err(stop),
     };
     match take_program(alloc, program, files) {
-        Ok(code) => Ok(Site {
-            plan,
-            times,
-            intergreens,
-            code,
-        }),
+        Ok(code) => Ok(with_code(tables, code)),
         Err(stop) => Err(stop),
     }
 }

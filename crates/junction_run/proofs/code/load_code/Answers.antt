@@ -27,5 +27,7 @@ returns-in-Err-take_code-clause-word g c =
 
 pub returns-in-Ok-take_code-clause-loaded : goal.returns-in-Ok-take_code-clause-loaded
 returns-in-Ok-take_code-clause-loaded g c = λ file e.
-    last_taken code_at (IsJudged CodeIs code_limit c.args.code.now (file c.args.code.now)) c.args.code.now (site_in c.args.words.now) file (site_of_tables c.in-Ok.tables) c.in-Ok-take_code.code (c.in-Ok.ensures.site file e)
-    (c.in-Ok-take_code.ensures.code file (c.take_site.ensures.contents_stay ∙ e))
+    rw c.with_code.ensures
+    (last_taken code_at (IsJudged CodeIs code_limit c.args.code.now (file c.args.code.now)) c.args.code.now (site_in c.args.words.now) file
+    (site_of_tables c.in-Ok.tables) c.in-Ok-take_code.code (c.in-Ok.ensures.site file e)
+    (c.in-Ok-take_code.ensures.code file (c.take_site.ensures.contents_stay ∙ e)))

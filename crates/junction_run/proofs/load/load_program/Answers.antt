@@ -28,4 +28,9 @@ returns-in-Err-take_program-clause-word g c =
 pub returns-in-Ok-take_program-clause-loaded : goal.returns-in-Ok-take_program-clause-loaded
 returns-in-Ok-take_program-clause-loaded g c = λ file e.
     let taken = c.in-Ok-take_program.ensures.program file (c.take_site.ensures.contents_stay ∙ e) in
-    (taken.0, last_taken program_at (IsJudged ProgramIs text_limit c.args.program.now (file c.args.program.now)) c.args.program.now (site_in c.args.words.now) file (site_of_tables c.in-Ok.tables) taken.0 (c.in-Ok.ensures.site file e) taken.1, taken.2)
+    rw c.with_code.ensures (
+      taken.0,
+      last_taken program_at (IsJudged ProgramIs text_limit c.args.program.now (file c.args.program.now)) c.args.program.now (site_in c.args.words.now) file
+          (site_of_tables c.in-Ok.tables) taken.0 (c.in-Ok.ensures.site file e) taken.1,
+      taken.2,
+    )
