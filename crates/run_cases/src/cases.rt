@@ -1,7 +1,8 @@
 // Runs over files in memory, and what they must answer.
 ghost use Rattle.std.specs.Prelude.{◌≡◌, ◌≢◌, [], IfOk, IsFalse, IsTrue, MatchOption, Some, map, string_bytes};
+ghost use Rattle.std.specs.Option.{option_map};
 ghost use Rattle.sig_types.specs.Text.{strip};
-ghost use Rattle.run_cases.specs.Logs.{header};
+ghost use Rattle.run_cases.specs.Logs.{header, is_front};
 
 use junction_run::{Status, junction};
 use sig_io::{Files, MemFiles, MemSink, Sink};
@@ -203,7 +204,9 @@ pub fn is_log(bytes: &[u8], records: Option<&[u8]>) -> bool
 }
 
 /// Whether these bytes are a front of the header with these records.
-pub fn is_log_front(bytes: &[u8], records: Option<&[u8]>) -> bool {
+pub fn is_log_front(bytes: &[u8], records: Option<&[u8]>) -> bool
+    ensures { result ≡ is_front bytes.now (strip header bytes.now) (option_map (λ records. records.now) records.entry) }
+{
     match (strip(HEADER, bytes), records) {
         (Some(front), Some(records)) => records.starts_with(front),
         (Some(_), None) => false,
