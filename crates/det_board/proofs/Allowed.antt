@@ -15,7 +15,7 @@ use Rattle.det_board.specs.Rule.{most_fronts, last_read, loads_after, fronts_wor
 use Rattle.det_board.proofs.Words.{last_read-here, last_read-else, owned_here}
 use Rattle.det_board.proofs.Steps.{with, CountsOn, counts_on, reached_on, front_event, rear_event, rears_event, fronts_event, in_order, at_tick, loads_on, deals_on, gives_on}
 
-pub fronts_set : (words : List ℕ) (k f r : ℕ) → 2 * k + 1 < length words → CountsAt words k (f, r) → f < most_fronts → CountsOn words (set words (fronts_word k) ((slice_index words (fronts_word k) + 1) % 2 ^ 64)) k (f + 1) r
+pub fronts_set : (words : List ℕ) (k f r : ℕ) → 8 * k + 1 < length words → CountsAt words k (f, r) → f < most_fronts → CountsOn words (set words (fronts_word k) ((slice_index words (fronts_word k) + 1) % 2 ^ 64)) k (f + 1) r
 fronts_set words k f r inside was room =
     let n = slice_index words (fronts_word k) in
     let is : n ≡ f = was.fronts in
@@ -31,7 +31,7 @@ fronts_set words k f r inside was room =
       bounded = omega arith;
     }
 
-pub rears_set : (words : List ℕ) (k f r : ℕ) → 2 * k + 1 < length words → CountsAt words k (f, r) → r < f → CountsOn words (set words (rears_word k) ((slice_index words (rears_word k) + 1) % 2 ^ 64)) k f (r + 1)
+pub rears_set : (words : List ℕ) (k f r : ℕ) → 8 * k + 1 < length words → CountsAt words k (f, r) → r < f → CountsOn words (set words (rears_word k) ((slice_index words (rears_word k) + 1) % 2 ^ 64)) k f (r + 1)
 rears_set words k f r inside was room =
     let n = slice_index words (rears_word k) in
     let is : n ≡ r = was.rears in
@@ -53,7 +53,7 @@ pub front_allows : (detectors slots id k f r w : ℕ) → w ≡ fronts_word k �
 front_allows detectors slots id k f r w at_word room = subst (λ (u : ℕ). Allows (Keeps detectors) slots id (Feeder k f r, []) u (λ n. (n + 1) % 2 ^ 64) (Fronts (step slots u 1 0 none) (Feeder k f r, []))) (sym at_word)
     (λ s h long at fits.
     let mine = (h.fits id (Feeder k f r) at).one_owner k (f, r) (owned_here k f r) in
-    let inside : 2 * k + 1 < length s.words = let e = h.word_count in let lt = mine.0 in omega arith in
+    let inside : 8 * k + 1 < length s.words = let e = h.word_count in let lt = mine.0 in omega arith in
     let new = set s.words (fronts_word k) ((slice_index s.words (fronts_word k) + 1) % 2 ^ 64) in
     let on : CountsOn s.words new k (f + 1) r = fronts_set s.words k f r inside mine.2 room in
     let reached = reached_on (front k) (marks_of s.words h.loads) (marks_of new h.loads) h.reached tt (front_event s.words new h.loads k f r mine.2.fronts mine.2.rears on) in
@@ -64,7 +64,7 @@ pub rear_allows : (detectors slots id k f r w : ℕ) → w ≡ rears_word k → 
 rear_allows detectors slots id k f r w at_word room = subst (λ (u : ℕ). Allows (Keeps detectors) slots id (Feeder k f r, []) u (λ n. (n + 1) % 2 ^ 64) (Rears (step slots u 1 0 none) (Feeder k f r, []))) (sym at_word)
     (λ s h long at fits.
     let mine = (h.fits id (Feeder k f r) at).one_owner k (f, r) (owned_here k f r) in
-    let inside : 2 * k + 1 < length s.words = let e = h.word_count in let lt = mine.0 in omega arith in
+    let inside : 8 * k + 1 < length s.words = let e = h.word_count in let lt = mine.0 in omega arith in
     let new = set s.words (rears_word k) ((slice_index s.words (rears_word k) + 1) % 2 ^ 64) in
     let on : CountsOn s.words new k f (r + 1) = rears_set s.words k f r inside mine.2 room in
     let may : slice_index s.words (rears_word k) < slice_index s.words (fronts_word k) = let a = mine.2.fronts in let b = mine.2.rears in omega arith in
@@ -72,7 +72,7 @@ rear_allows detectors slots id k f r w at_word room = subst (λ (u : ℕ). Allow
     (Feeder k f (r + 1), keeps, tt, counts_on detectors s h id k f r f (r + 1) new at on reached, refl))
 
 -- a load of the word w by the tick's seat, as the event e
-loaded : (detectors slots id dealt w : ℕ) (loads : List (List ℕ)) (owned : List (Option (ℕ × ℕ))) (then : ℕ → Me (Unit {0}) View → Type 0) → w < 2 * detectors
+loaded : (detectors slots id dealt w : ℕ) (loads : List (List ℕ)) (owned : List (Option (ℕ × ℕ))) (then : ℕ → Me (Unit {0}) View → Type 0) → w < 8 * detectors
     → ((s : State (Unit {0}) View) (h : Keeps detectors s) → h.loads ≡ loads → Reached (marks_of s.words (loads_after loads w (slice_index s.words w))))
     → ((s : State (Unit {0}) View) (h : Keeps detectors s) → h.loads ≡ loads → then (slice_index s.words w) (Tick dealt (loads_after loads w (slice_index s.words w)) owned, []))
     → Allows (Keeps detectors) slots id (Tick dealt loads owned, []) w (λ n. n) then
@@ -81,8 +81,8 @@ loaded detectors slots id dealt w loads owned then inside reaches tells s h long
     let same : h.loads ≡ loads = sym is.1 in
     let n = slice_index s.words w in
     let V = Tick dealt (loads_after loads w n) owned in
-    let size : length loads ≡ 2 * detectors = ap length is.1 ∙ h.load_count in
-    let read : (k : ℕ) → k < 2 * detectors → last_read (loads_after loads w n) k ≤ slice_index s.words k = λ k lt. dite (ℕ_discrete k w)
+    let size : length loads ≡ 8 * detectors = ap length is.1 ∙ h.load_count in
+    let read : (k : ℕ) → k < 8 * detectors → last_read (loads_after loads w n) k ≤ slice_index s.words k = λ k lt. dite (ℕ_discrete k w)
     (λ e. subst (λ j. last_read (loads_after loads w n) j ≤ slice_index s.words j) (sym e) (let here = last_read-here loads w n (omega arith) in omega (arith, here)))
     (λ ne. let else = last_read-else loads w n k ne in let was = subst (λ l. last_read l k ≤ slice_index s.words k) same (h.read k lt) in omega (arith, else, was)) in
     let kept = loads_on detectors s h id dealt loads (loads_after loads w n) owned at (length-set loads w _ ∙ size) read (reaches s h same) in

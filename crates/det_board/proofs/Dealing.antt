@@ -14,7 +14,7 @@ pub undealt_first : (detectors : ℕ) (me : Me (Unit {0}) View) → me ≡ (open
 undealt_first detectors me is = subst (Undealt 0 detectors) (sym is) (record { view = refl; owned_count = length-same detectors (Some (0, 0)); rest = λ d h lt. owned_first detectors d lt })
 
 -- the seat's view, and what the new seat gets
-seen : (n detectors : ℕ) (me : Me (Unit {0}) View) → Undealt n detectors me → n < detectors → (dealt_to me.0 ≡ Feeder n 0 0) × (dealt_from me.0 ≡ Tick (suc n) (replicate (2 * detectors) []) (slice_set (owned_of me.0) n None))
+seen : (n detectors : ℕ) (me : Me (Unit {0}) View) → Undealt n detectors me → n < detectors → (dealt_to me.0 ≡ Feeder n 0 0) × (dealt_from me.0 ≡ Tick (suc n) (replicate (8 * detectors) []) (slice_set (owned_of me.0) n None))
 seen n detectors me u inside = (
   ap (λ (m : Me (Unit {0}) View). dealt_to m.0) u.view ∙ ap (feeder_of n) (u.rest n (omega arith) inside),
   ap (λ (m : Me (Unit {0}) View). dealt_from m.0) u.view,
@@ -23,7 +23,7 @@ seen n detectors me u inside = (
 pub deals : (key detectors id n : ℕ) (me : Me (Unit {0}) View) → key ≡ detectors → Undealt n detectors me → n < detectors → Splits (Keeps key) id me.0 (dealt_from me.0) (dealt_to me.0)
 deals key detectors id n me same u inside =
     let none_loaded : List ℕ = [] in
-    let L = replicate (2 * detectors) none_loaded in
+    let L = replicate (8 * detectors) none_loaded in
     let v : me.0 ≡ Tick n L (owned_of me.0) = ap (λ (m : Me (Unit {0}) View). m.0) u.view in
     let s = seen n detectors me u inside in
     subst (λ (v : View). Splits (Keeps key) id v (dealt_from me.0) (dealt_to me.0)) (sym v)
@@ -36,30 +36,30 @@ undealt_next n detectors me me' u inside is =
     let s = seen n detectors me u inside in
     let none_loaded : List ℕ = [] in
     let held : me.1 ≡ [] = ap (λ (m : Me (Unit {0}) View). m.1) u.view in
-    let now : me' ≡ (Tick (n + 1) (replicate (2 * detectors) none_loaded) (slice_set (owned_of me.0) n None), []) = is ∙ (λ i. (s.1 i, held i)) ∙ ap (λ k. (Tick k (replicate (2 * detectors) none_loaded) (slice_set (owned_of me.0) n None), [])) (sym (add-one n)) in
+    let now : me' ≡ (Tick (n + 1) (replicate (8 * detectors) none_loaded) (slice_set (owned_of me.0) n None), []) = is ∙ (λ i. (s.1 i, held i)) ∙ ap (λ k. (Tick k (replicate (8 * detectors) none_loaded) (slice_set (owned_of me.0) n None), [])) (sym (add-one n)) in
     subst (Undealt (n + 1) detectors) (sym now) (record {
       view = refl;
       owned_count = length-set (owned_of me.0) n None ∙ u.owned_count;
       rest = λ d h lt. get_or-set_other (owned_of me.0) n d None None (λ e. omega arith) ∙ u.rest d (omega arith) lt;
     })
 
-pub feeding_first : (id : TableId) (n detectors : ℕ) (me me' : Me (Unit {0}) View) → Undealt n detectors me → n < detectors → detectors ≤ 64 → id.words ≡ 2 * detectors → me' ≡ (dealt_to me.0, []) → IsFeeding id me' n 0 0
+pub feeding_first : (id : TableId) (n detectors : ℕ) (me me' : Me (Unit {0}) View) → Undealt n detectors me → n < detectors → detectors ≤ 64 → id.words ≡ 8 * detectors → me' ≡ (dealt_to me.0, []) → IsFeeding id me' n 0 0
 feeding_first id n detectors me me' u inside low words is =
     let s = seen n detectors me u inside in
     record { view = is ∙ (λ i. (s.0 i, [])); ordered = omega arith; bounded = omega arith; in_range = omega arith; on_board = omega arith }
 
-pub ticking_first : (id : TableId) (n detectors : ℕ) (me : Me (Unit {0}) View) (totals : List (ℕ × ℕ)) → Undealt n detectors me → id.words ≡ 2 * detectors → totals ≡ replicate 64 (0, 0) → IsTicking id me totals
+pub ticking_first : (id : TableId) (n detectors : ℕ) (me : Me (Unit {0}) View) (totals : List (ℕ × ℕ)) → Undealt n detectors me → id.words ≡ 8 * detectors → totals ≡ replicate 64 (0, 0) → IsTicking id me totals
 ticking_first id n detectors me totals u words zeros =
     let none_loaded : List ℕ = [] in
     let z : ℕ × ℕ = (0, 0) in
-    let L = replicate (2 * detectors) none_loaded in
+    let L = replicate (8 * detectors) none_loaded in
     subst (λ (t : List (ℕ × ℕ)). IsTicking id me t) (sym zeros) (
     let Q : Me (Unit {0}) View → Type 0 = λ m. IsTicking id m (replicate 64 z) in
     subst Q (sym u.view) (record {
       view = refl;
-      load_count = length-same (2 * detectors) none_loaded ∙ sym words;
+      load_count = length-same (8 * detectors) none_loaded ∙ sym words;
       owned_count = let o = u.owned_count in omega arith;
       size = refl;
-      read = λ d lt. all_zero 64 d ∙ (λ i. (sym (nothing_read (2 * detectors) (fronts_word d)) i, sym (nothing_read (2 * detectors) (rears_word d)) i));
-      ordered = λ d lt. let a = nothing_read (2 * detectors) (rears_word d) in let b = nothing_read (2 * detectors) (fronts_word d) in (omega arith, omega arith);
+      read = λ d lt. all_zero 64 d ∙ (λ i. (sym (nothing_read (8 * detectors) (fronts_word d)) i, sym (nothing_read (8 * detectors) (rears_word d)) i));
+      ordered = λ d lt. let a = nothing_read (8 * detectors) (rears_word d) in let b = nothing_read (8 * detectors) (fronts_word d) in (omega arith, omega arith);
     }))

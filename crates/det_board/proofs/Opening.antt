@@ -56,14 +56,14 @@ owned_first zero d h = absurd (omega arith)
 owned_first (suc n) zero h = refl
 owned_first (suc n) (suc d) h = owned_first n d (omega arith)
 
-pub opens : (detectors : ℕ) → Keeps detectors (opening (replicate (2 * detectors) 0) [] (opening_view detectors))
+pub opens : (detectors : ℕ) → Keeps detectors (opening (replicate (8 * detectors) 0) [] (opening_view detectors))
 opens detectors =
     let z : ℕ × ℕ = (0, 0) in
     let none_loaded : List ℕ = [] in
-    let W = replicate (2 * detectors) 0 in
-    let L = replicate (2 * detectors) none_loaded in
+    let W = replicate (8 * detectors) 0 in
+    let L = replicate (8 * detectors) none_loaded in
     let O = replicate detectors (Some z) in
-    let zero_words : (i : ℕ) → slice_index W i ≡ 0 = zeros (2 * detectors) in
+    let zero_words : (i : ℕ) → slice_index W i ≡ 0 = zeros (8 * detectors) in
     let seat : ℕ = 0 in
     let F : (d : ℕ) (c : ℕ × ℕ) → owned_by (Tick 0 L O) d ≡ Some c → (d < detectors) × (seat ≡ seat) × CountsAt W d c = λ d c e. let at = owned_at detectors d c e in
     (at.0, refl, subst (CountsAt W d) (sym at.1) (record { fronts = zero_words (fronts_word d); rears = zero_words (rears_word d); ordered = omega arith; bounded = omega arith })) in
@@ -73,21 +73,21 @@ opens detectors =
       loads = L;
       owned = O;
       owner = λ _. 0;
-      word_count = length-same (2 * detectors) 0;
-      load_count = length-same (2 * detectors) none_loaded;
+      word_count = length-same (8 * detectors) 0;
+      load_count = length-same (8 * detectors) none_loaded;
       ticks = refl;
       fits = λ i v e. one i v e F;
       has_owner = λ d inside. (Tick 0 L O, refl, (z, owned_first detectors d inside));
-      read = λ w inside. let a = nothing_read (2 * detectors) w in omega arith;
-      reached = ([], λ i. record { fronts = λ d. zero_words (fronts_word d) i; rears = λ d. zero_words (rears_word d) i; fronts_read = λ d. nothing_read (2 * detectors) (fronts_word d) i; rears_read = λ d. nothing_read (2 * detectors) (rears_word d) i });
+      read = λ w inside. let a = nothing_read (8 * detectors) w in omega arith;
+      reached = ([], λ i. record { fronts = λ d. zero_words (fronts_word d) i; rears = λ d. zero_words (rears_word d) i; fronts_read = λ d. nothing_read (8 * detectors) (fronts_word d) i; rears_read = λ d. nothing_read (8 * detectors) (rears_word d) i });
     }
   where
-    one : (i : ℕ) (v : View) → get_elem? (opening_view detectors ∷ []) i ≡ some v → ((d : ℕ) (c : ℕ × ℕ) → owned_by (opening_view detectors) d ≡ Some c → (d < detectors) × (let seat : ℕ = 0 in seat ≡ seat) × CountsAt (replicate (2 * detectors) 0) d c) → Fits detectors (replicate (2 * detectors) 0) 0 (λ _. 0) i v
-    one zero v e F = subst (λ u. Fits detectors (replicate (2 * detectors) 0) 0 (λ _. 0) 0 u) (some-injective (opening_view detectors) v e) (record { one_tick = λ _. refl; one_owner = F })
+    one : (i : ℕ) (v : View) → get_elem? (opening_view detectors ∷ []) i ≡ some v → ((d : ℕ) (c : ℕ × ℕ) → owned_by (opening_view detectors) d ≡ Some c → (d < detectors) × (let seat : ℕ = 0 in seat ≡ seat) × CountsAt (replicate (8 * detectors) 0) d c) → Fits detectors (replicate (8 * detectors) 0) 0 (λ _. 0) i v
+    one zero v e F = subst (λ u. Fits detectors (replicate (8 * detectors) 0) 0 (λ _. 0) 0 u) (some-injective (opening_view detectors) v e) (record { one_tick = λ _. refl; one_owner = F })
     one (suc i) v e F = absurd (some-ne-none v (sym e))
 
-pub opens_at : (detectors : ℕ) (ws : List ℕ) → ws ≡ replicate (2 * detectors) 0 → Keeps detectors (opening ws [] (opening_view detectors))
+pub opens_at : (detectors : ℕ) (ws : List ℕ) → ws ≡ replicate (8 * detectors) 0 → Keeps detectors (opening ws [] (opening_view detectors))
 opens_at detectors ws e = subst (λ w. Keeps detectors (opening w [] (opening_view detectors))) (sym e) (opens detectors)
 
-pub opens_front : (detectors n : ℕ) (zs : List ℕ) → zs ≡ replicate 128 0 → n ≡ detectors → detectors ≤ 64 → Keeps detectors (opening (take (2 * n) zs) [] (opening_view detectors))
-opens_front detectors n zs e same low = opens_at detectors (take (2 * n) zs) (ap (take (2 * n)) e ∙ take-replicate (2 * n) 128 0 (omega arith) ∙ ap (λ k. replicate (2 * k) 0) same)
+pub opens_front : (detectors n : ℕ) (zs : List ℕ) → zs ≡ replicate 512 0 → n ≡ detectors → detectors ≤ 64 → Keeps detectors (opening (take (8 * n) zs) [] (opening_view detectors))
+opens_front detectors n zs e same low = opens_at detectors (take (8 * n) zs) (ap (take (8 * n)) e ∙ take-replicate (8 * n) 512 0 (omega arith) ∙ ap (λ k. replicate (8 * k) 0) same)

@@ -17,10 +17,10 @@ after_load me me' w n D L O is e = e ∙ ap (λ (m : Me (Unit {0}) View). (with_
 abbrev pub both_loads : List (List ℕ) → ℕ → ℕ → ℕ → List (List ℕ)
 both_loads L d r f = loads_after (loads_after L (rears_word d) r) (fronts_word d) f
 
-pub fronts_last : (L : List (List ℕ)) (d r f : ℕ) → 2 * d + 1 < length L → last_read (both_loads L d r f) (fronts_word d) ≡ f
+pub fronts_last : (L : List (List ℕ)) (d r f : ℕ) → 8 * d + 1 < length L → last_read (both_loads L d r f) (fronts_word d) ≡ f
 fronts_last L d r f inside = last_read-here (loads_after L (rears_word d) r) (fronts_word d) f (omega (arith, length-set L (rears_word d) (slice_index_or L (rears_word d) [] ++ r ∷ [])))
 
-pub rears_last : (L : List (List ℕ)) (d r f : ℕ) → 2 * d + 1 < length L → last_read (both_loads L d r f) (rears_word d) ≡ r
+pub rears_last : (L : List (List ℕ)) (d r f : ℕ) → 8 * d + 1 < length L → last_read (both_loads L d r f) (rears_word d) ≡ r
 rears_last L d r f inside = last_read-else (loads_after L (rears_word d) r) (fronts_word d) f (rears_word d) (λ e. omega arith) ∙ last_read-here L (rears_word d) r inside
 
 pub fronts_kept : (L : List (List ℕ)) (d r f k : ℕ) → k ≢ d → last_read (both_loads L d r f) (fronts_word k) ≡ last_read L (fronts_word k)
@@ -30,7 +30,7 @@ pub rears_kept : (L : List (List ℕ)) (d r f k : ℕ) → k ≢ d → last_read
 rears_kept L d r f k ne = last_read-else (loads_after L (rears_word d) r) (fronts_word d) f (rears_word k) (λ e. omega arith) ∙ last_read-else L (rears_word d) r (rears_word k) (λ e. ne (omega arith))
 
 -- what the second load tells of the first
-pub between : (me : Me (Unit {0}) View) (d r f D : ℕ) (L : List (List ℕ)) (O : List (Option (ℕ × ℕ))) → 2 * d + 1 < length L → me ≡ (Tick D (loads_after L (rears_word d) r) O, [])
+pub between : (me : Me (Unit {0}) View) (d r f D : ℕ) (L : List (List ℕ)) (O : List (Option (ℕ × ℕ))) → 8 * d + 1 < length L → me ≡ (Tick D (loads_after L (rears_word d) r) O, [])
     → last_read (loads_of me.0) (fronts_word d) ≤ f → last_read (loads_of me.0) (rears_word d) ≤ f → (last_read L (fronts_word d) ≤ f) × (r ≤ f)
 between me d r f D L O inside is a b =
     let x = subst (λ (m : Me (Unit {0}) View). last_read (loads_of m.0) (fronts_word d) ≤ f) is a in
@@ -39,21 +39,30 @@ between me d r f D L O inside is a b =
     let q = last_read-here L (rears_word d) r inside in
     (omega arith, omega arith)
 
--- the seat after both loads
-pub loads_one : (id id' : TableId) (me mid me' : Me (Unit {0}) View) (d r f : ℕ) → id' ≡ id → 2 * d + 1 < length (loads_of me.0)
+-- the load of the word after w found r
+abbrev FoundRears : Me (Unit {0}) View → Me (Unit {0}) View → ℕ → ℕ → Type 0
+FoundRears me mid r w = (mid ≡ (with_load (w + 1) r me.0, me.1)) × (last_read (loads_of me.0) (w + 1) ≤ r) × (r ≤ most_fronts)
+
+-- and then that of the word w found f
+abbrev FoundFronts : Me (Unit {0}) View → Me (Unit {0}) View → ℕ → ℕ → Type 0
+FoundFronts mid me' f w =
+    (me' ≡ (with_load w f mid.0, mid.1)) × (last_read (loads_of mid.0) w ≤ f) × (f ≤ most_fronts) × (last_read (loads_of mid.0) (w + 1) ≤ f)
+
+-- the seat after both loads, where the word w is the one with the detector's fronts
+pub loads_one : (id id' : TableId) (me mid me' : Me (Unit {0}) View) (d w r f : ℕ) → w ≡ fronts_word d → id' ≡ id → 8 * d + 1 < length (loads_of me.0)
     → me ≡ (Tick (dealt_of me.0) (loads_of me.0) (owned_of me.0), [])
-    → (mid ≡ (with_load (2 * d + 1) r me.0, me.1)) × (last_read (loads_of me.0) (2 * d + 1) ≤ r) × (r ≤ most_fronts)
-    → (me' ≡ (with_load (2 * d) f mid.0, mid.1)) × (last_read (loads_of mid.0) (2 * d) ≤ f) × (f ≤ most_fronts) × (last_read (loads_of mid.0) (2 * d + 1) ≤ f)
-    → LoadsOne d id me id' me' (f, r)
-loads_one id id' me mid me' d r f same room tick one two =
+    → FoundRears me mid r w → FoundFronts mid me' f w → LoadsOne d id me id' me' (f, r)
+loads_one id id' me mid me' d w r f here same room tick found_rears found_fronts =
     let L = loads_of me.0 in
     let O = owned_of me.0 in
-    let is = after_load me mid (2 * d + 1) r (dealt_of me.0) L O tick one.0 in
+    let one : FoundRears me mid r (fronts_word d) = subst (FoundRears me mid r) here found_rears in
+    let two : FoundFronts mid me' f (fronts_word d) = subst (FoundFronts mid me' f) here found_fronts in
+    let is = after_load me mid (rears_word d) r (dealt_of me.0) L O tick one.0 in
     let told = between mid d r f (dealt_of me.0) L O room is two.1 two.3 in
     record {
       table = same;
       inside = room;
-      view = after_load mid me' (2 * d) f (dealt_of me.0) (loads_after L (rears_word d) r) O is two.0;
+      view = after_load mid me' (fronts_word d) f (dealt_of me.0) (loads_after L (rears_word d) r) O is two.0;
       fronts_grow = told.0;
       rears_grow = one.1;
       ordered = told.1;
@@ -66,7 +75,7 @@ pub still_ticking : (id id' : TableId) (me me' : Me (Unit {0}) View) (totals : L
     → IsTicking id' me' (set totals d c)
 still_ticking id id' me me' totals d c was low one =
     let L = loads_of me.0 in
-    let room : 2 * d + 1 < length L = one.inside in
+    let room : 8 * d + 1 < length L = one.inside in
     let f = c.0 in
     let r = c.1 in
     let ordered : r ≤ f = one.ordered in

@@ -19,7 +19,7 @@ unfolding counts_on
 front_is detectors id d f r s at room m sh =
     let h = sh.0 in
     let mine = (h.fits id (Feeder d f r) at).one_owner d (f, r) (owned_here d f r) in
-    let inside : 2 * d + 1 < length s.words = let e = h.word_count in let lt = mine.0 in omega arith in
+    let inside : 8 * d + 1 < length s.words = let e = h.word_count in let lt = mine.0 in omega arith in
     let new = set s.words (fronts_word d) ((slice_index s.words (fronts_word d) + 1) % 2 ^ 64) in
     let on : CountsOn s.words new d (f + 1) r = fronts_set s.words d f r inside mine.2 room in
     let event = front_event s.words new h.loads d f r mine.2.fronts mine.2.rears on in
@@ -31,7 +31,7 @@ unfolding counts_on
 rear_is detectors id d f r s at room m sh =
     let h = sh.0 in
     let mine = (h.fits id (Feeder d f r) at).one_owner d (f, r) (owned_here d f r) in
-    let inside : 2 * d + 1 < length s.words = let e = h.word_count in let lt = mine.0 in omega arith in
+    let inside : 8 * d + 1 < length s.words = let e = h.word_count in let lt = mine.0 in omega arith in
     let new = set s.words (rears_word d) ((slice_index s.words (rears_word d) + 1) % 2 ^ 64) in
     let on : CountsOn s.words new d f (r + 1) = rears_set s.words d f r inside mine.2 room in
     let may : slice_index s.words (rears_word d) < slice_index s.words (fronts_word d) = let a = mine.2.fronts in let b = mine.2.rears in omega arith in
@@ -39,7 +39,7 @@ rear_is detectors id d f r s at room m sh =
     let reached = reached_on (rear d) (marks_of s.words h.loads) (marks_of new h.loads) h.reached may event in
     (subst (May (rear d)) sh.1 may, (counts_on detectors s h id d f r f (r + 1) new at on reached, event ∙ ap (after (rear d)) sh.1))
 
-loaded_is : (detectors id dealt w : ℕ) (loads : List (List ℕ)) (owned : List (Option (ℕ × ℕ))) (s : State (Unit {0}) View) (h : Keeps detectors s) (m : Marks) → lib.ListN.get_elem? s.views id ≡ mathlib.Core.Option.some (Tick dealt loads owned) → w < 2 * detectors
+loaded_is : (detectors id dealt w : ℕ) (loads : List (List ℕ)) (owned : List (Option (ℕ × ℕ))) (s : State (Unit {0}) View) (h : Keeps detectors s) (m : Marks) → lib.ListN.get_elem? s.views id ≡ mathlib.Core.Option.some (Tick dealt loads owned) → w < 8 * detectors
     → Reached (marks_of s.words (loads_after loads w (slice_index s.words w))) → marks_of s.words (loads_after loads w (slice_index s.words w)) ≡ m
     → Shows detectors (with s (set s.words w (slice_index s.words w)) id (Tick dealt (loads_after loads w (slice_index s.words w)) owned)) m
 unfolding loads_on
@@ -48,8 +48,8 @@ loaded_is detectors id dealt w loads owned s h m at inside reached is =
     let same : h.loads ≡ loads = sym tick.1 in
     let n = slice_index s.words w in
     let V = Tick dealt (loads_after loads w n) owned in
-    let size : length loads ≡ 2 * detectors = ap length tick.1 ∙ h.load_count in
-    let read : (k : ℕ) → k < 2 * detectors → last_read (loads_after loads w n) k ≤ slice_index s.words k = λ k lt. dite (ℕ_discrete k w)
+    let size : length loads ≡ 8 * detectors = ap length tick.1 ∙ h.load_count in
+    let read : (k : ℕ) → k < 8 * detectors → last_read (loads_after loads w n) k ≤ slice_index s.words k = λ k lt. dite (ℕ_discrete k w)
     (λ e. subst (λ j. last_read (loads_after loads w n) j ≤ slice_index s.words j) (sym e) (let here = last_read-here loads w n (omega arith) in omega (arith, here)))
     (λ ne. let else = last_read-else loads w n k ne in let was = subst (λ l. last_read l k ≤ slice_index s.words k) same (h.read k lt) in omega (arith, else, was)) in
     let kept = loads_on detectors s h id dealt loads (loads_after loads w n) owned at (length-set loads w _ ∙ size) read reached in

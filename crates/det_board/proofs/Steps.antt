@@ -170,7 +170,7 @@ at_tick detectors s h id dealt loads owned at =
 
 -- a load by the tick's seat
 unfoldable pub loads_on : (detectors : ℕ) (s : State (Unit {0}) View) (h : Keeps detectors s) (id dealt : ℕ) (loads loads' : List (List ℕ)) (owned : List (Option (ℕ × ℕ))) → get_elem? s.views id ≡ some (Tick dealt loads owned)
-    → length loads' ≡ 2 * detectors → ((w : ℕ) → w < 2 * detectors → last_read loads' w ≤ slice_index s.words w) → Reached (marks_of s.words loads') → Keeps detectors (with s s.words id (Tick dealt loads' owned))
+    → length loads' ≡ 8 * detectors → ((w : ℕ) → w < 8 * detectors → last_read loads' w ≤ slice_index s.words w) → Reached (marks_of s.words loads') → Keeps detectors (with s s.words id (Tick dealt loads' owned))
 loads_on detectors s h id dealt loads loads' owned at count read reached =
     let V = Tick dealt loads' owned in
     let old = h.fits id (Tick dealt loads owned) at in

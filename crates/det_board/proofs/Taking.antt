@@ -23,11 +23,11 @@ nothing_taken old frame is = subst (Taking 0 old old) (sym is) (record {
 })
 
 -- the list of the rears word, and of the fronts word
-list_fronts : (L : List (List ℕ)) (d r f : ℕ) → 2 * d + 1 < length L → slice_index_or (both_loads L d r f) (fronts_word d) [] ≡ slice_index_or L (fronts_word d) [] ++ f ∷ []
+list_fronts : (L : List (List ℕ)) (d r f : ℕ) → 8 * d + 1 < length L → slice_index_or (both_loads L d r f) (fronts_word d) [] ≡ slice_index_or L (fronts_word d) [] ++ f ∷ []
 list_fronts L d r f inside = get_or-set_same (loads_after L (rears_word d) r) (fronts_word d) _ [] (omega (arith, length-set L (rears_word d) (slice_index_or L (rears_word d) [] ++ r ∷ [])))
     ∙ ap (λ l. l ++ f ∷ []) (get_or-set_other L (rears_word d) (fronts_word d) _ [] (λ e. omega arith))
 
-list_rears : (L : List (List ℕ)) (d r f : ℕ) → 2 * d + 1 < length L → slice_index_or (both_loads L d r f) (rears_word d) [] ≡ slice_index_or L (rears_word d) [] ++ r ∷ []
+list_rears : (L : List (List ℕ)) (d r f : ℕ) → 8 * d + 1 < length L → slice_index_or (both_loads L d r f) (rears_word d) [] ≡ slice_index_or L (rears_word d) [] ++ r ∷ []
 list_rears L d r f inside = get_or-set_other (loads_after L (rears_word d) r) (fronts_word d) (rears_word d) _ [] (λ e. omega arith) ∙ get_or-set_same L (rears_word d) _ [] inside
 
 list_fronts_else : (L : List (List ℕ)) (d r f k : ℕ) → k ≢ d → slice_index_or (both_loads L d r f) (fronts_word k) [] ≡ slice_index_or L (fronts_word k) []
@@ -44,7 +44,7 @@ pub one_taken : (n : ℕ) (old mid new : Ticking) (frame : List (ℕ × ℕ)) (g
 one_taken n old mid new frame g t one low =
     let r : ℕ = g.1 + rears_read mid n in
     let f : ℕ = g.0 + fronts_read mid n in
-    let room : 2 * n + 1 < length mid.loads = one.inside in
+    let room : 8 * n + 1 < length mid.loads = one.inside in
     let same_f : fronts_read mid n ≡ fronts_read old n = ap (last_from 0) (t.left_fronts n (omega arith)) in
     let same_r : rears_read mid n ≡ rears_read old n = ap (last_from 0) (t.left_rears n (omega arith)) in
     let Q : List (List ℕ) → Type 0 = λ L. Taking (n + 1) old (record { table = mid.table; loads = L }) (set frame n g) in

@@ -46,13 +46,13 @@ pub record IsFeeding (id : TableId) (me : Me (Unit {0}) View) (place fronts rear
   pub ordered : rears ≤ fronts
   pub bounded : fronts ≤ most_fronts
   pub in_range : place < 64
-  pub on_board : 2 * place + 1 < id.words
+  pub on_board : 8 * place + 1 < id.words
 
 -- the seat is the tick's, and the last values read stand in `read`
 pub record IsTicking (id : TableId) (me : Me (Unit {0}) View) (totals : Counts) : Type 0 where
   pub view : me ≡ (Tick (dealt_of me.0) (loads_of me.0) (owned_of me.0), [])
   pub load_count : length (loads_of me.0) ≡ id.words
-  pub owned_count : 2 * length (owned_of me.0) ≡ id.words
+  pub owned_count : 8 * length (owned_of me.0) ≡ id.words
   pub size : length totals ≡ 64
   pub read : (d : ℕ) → d < 64 → slice_index_or totals d (0, 0) ≡ (last_read (loads_of me.0) (fronts_word d), last_read (loads_of me.0) (rears_word d))
   pub ordered : (d : ℕ) → d < 64 →
@@ -97,7 +97,7 @@ pub record GrowsTo (counts : Counts) (d : ℕ) (c : ℕ × ℕ) : Type 0 where
 pub record LoadsOne (d : ℕ) (id : TableId) (me : Me (Unit {0}) View) (id' : TableId) (me' : Me (Unit {0}) View) (c : ℕ × ℕ) : Type 0 where
   pub table : id' ≡ id
   pub view : me' ≡ (Tick (dealt_of me.0) (loads_after (loads_after (loads_of me.0) (rears_word d) c.1) (fronts_word d) c.0) (owned_of me.0), [])
-  pub inside : 2 * d + 1 < length (loads_of me.0)
+  pub inside : 8 * d + 1 < length (loads_of me.0)
   pub fronts_grow : last_read (loads_of me.0) (fronts_word d) ≤ c.0
   pub rears_grow : last_read (loads_of me.0) (rears_word d) ≤ c.1
   pub ordered : c.1 ≤ c.0
@@ -107,7 +107,7 @@ pub record LoadsOne (d : ℕ) (id : TableId) (me : Me (Unit {0}) View) (id' : Ta
 pub record ReadsOne (d : ℕ) (old new : Ticking) (g : ℕ × ℕ) : Type 0 where
   pub table : new.table ≡ old.table
   pub loads : new.loads ≡ loads_after (loads_after old.loads (rears_word d) (g.1 + rears_read old d)) (fronts_word d) (g.0 + fronts_read old d)
-  pub inside : 2 * d + 1 < length old.loads
+  pub inside : 8 * d + 1 < length old.loads
   pub ordered : g.1 + rears_read old d ≤ g.0 + fronts_read old d
   pub bounded : g.0 + fronts_read old d ≤ most_fronts
 
@@ -171,7 +171,7 @@ pub record Closes (board : Boarded) (feeders : List Feeding) (tick : Ticking) (f
 
 -- the tick's seat while detectors are dealt: the first n are, the others are its own with no count
 pub record Undealt (n detectors : ℕ) (me : Me (Unit {0}) View) : Type 0 where
-  pub view : me ≡ (Tick n (replicate (2 * detectors) []) (owned_of me.0), [])
+  pub view : me ≡ (Tick n (replicate (8 * detectors) []) (owned_of me.0), [])
   pub owned_count : length (owned_of me.0) ≡ detectors
   pub rest : (d : ℕ) → n ≤ d → d < detectors → slice_index_or (owned_of me.0) d None ≡ Some (0, 0)
 

@@ -13,11 +13,11 @@ most_fronts = 2147483647
 
 -- the place of the word with the fronts of the detector at place d
 abbrev pub fronts_word : ℕ → ℕ
-fronts_word d = 2 * d
+fronts_word d = 8 * d
 
 -- the place of the word with its rears
 abbrev pub rears_word : ℕ → ℕ
-rears_word d = 2 * d + 1
+rears_word d = 8 * d + 1
 
 -- the last of a list of values, or n where it is empty
 abbrev pub last_from : ℕ → List ℕ → ℕ
@@ -83,17 +83,17 @@ pub record Keeps (detectors : ℕ) (s : State (Unit {0}) View) : Type 0 where
   pub loads : List (List ℕ)
   pub owned : List (Option (ℕ × ℕ))
   pub owner : ℕ → ℕ
-  pub word_count : length s.words ≡ 2 * detectors
-  pub load_count : length loads ≡ 2 * detectors
+  pub word_count : length s.words ≡ 8 * detectors
+  pub load_count : length loads ≡ 8 * detectors
   pub ticks : get_elem? s.views tick ≡ some (Tick dealt loads owned)
   pub fits : (i : ℕ) (v : View) → get_elem? s.views i ≡ some v → Fits detectors s.words tick owner i v
   pub has_owner : (d : ℕ) → d < detectors → Owns s.views d (owner d)
-  pub read : (w : ℕ) → w < 2 * detectors → last_read loads w ≤ slice_index s.words w
+  pub read : (w : ℕ) → w < 8 * detectors → last_read loads w ≤ slice_index s.words w
   pub reached : Reached (marks_of s.words loads)
 
 -- the tick's view before any detector is dealt
 abbrev pub opening_view : ℕ → View
-opening_view detectors = Tick 0 (replicate (2 * detectors) []) (replicate detectors (Some (0, 0)))
+opening_view detectors = Tick 0 (replicate (8 * detectors) []) (replicate detectors (Some (0, 0)))
 
 -- the tick's seat gives up the detector that is dealt next, and the new seat has it
 abbrev pub dealt_from : View → View

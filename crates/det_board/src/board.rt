@@ -9,6 +9,7 @@ use crossbeam_utils::CachePadded;
 use std::alloc::Global;
 use std::marker::Model;
 
+// Each detector has eight words, a cache line, of which two are used: no two feeders write into one line.
 /// The words of 1 to 64 detectors, which threads share. Contracts see it as its table and the number of its detectors.
 #[derive(Drop)]
 pub struct Board {
@@ -24,7 +25,7 @@ impl Model for Board {
 
     ghost view = { λ b. record { table = b.table.shared.table_id; detectors = b.detectors } };
 
-    ghost invariant = { λ b. (b.table.shared.key ≡ b.detectors) × (b.table.shared.table_id.words ≡ 2 * b.detectors) × (0 < b.detectors) × (b.detectors ≤ 64) × (b.table.shared.table_id.slots ≡ 0) };
+    ghost invariant = { λ b. (b.table.shared.key ≡ b.detectors) × (b.table.shared.table_id.words ≡ 8 * b.detectors) × (0 < b.detectors) × (b.detectors ≤ 64) × (b.table.shared.table_id.slots ≡ 0) };
 }
 
 // What a feeder's thread writes at each event.
@@ -55,12 +56,20 @@ impl Model for FeederPass {
     ghost invariant = { λ p. IsFeeding p.seat.table_id p.seat.me p.place (padded_value p.counts).fronts (padded_value p.counts).rears };
 }
 
+// Where the word with the fronts of the detector at that place stands. That with its rears is the next one.
+#[inline(always)]
+pub(crate) fn fronts_word(place: u8) -> usize
+    ensures { result ≡ 8 * place }
+{
+    8 * usize::from(place)
+}
+
 impl Board {
     /// How many detectors the board has.
     pub fn detectors(&self) -> u8
         ensures count { result ≡ self.now.detectors }
         ensures range { (0 < result) × (result ≤ 64) }
-        ensures words { self.now.table.words ≡ 2 * result }
+        ensures words { self.now.table.words ≡ 8 * result }
     {
         self.detectors
     }
@@ -76,7 +85,7 @@ impl FeederPass {
         board
             .table
             .shared
-            .fetch_add::<Front>(&mut self.seat, 2 * usize::from(self.place), 1);
+            .fetch_add::<Front>(&mut self.seat, fronts_word(self.place), 1);
         self.counts.fronts += 1;
     }
 
@@ -89,7 +98,7 @@ impl FeederPass {
         board
             .table
             .shared
-            .fetch_add::<Rear>(&mut self.seat, 2 * usize::from(self.place) + 1, 1);
+            .fetch_add::<Rear>(&mut self.seat, fronts_word(self.place) + 1, 1);
         self.counts.rears += 1;
     }
 

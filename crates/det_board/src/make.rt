@@ -21,7 +21,7 @@ pub fn make_board(
     requires at_most { detectors ≤ 64 }
     ensures { IfOk result (λ r. IsOpening detectors r.0 r.1.items r.2) }
 {
-    let (board, seat) = open(alloc, &[0u64; 128], detectors)?;
+    let (board, seat) = open(alloc, &[0u64; 512], detectors)?;
     let (feeders, tick) = deal_all(alloc, &board, seat)?;
     Ok((board, feeders, tick))
 }
@@ -53,13 +53,13 @@ fn deal_all(
 }
 
 // The board with these words, and the seat that owns all detectors.
-fn open(alloc: Global, zeros: &[u64; 128], detectors: u8) -> Result<(Board, Seat<(), View>), Memory>
-    requires zeros { zeros.now ≡ replicate 128 0 }
+fn open(alloc: Global, zeros: &[u64; 512], detectors: u8) -> Result<(Board, Seat<(), View>), Memory>
+    requires zeros { zeros.now ≡ replicate 512 0 }
     requires at_least { 0 < detectors }
     requires at_most { detectors ≤ 64 }
-    ensures { IfOk result (λ r. (r.0.detectors ≡ detectors) × (r.1.table_id ≡ r.0.table) × (r.0.table.words ≡ 2 * detectors) × Undealt 0 detectors r.1.me) }
+    ensures { IfOk result (λ r. (r.0.detectors ≡ detectors) × (r.1.table_id ≡ r.0.table) × (r.0.table.words ≡ 8 * detectors) × Undealt 0 detectors r.1.me) }
 {
-    let Ok((table, seat)) = Table::of_words(alloc, &zeros[..2 * usize::from(detectors)], &detectors)
+    let Ok((table, seat)) = Table::of_words(alloc, &zeros[..8 * usize::from(detectors)], &detectors)
     else {
         return Err(Memory);
     };

@@ -4,7 +4,7 @@ ghost use Rattle.det_board.specs.Rule.{dealt_of, loads_of, owned_of};
 ghost use Rattle.det_board.specs.Passes.{AreCounts, GrowsTo, IsInGroup, LoadsOne, ReadsFour, ReadsOne, Taking, Takes, Ticking, gain_of};
 ghost use Rattle.det_board.specs.declared.view.View.TheVariants.{Tick};
 
-use crate::board::Board;
+use crate::board::{Board, fronts_word};
 use crate::rule::{ReadFronts, ReadRears};
 use crate::totals::Totals;
 use crate::view::View;
@@ -39,11 +39,10 @@ fn load_counts(board: &Board, seat: &mut Seat<(), View>, place: u8) -> (u64, u64
     requires room { length (loads_of seat.old.me.0) ≡ board.now.table.words }
     ensures { LoadsOne place seat.old.table_id seat.old.me seat.new.table_id seat.new.me result }
 {
-    let fronts_word = 2 * usize::from(place);
-    let rears_word = fronts_word + 1;
+    let word = fronts_word(place);
     let table = &board.table.shared;
-    let rears = table.load::<ReadRears>(seat, rears_word);
-    let fronts = table.load::<ReadFronts>(seat, fronts_word);
+    let rears = table.load::<ReadRears>(seat, word + 1);
+    let fronts = table.load::<ReadFronts>(seat, word);
     (fronts, rears)
 }
 
