@@ -1,5 +1,6 @@
 -- The first refusal among the records of a text.
 use Rattle.std.proofs.Common.{◌≡◌, ◌∙◌, ℕ, zero, suc, ◌+◌, ◌<◌, ◌≤◌, List, [], ◌∷◌, ◌++◌, length, Some, None, Option, refl, ap, arith, length-append}
+use Rattle.std.specs.Option.{option_or}
 use Rattle.std.proofs.lemmas.List.{take-append-le, get_or_append_left}
 use Rattle.std.proofs.Math.Seq.{take-append_seam, get_or-append_seam}
 use Rattle.sig_types.specs.FirstRefused.{refused_to, first_refused}
@@ -7,6 +8,11 @@ use Rattle.sig_types.proofs.Refusals.{refused_here}
 use Rattle.sig_tables.specs.declared.refusal.TableWhy.{TableWhy}
 use Rattle.sig_tables.specs.Records.{Row}
 use Rattle.sig_tables.specs.Refusals.{at, numbered}
+
+-- a refusal, or else none, is the refusal
+pub or_none : {A : Type 0} (r : Option A) → option_or r None ≡ r
+or_none None = refl
+or_none (Some w) = refl
 
 -- the refusals among the first n items don't see the items after
 same_before : {A W : Type 0} (judge : List A → A → Option W) (xs ys : List A) (d : A) (n : ℕ) → n ≤ length xs → refused_to judge (xs ++ ys) d n ≡ refused_to judge xs d n

@@ -3,7 +3,7 @@ use Rattle.std.proofs.Common.{◌≡◌, ◌≢◌, ◌∙◌, ℕ, ◌+◌, ◌
 use Rattle.std.proofs.lemmas.List.{length-set, get_or_append_left}
 use Rattle.std.proofs.Math.Seq.{get_or-append_seam}
 use Rattle.std.specs.Prelude.{is_some, ◌==◌, unwrap_or}
-use Rattle.std.proofs.lemmas.Bool.{cases_Bool, false≢true, cases_eq, cases_lt}
+use Rattle.std.proofs.lemmas.Bool.{cases_Bool, cases_eq, cases_lt}
 use Rattle.std.proofs.lemmas.Bool.Decides.{eqb_tells}
 use Rattle.std.proofs.lemmas.Option.{none-some, same_Some}
 use Rattle.sig_types.specs.declared.numbers.GroupNo.{GroupNo}
@@ -53,10 +53,6 @@ reason_none plan rows row f t right is once self = rw (right, is, once, self) re
 pub held_listed : (plan : PlanOf) (rows : List Row) (cells : List (Option ℕ)) (pairs : List (GroupNo × GroupNo)) (f t : ℕ) → HoldsPairs plan rows cells pairs → f < 64 → t < 64 → (b : Bool) →
     is_some (get_or cells (64 * f + t) None) ≡ b → is_some (listed_seconds plan rows f t) ≡ b
 held_listed plan rows cells pairs f t holds fl tl b is = ap is_some (sym (holds.seconds f t) ∙ cell_in cells f t fl tl) ∙ is
-
-is_none_of : {A : Type 0} (o : Option A) → is_some o ≡ false → o ≡ None
-is_none_of None is = refl
-is_none_of (Some x) is = absurd (false≢true (sym is))
 
 no_self : (f t g : ℕ) → f ≢ t → f ≡ g → t ≡ g → ⊥
 no_self f t g ne e1 e2 = ne (e1 ∙ sym e2)

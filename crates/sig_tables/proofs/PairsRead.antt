@@ -1,6 +1,5 @@
 -- The table of intergreens, as it is read.
 use Rattle.std.proofs.Common.{◌≡◌, ◌≢◌, ◌∙◌, ℕ, ◌+◌, ◌*◌, ◌<◌, ◌≤◌, true, List, [], ◌∷◌, ◌++◌, length, get_or, Some, None, Option, refl, sym, ap, arith, inl, inr, append_assoc, length-append, slice_set}
-use Rattle.std.specs.Option.{option_or}
 use Rattle.std.specs.Prelude.{is_some}
 use Rattle.std.proofs.lemmas.Bool.{cases_lt}
 use Rattle.std.proofs.lemmas.List.{get_or_append_left}
@@ -21,7 +20,7 @@ use Rattle.sig_tables.specs.Pairs.{ArePairs, cell_of}
 use Rattle.sig_tables.specs.IntergreenTable.{pair_in, seconds_in, intergreen_reason, one_way_reason, intergreens_refused, intergreen_of}
 use Rattle.sig_tables.specs.Held.{HoldsPairs, IsPairOf, no_pair, empties}
 use Rattle.sig_tables.proofs.Rows.{text_begins}
-use Rattle.sig_tables.proofs.Judged.{refused_row}
+use Rattle.sig_tables.proofs.Judged.{or_none, refused_row}
 use Rattle.sig_tables.proofs.Places.{empties_filled}
 use Rattle.sig_tables.proofs.PairLists.{held_more, held_nothing}
 
@@ -45,10 +44,6 @@ refused_record : (plan : PlanOf) (header : Row) (rows : List Row) (w : Refusal) 
     first_refused (numbered (intergreen_reason plan)) rows [] ≡ Some w → intergreens_refused plan (header ∷ rows) ≡ Some w
 unfolding intergreens_refused
 refused_record plan header rows w right is = rw (right, is) refl
-
-or_none : (r : Option Refusal) → option_or r None ≡ r
-or_none None = refl
-or_none (Some w) = refl
 
 refused_end : (plan : PlanOf) (header : Row) (rows : List Row) → is_header (header_of Intergreens) header ≡ true →
     first_refused (numbered (intergreen_reason plan)) rows [] ≡ None → intergreens_refused plan (header ∷ rows) ≡ first_refused (numbered (one_way_reason plan rows)) rows []

@@ -1,5 +1,5 @@
 -- Places that are filled one after the other.
-use Rattle.std.proofs.Common.{◌≡◌, ℕ, zero, suc, ◌+◌, ◌<◌, ◌≤◌, List, [], ◌∷◌, length, get_or, Some, None, Option, refl, sym, arith, slice_set, replicate}
+use Rattle.std.proofs.Common.{◌≡◌, ℕ, zero, suc, ◌+◌, ◌<◌, List, [], ◌∷◌, length, get_or, Some, None, Option, refl, sym, arith, slice_set, replicate}
 use Rattle.std.proofs.lemmas.Option.{none-some}
 use Rattle.sig_tables.specs.Held.{empties}
 
@@ -9,14 +9,6 @@ empties_filled (None ∷ xs) zero x lt none = refl
 empties_filled (Some y ∷ xs) zero x lt none = absurd (none-some y (sym none))
 empties_filled (None ∷ xs) (suc k) x lt none = omega (arith, empties_filled xs k x (omega arith) none)
 empties_filled (Some y ∷ xs) (suc k) x lt none = empties_filled xs k x (omega arith) none
-
--- where a place is empty, some are
-pub some_empty : {A : Type 0} (xs : List (Option A)) (k : ℕ) → k < length xs → get_or xs k None ≡ None → 1 ≤ empties xs
-some_empty [] k lt none = absurd (omega arith)
-some_empty (None ∷ xs) zero lt none = omega arith
-some_empty (Some y ∷ xs) zero lt none = absurd (none-some y (sym none))
-some_empty (None ∷ xs) (suc k) lt none = omega arith
-some_empty (Some y ∷ xs) (suc k) lt none = some_empty xs k (omega arith) none
 
 pub all_empty : (A : Type 0) (n : ℕ) → empties (replicate {A = Option A} n None) ≡ n
 all_empty A zero = refl

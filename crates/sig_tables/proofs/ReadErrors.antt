@@ -1,5 +1,5 @@
 -- Why a reader of records of any length stops.
-use Rattle.std.proofs.Common.{◌≡◌, ℕ, List, Option, Some, Bool, true, false, sym, ◌∙◌, Bor}
+use Rattle.std.proofs.Common.{◌≡◌, ℕ, List, Some, true, false, sym, ◌∙◌, Bor}
 use Rattle.std.proofs.lemmas.Bool.{false≢true}
 use Rattle.csv.specs.Reading.{ExplainsRead}
 use Rattle.csv.specs.declared.reader.Reader.{Reader}

@@ -1,6 +1,5 @@
 -- The table of times, as it is read.
 use Rattle.std.proofs.Common.{◌≡◌, ◌∙◌, ℕ, zero, suc, ◌+◌, ◌<◌, ◌≤◌, true, false, List, [], ◌∷◌, ◌++◌, length, get_or, Some, None, Option, refl, sym, ap, arith, replicate, append_assoc, length-append}
-use Rattle.std.specs.Option.{option_or}
 use Rattle.std.proofs.lemmas.List.{length-replicate}
 use Rattle.std.specs.Prelude.{is_none}
 use Rattle.sig_types.specs.FirstRefused.{first_refused}
@@ -21,7 +20,7 @@ use Rattle.sig_types.specs.FirstRefused.{refused_to}
 use Rattle.sig_types.proofs.Refusals.{accepted_pushed}
 use Rattle.sig_tables.proofs.Rows.{text_begins}
 use Rattle.sig_tables.proofs.Places.{all_empty, none_held}
-use Rattle.sig_tables.proofs.Judged.{refused_row}
+use Rattle.sig_tables.proofs.Judged.{or_none, refused_row}
 use Rattle.sig_types.proofs.LastBelow.{least_below-at, least_below-never}
 
 -- what the reader keeps between two records
@@ -35,10 +34,6 @@ pub record ReadsTimes (plan : PlanOf) (text : List ℕ) (records : Records) (hel
   pub at_most : groups_in plan ≤ 64
   pub at_least : 1 ≤ groups_in plan
   pub count : records.number + empties held ≡ groups_in plan + 1
-
-or_none : (r : Option Refusal) → option_or r None ≡ r
-or_none None = refl
-or_none (Some w) = refl
 
 pub refused_header : (plan : PlanOf) (rows : List Row) (e : TableRefusal) → IsRefusal (header_refusal (header_of Times) rows) e → IsRefusal (times_refused plan rows) e
 unfolding times_refused
