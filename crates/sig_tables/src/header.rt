@@ -1,7 +1,7 @@
 // The headers of the tables.
 ghost use Rattle.std.specs.Prelude.{◌≡◌};
 ghost use Rattle.csv.specs.Records.{fields_of};
-ghost use Rattle.sig_tables.specs.Records.{Row, table_rows, is_header as is_header_lem, HasRead};
+ghost use Rattle.sig_tables.specs.Records.{Row, table_rows, is_header as is_header_spec, HasRead};
 ghost use Rattle.std.specs.Prelude.{◌∷◌, [], true, IfOk, IfErr};
 ghost use Rattle.sig_tables.specs.Refusals.{IsRefusal, header_refusal};
 ghost use Rattle.sig_tables.specs.Headers.{header_of};
@@ -20,7 +20,7 @@ pub enum Table {
 }
 
 fn is_times_header(row: &ByteRecord) -> bool
-    ensures { result ≡ is_header_lem (header_of Table.Times) (fields_of row.now) }
+    ensures { result ≡ is_header_spec (header_of Table.Times) (fields_of row.now) }
 {
     row.len() == 4
         && same_name(field(row, 0), b"group")
@@ -30,7 +30,7 @@ fn is_times_header(row: &ByteRecord) -> bool
 }
 
 fn is_intergreens_header(row: &ByteRecord) -> bool
-    ensures { result ≡ is_header_lem (header_of Table.Intergreens) (fields_of row.now) }
+    ensures { result ≡ is_header_spec (header_of Table.Intergreens) (fields_of row.now) }
 {
     row.len() == 3
         && same_name(field(row, 0), b"from")
@@ -39,7 +39,7 @@ fn is_intergreens_header(row: &ByteRecord) -> bool
 }
 
 fn is_header(table: Table, row: &ByteRecord) -> bool
-    ensures { result ≡ is_header_lem (header_of table) (fields_of row.now) }
+    ensures { result ≡ is_header_spec (header_of table) (fields_of row.now) }
 {
     match table {
         Table::Times => is_times_header(row),
@@ -54,7 +54,7 @@ const NO_HEADER: TableRefusal = TableRefusal::At {
 
 /// A reader of the table's text that has read its header.
 pub fn begin<'a>(alloc: Global, text: &'a [u8], table: Table) -> Result<Records<'a>, TableRefusal>
-    ensures read { IfOk result (λ r. (header : Row) × (HasRead r text.now (header ∷ []) × (is_header_lem (header_of table) header ≡ true))) }
+    ensures read { IfOk result (λ r. (header : Row) × (HasRead r text.now (header ∷ []) × (is_header_spec (header_of table) header ≡ true))) }
     ensures refused { IfErr result (λ e. IsRefusal (header_refusal (header_of table) (table_rows text.now)) e) }
 {
     let mut records = Records::open(alloc, text);
