@@ -32,7 +32,7 @@ impl<'a> Records<'a> {
     }
 
     /// Reads the next record; false where there is none. Only want of memory stops it: a record may have any number of
-    /// fields, and bytes are read as they are.
+    /// fields, and bytes are read as they are. No table has 5000 records before the first that is refused.
     pub fn next(&mut self) -> Result<bool, TableRefusal>
         requires number { self.old.number < 5000 }
         requires read { (text : List ℕ) × (rows : List Row) × HasRead self.old text rows }

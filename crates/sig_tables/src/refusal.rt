@@ -30,7 +30,7 @@ pub enum TableRefusal {
     /// Memory was wanted and could not be had.
     #[error("out of memory")]
     Memory,
-    /// The first record that is refused.
+    /// The first record that is refused: `line` is its number among the records, of which a blank line is none.
     #[error("the table is refused at a record")]
     At { line: u32, why: TableWhy },
 }
