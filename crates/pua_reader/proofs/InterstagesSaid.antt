@@ -24,10 +24,10 @@ use Rattle.pua_reader.specs.Accepted.{lines_in, refusal_of, plan_of_text, plan_i
 use Rattle.pua_reader.specs.Legal.{Legal}
 use Rattle.pua_reader.specs.SectionRows.{section_by, section_with, section_from, file_groups, file_stages}
 use Rattle.pua_reader.specs.InterstageRows.{in_last, part_by, part_with, parts_from, interstage_sections, same_form, values, names_place, ends_in, GivesInterstage, GiveInterstages, InterstagesAreTheirSections}
-use Rattle.pua_reader.proofs.Small.{none_first, none_next}
+use Rattle.pua_reader.proofs.Small.{at_none, none_first, none_next}
 use Rattle.pua_reader.proofs.Keeps.{line_legal, next_line_legal, empty_draft_legal}
 use Rattle.pua_reader.proofs.Reading.{draft_of_more}
-use Rattle.pua_reader.proofs.RowsSaid.{so_far_to, section_push, end_says, file_parts, at_none, over_is_end}
+use Rattle.pua_reader.proofs.RowsSaid.{so_far_to, section_push, end_says, file_parts, over_is_end}
 
 -- one row more
 values_push : (f : Form) (rows : List (List Text)) (row : List Text) → values f (rows ++ row ∷ []) ≡ values f rows ++ values f (row ∷ [])

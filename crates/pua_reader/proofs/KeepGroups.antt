@@ -8,7 +8,7 @@ use Rattle.pua_model.specs.Plan.{is_above, are_names, are_apart, stands_in}
 use Rattle.pua_reader.specs.Words.{Text}
 use Rattle.pua_reader.specs.Groups.{put, put_row, has_number, has_name, group_reasons, group_row, group_why, groups_with, numbered}
 use Rattle.pua_reader.specs.Legal.{AreGroups}
-use Rattle.pua_reader.proofs.Small.{none_first, not_true, same_turned, both_true, both_false}
+use Rattle.pua_reader.proofs.Small.{none_first, not_true, not_false, same_turned, both_true, both_false}
 
 pub length_put : (g : Group) (gs : List Group) → length (put g gs) ≡ suc (length gs)
 length_put g [] = refl
@@ -39,10 +39,6 @@ name_is_free [] w h = refl
 name_is_free (g ∷ gs) w h =
     let both = or_parts (same_name g.name w) (has_name gs w) h in
     both_false (same_name g.name w) (stands_in w (map (λ g. g.name) gs)) both.0 (name_is_free gs w both.1)
-
-not_false : (b : Bool) → not b ≡ true → b ≡ false
-not_false true e = cc
-not_false false e = refl
 
 apart_put : (g : Group) (gs : List Group) → has_name gs g.name ≡ false → are_apart (map (λ g. g.name) gs) ≡ true → are_apart (map (λ g. g.name) (put g gs)) ≡ true
 apart_put g [] free apart = refl

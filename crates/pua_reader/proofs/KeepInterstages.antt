@@ -19,7 +19,7 @@ use Rattle.pua_reader.specs.Words.{Text, signed_of}
 use Rattle.pua_reader.specs.Groups.{place_of}
 use Rattle.pua_reader.specs.Interstages.{OpenInterstageOf, open_at, form_of, or_none, end_or_none, word, last_word, length_reasons, ends_reasons, has_row, set_row, form_why, open_after_form, interstage_row_why, open_after, interstage_by_keys, interstage_of, greens_in, first_inconsistent, inconsistent_why, interstage_reasons}
 use Rattle.pua_reader.specs.Legal.{IsOpen, IsStage, Leads, AreInterstages}
-use Rattle.pua_reader.proofs.Small.{none_first, not_true, both_true, both_false, nat_turned}
+use Rattle.pua_reader.proofs.Small.{none_first, not_true, not_false, both_true, both_false, nat_turned}
 use Rattle.pua_reader.proofs.KeepStages.{stage_is}
 
 seconds_fit : (given o : Option ℕ) → length_reasons given (or_none o) ≡ None → IfSome o (λ n. (1 ≤ n) × (n ≤ 126))
@@ -153,10 +153,6 @@ pair_push a b [] w h ne = both_false (joins a b w) false ne refl
 pair_push a b (v ∷ vs) w h ne =
     let both = or_parts (joins a b v) (has_pair a b vs) h in
     both_false (joins a b v) (has_pair a b (vs ++ w ∷ [])) both.0 (pair_push a b vs w both.1 ne)
-
-not_false : (b : Bool) → not b ≡ true → b ≡ false
-not_false true e = cc
-not_false false e = refl
 
 pairs_push : (interstages : List InterstageOf) (w : InterstageOf) → are_pairs_apart interstages ≡ true → list_any (joins w.from w.to) interstages ≡ false → are_pairs_apart (interstages ++ w ∷ []) ≡ true
 pairs_push [] w h new = refl

@@ -8,7 +8,6 @@ use Rattle.pua_model.specs.declared.parts.Group.{Group}
 use Rattle.pua_model.specs.declared.parts.Stage.{Stage}
 use Rattle.pua_model.specs.Plan.{InterstageOf, IsPlan, IsInterstageOf, no_interstage}
 use Rattle.pua_model.specs.Parts.{plan_of}
-use Rattle.pua_reader.specs.declared.refusal.PuaWhy.{PuaWhy}
 use Rattle.pua_reader.specs.declared.section.Section.{Section}
 use Rattle.pua_reader.specs.declared.section.Section.TheVariants as section
 use Rattle.pua_reader.specs.declared.section.Kind.{Kind}
@@ -21,7 +20,7 @@ use Rattle.pua_reader.specs.Interstages.{open_at, interstage_row_why, open_after
 use Rattle.pua_reader.specs.PlanDraft.{PlanDraftOf, empty_draft, row_why, row_why_in, after_row, after_row_in, is_interstage, interstage_end_why, after_section_end, section_why, after_section_line, at_next_line, kind_why, after_kind, is_over, line_why, after_line, lacks}
 use Rattle.pua_reader.specs.Accepted.{plan_in, start_number}
 use Rattle.pua_reader.specs.Legal.{AreGroups, AreStages, IsStage, Leads, AreInterstages, Legal}
-use Rattle.pua_reader.proofs.Small.{none_first, none_next, not_true}
+use Rattle.pua_reader.proofs.Small.{at_none, none_first, none_next, not_true}
 use Rattle.pua_reader.proofs.KeepGroups.{groups_keep}
 use Rattle.pua_reader.proofs.KeepStages.{stages_keep, stages_grow, still_stage, start_is}
 use Rattle.pua_reader.proofs.KeepInterstages.{open_keeps, open_begins, one_interstage_more, whole_interstage}
@@ -137,10 +136,6 @@ record IsClosed (g h : PlanDraftOf) : Type 0 where
   pub start : h.start ≡ g.start
   pub interstages : AreInterstages (length h.groups) h.stages h.interstages
   pub same : place_in_order g.section ≤ 3 → h.interstages ≡ g.interstages
-
-at_none : (n : ℕ) (o : Option PuaWhy) → at_line n o ≡ None → o ≡ None
-at_none n None e = refl
-at_none n (Some why) e = cc
 
 whole_of : (g : PlanDraftOf) (o : Option InterstageOf) → interstage_of g.current ≡ o → Legal g → place_in_order g.section ≡ 4 → interstage_reasons g.groups g.stages g.interstages o ≡ None →
     AreInterstages (length g.groups) g.stages (interstages_with g.interstages o)

@@ -7,12 +7,11 @@ use Rattle.sig_types.specs.FirstRefused.{refused_to, first_refused}
 use Rattle.sig_types.specs.declared.numbers.StageNo.{StageNo}
 use Rattle.pua_model.specs.declared.parts.Group.{Group}
 use Rattle.pua_model.specs.declared.parts.Stage.{Stage}
-use Rattle.pua_reader.specs.declared.refusal.PuaWhy.{PuaWhy}
 use Rattle.pua_reader.specs.declared.section.Section.{Section}
 use Rattle.pua_reader.specs.declared.section.Section.TheVariants as section
 use Rattle.pua_reader.specs.declared.section.Kind.{Kind}
 use Rattle.pua_reader.specs.declared.section.Kind.TheVariants.{Passed, Begins, Row}
-use Rattle.pua_reader.specs.Words.{Text, words, kind_of, may_follow, is_text}
+use Rattle.pua_reader.specs.Words.{Text, words, kind_of, may_follow, is_text, place_in_order}
 use Rattle.pua_reader.specs.Rules.{at_line}
 use Rattle.pua_reader.specs.Groups.{group_row, put, put_row, group_reasons, group_why, groups_with}
 use Rattle.pua_reader.specs.Stages.{is_red_word, greens_of, stage_of, stages_with, start_why, start_with, start_reasons, is_stage_word}
@@ -20,7 +19,7 @@ use Rattle.pua_reader.specs.Interstages.{open_at, interstages_with, interstage_o
 use Rattle.pua_reader.specs.PlanDraft.{PlanDraftOf, draft_of, judge, line_why, after_line, row_why, row_why_in, after_row, after_row_in, interstage_end_why, after_section_end, section_why, after_section_line, at_next_line, kind_why, after_kind, is_over, is_interstage, end_why, lacks}
 use Rattle.pua_reader.specs.Accepted.{lines_in, refusal_of, plan_of_text, plan_in, start_number}
 use Rattle.pua_reader.specs.SectionRows.{section_by, section_with, section_from, is_row, same_section, row_here, rows_from, rows_in, group_before, groups_from, put_all, by_number, file_groups, stages_from, file_stages, SaysItsRows, PlanSaysItsRows}
-use Rattle.pua_reader.proofs.Small.{none_first, none_next, not_true}
+use Rattle.pua_reader.proofs.Small.{at_none, none_first, none_next, not_true}
 use Rattle.pua_reader.proofs.KeepGroups.{length_put}
 use Rattle.pua_reader.proofs.Keeps.{is_full}
 use Rattle.pua_reader.proofs.Reading.{draft_of_more}
@@ -89,26 +88,18 @@ pub StartSays : Option StageNo → List Stage → List (List Text) → Type 0
 StartSays None stages rows = rows ≡ []
 StartSays (Some s) stages rows = (word : Text) × (rows ≡ (word ∷ []) ∷ []) × (stage_of stages word ≡ Some s)
 
-abbrev pub order : Section → ℕ
-order section.Before = 0
-order section.Groups = 1
-order section.Stages = 2
-order section.Start = 3
-order section.Interstage = 4
-order section.End = 5
-
 -- a draft says what these rows of the groups, of the stages and of the starting stage say
 pub record Says (d : PlanDraftOf) (gr st sr : List (List Text)) : Type 0 where
   pub count : length d.groups ≡ length gr
   pub groups : d.groups ≡ by_number (groups_from 1 gr)
   pub stages : d.stages ≡ stages_from d.groups st
   pub start : StartSays d.start d.stages sr
-  pub no_stages : order d.section ≤ 1 → st ≡ []
-  pub no_start : order d.section ≤ 2 → sr ≡ []
+  pub no_stages : place_in_order d.section ≤ 1 → st ≡ []
+  pub no_start : place_in_order d.section ≤ 2 → sr ≡ []
 
 -- what has the same groups, stages and start, and stands no earlier, says the same
 says_same : (d e : PlanDraftOf) (gr st sr : List (List Text)) → Says d gr st sr → e.groups ≡ d.groups → e.stages ≡ d.stages → e.start ≡ d.start →
-    (order e.section ≤ 1 → order d.section ≤ 1) → (order e.section ≤ 2 → order d.section ≤ 2) → Says e gr st sr
+    (place_in_order e.section ≤ 1 → place_in_order d.section ≤ 1) → (place_in_order e.section ≤ 2 → place_in_order d.section ≤ 2) → Says e gr st sr
 says_same d e gr st sr says same_groups same_stages same_start one two = record {
   count = ap length same_groups ∙ says.count;
   groups = same_groups ∙ says.groups;
@@ -133,7 +124,7 @@ group_row_says : (d : PlanDraftOf) (ws : List Text) (gr st sr : List (List Text)
     Says (record d { groups = groups_with d.groups ws }) (gr ++ ws ∷ []) st sr
 group_row_says d ws gr st sr here says none =
     let given = group_given d.groups (group_row (length d.groups + 1) ws) none in
-    let first : order d.section ≡ 1 = ap order here in
+    let first : place_in_order d.section ≡ 1 = ap place_in_order here in
     let empty : st ≡ [] = says.no_stages (omega (arith, first)) in
     let put_in : groups_with d.groups ws ≡ put given.0 d.groups = ap (λ o. put_row o d.groups) given.1 in
     let row : group_row (1 + length gr) ws ≡ Some given.0 = ap (λ n. group_row n ws) (omega (arith, says.count)) ∙ given.1 in
@@ -156,7 +147,7 @@ start_says_same (Some s) old new sr e says =
 stage_row_says : (d : PlanDraftOf) (ws : List Text) (after : Bool) (gr st sr : List (List Text)) → d.section ≡ section.Stages → Says d gr st sr →
     Says (record d { stages = stages_with d.groups d.stages ws; after_stage = after }) gr (st ++ ws ∷ []) sr
 stage_row_says d ws after gr st sr here says =
-    let second : order d.section ≡ 2 = ap order here in
+    let second : place_in_order d.section ≡ 2 = ap place_in_order here in
     record {
       count = says.count;
       groups = says.groups;
@@ -191,7 +182,7 @@ start_row (w ∷ v ∷ more) o stages sr none says = cc
 start_row_says : (d : PlanDraftOf) (ws : List Text) (gr st sr : List (List Text)) → d.section ≡ section.Start → Says d gr st sr → start_why d.stages d.start ws ≡ None →
     Says (record d { start = start_with d.stages ws }) gr st (sr ++ ws ∷ [])
 start_row_says d ws gr st sr here says none =
-    let third : order d.section ≡ 3 = ap order here in
+    let third : place_in_order d.section ≡ 3 = ap place_in_order here in
     record {
       count = says.count;
       groups = says.groups;
@@ -218,8 +209,8 @@ row_in_says section.End d line gr st sr here says none = rw (append-nil gr, appe
 
 -- a section line
 record Later (a b : Section) : Type 0 where
-  pub one : order b ≤ 1 → order a ≤ 1
-  pub two : order b ≤ 2 → order a ≤ 2
+  pub one : place_in_order b ≤ 1 → place_in_order a ≤ 1
+  pub two : place_in_order b ≤ 2 → place_in_order a ≤ 2
 
 later : (a b : Section) → may_follow a b ≡ true → Later a b
 later section.Before section.Groups e = record { one = λ le. omega arith; two = λ le. omega arith }
@@ -240,11 +231,6 @@ pub end_says : (d : PlanDraftOf) (gr st sr : List (List Text)) → Says d gr st 
 unfolding after_section_end
 end_says d gr st sr says = end_says_by (is_interstage d.section) d gr st sr says
 
-end_section_by : (b : Bool) (d : PlanDraftOf) →
-    (if b then record d { interstages = interstages_with d.interstages (interstage_of d.current); current = open_at 0 0 } else d).section ≡ d.section
-end_section_by true d = refl
-end_section_by false d = refl
-
 begin_says_by : (b : Bool) (d : PlanDraftOf) (s : Section) (gr st sr : List (List Text)) → Says d gr st sr → Later d.section s →
     Says (if b then record d { section = s; current = open_at d.lines (length d.groups) } else record d { section = s }) gr st sr
 begin_says_by true d s gr st sr says after = says_same d _ gr st sr says refl refl refl after.one after.two
@@ -253,10 +239,6 @@ begin_says_by false d s gr st sr says after = says_same d _ gr st sr says refl r
 begin_section_by : (b : Bool) (d : PlanDraftOf) (s : Section) → (if b then record d { section = s; current = open_at d.lines (length d.groups) } else record d { section = s }).section ≡ s
 begin_section_by true d s = refl
 begin_section_by false d s = refl
-
-pub at_none : (n : ℕ) (o : Option PuaWhy) → at_line n o ≡ None → o ≡ None
-at_none n None e = refl
-at_none n (Some why) e = cc
 
 followed : (d : PlanDraftOf) (s : Section) (line : Text) → section_why d s line ≡ None → may_follow d.section s ≡ true
 unfolding section_why

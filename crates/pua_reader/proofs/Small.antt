@@ -6,7 +6,7 @@ use Rattle.sig_types.specs.Text.{same_name, lower}
 use Rattle.pua_model.specs.Plan.{stands_in, are_apart, are_names}
 use Rattle.sig_types.specs.Text.{is_name}
 use Rattle.pua_reader.specs.declared.refusal.PuaWhy.{PuaWhy}
-use Rattle.pua_reader.specs.Rules.{when}
+use Rattle.pua_reader.specs.Rules.{when, at_line}
 
 -- a rule that does not refuse, and those after it
 pub none_first : (b : Bool) (w : PuaWhy) (next : Option PuaWhy) → option_or (when b w) next ≡ None → (b ≡ false) × (next ≡ None)
@@ -16,6 +16,14 @@ none_first false w next e = (refl, e)
 pub none_next : {W : Type 0} (a b : Option W) → option_or a b ≡ None → (a ≡ None) × (b ≡ None)
 none_next None b e = (refl, e)
 none_next (Some w) b e = cc
+
+pub at_none : (n : ℕ) (o : Option PuaWhy) → at_line n o ≡ None → o ≡ None
+at_none n None e = refl
+at_none n (Some why) e = cc
+
+pub not_false : (b : Bool) → not b ≡ true → b ≡ false
+not_false true e = cc
+not_false false e = refl
 
 pub not_true : (b : Bool) → not b ≡ false → b ≡ true
 not_true true e = refl
@@ -42,9 +50,6 @@ both_true a b p q = rw (p, q) refl
 pub both_false : (a b : Bool) → a ≡ false → b ≡ false → (a || b) ≡ false
 both_false a b p q = rw (p, q) refl
 
-pub and_second_false : (a b : Bool) → a ≡ true → (a && b) ≡ true → b ≡ true
-and_second_false a b p q = rw p at q
-
 -- a name put at the end
 pub names_push : (ns : List (List ℕ)) (n : List ℕ) → are_names ns ≡ true → is_name n ≡ true → are_names (ns ++ n ∷ []) ≡ true
 names_push [] n h is = both_true (is_name n) true is refl
@@ -66,7 +71,3 @@ apart_push (m ∷ ms) n h free =
     let ne : same_name n m ≡ false = same_turned n m ∙ other.0 in
     let out : stands_in m ms ≡ false = not_false (stands_in m ms) both.0 in
     both_true (not (stands_in m (ms ++ n ∷ []))) (are_apart (ms ++ n ∷ [])) (ap not (stands_push m ms n out ne)) (apart_push ms n both.1 other.1)
-  where
-    not_false : (b : Bool) → not b ≡ true → b ≡ false
-    not_false true e = cc
-    not_false false e = refl

@@ -1,9 +1,8 @@
 -- Words that are lent, and their texts.
-use Rattle.std.proofs.Common.{◌≡◌, ℕ, ◌<◌, ◌≤◌, Bool, ◌&&◌, ◌||◌, List, [], ◌∷◌, length, get_or, map, refl, sym, ap, ◌∙◌, arith, Bor}
+use Rattle.std.proofs.Common.{◌≡◌, ℕ, ◌≤◌, Bool, ◌&&◌, ◌||◌, List, [], ◌∷◌, length, map, refl, ap, arith, Bor}
 use Rattle.std.specs.List.{list_all, list_any}
-use Rattle.std.proofs.lemmas.List.{get_or-map}
 use Rattle.sig_types.specs.Text.{same_name}
-use Rattle.pua_model.specs.Plan.{InterstageOf, joins, has_pair, stands_in}
+use Rattle.pua_model.specs.Plan.{stands_in}
 use Rattle.pua_reader.specs.declared.words.Few.TheVariants.{More}
 use Rattle.pua_reader.specs.Words.{Text, FewIs}
 
@@ -28,10 +27,3 @@ more_words (a ∷ []) h = absurd (omega arith)
 more_words (a ∷ b ∷ []) h = absurd (omega arith)
 more_words (a ∷ b ∷ c ∷ []) h = absurd (omega arith)
 more_words (a ∷ b ∷ c ∷ d ∷ more) h = (a, (b, (c, (d, (more, refl)))))
-
-pub text_at : (ws : List (Bor (List ℕ))) (i : ℕ) (w : Bor (List ℕ)) → i < length ws → w ≡ get_or ws i w → get_or (texts ws) i [] ≡ w.now
-text_at ws i w lt is = get_or-map (λ (w : Bor (List ℕ)). w.now) ws i w [] lt ∙ ap (λ (v : Bor (List ℕ)). v.now) (sym is)
-
-pub pair_among : (a b : ℕ) (ws : List InterstageOf) → list_any (joins a b) ws ≡ has_pair a b ws
-pair_among a b [] = refl
-pair_among a b (w ∷ ws) = ap (λ x. joins a b w || x) (pair_among a b ws)
