@@ -18,7 +18,8 @@ fn parts(keys: bool, b: u8) -> bool
 pub(crate) fn is_text(line: &[u8]) -> bool
     ensures { result ≡ is_text line.now }
 {
-    line.iter().all(|b| (32 <= *b && *b <= 126) || *b == 9)
+    line.iter()
+        .all(|b| (b' ' <= *b && *b <= b'~') || *b == b'\t')
 }
 
 /// The words of a line; `keys` tells that it stands in an interstage.
