@@ -1,4 +1,4 @@
-// Groups by their numbers and names.
+// Groups by their numbers and names, and interstages by their pairs of stages.
 ghost use Rattle.std.specs.Prelude.{◌≡◌, ◌==◌, ◌<◌, ◌≤◌, None, Option};
 ghost use Rattle.std.specs.List.{position};
 ghost use Rattle.sig_types.specs.Text.{same_name};

@@ -237,7 +237,7 @@ fn leads_group(stages: &[Stage], interstage: &Interstage, group: u8) -> bool
     )
 }
 
-// The lowest group that it does not lead so.
+// The lowest group that an interstage does not lead from its place in the one stage to that in the other.
 fn first_inconsistent(groups: usize, stages: &[Stage], interstage: &Interstage) -> Option<usize>
     requires at_most { groups ≤ 64 }
     requires rows { length interstage.now.rows ≡ groups }
