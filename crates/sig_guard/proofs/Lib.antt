@@ -6,7 +6,7 @@ pub mod LawProofs
 pub mod MachineLemmas
 pub mod Pictures
 pub mod RedAmberRun
-pub mod Refusals
+pub mod Counts
 pub mod RefusedBreaks
 pub mod SequenceKept
 pub mod StandsAfter

@@ -1,7 +1,7 @@
 -- The steps of the machine in the words of the definitions.
 use Rattle.std.proofs.Common.{◌≡◌, ℕ, suc, ◌+◌, ◌<◌, ◌≤◌, Bool, true, false, not, Option, Some, None, refl, arith, sym, ◌∙◌, ap, if◌then◌else◌, [], ◌∷◌}
 use Rattle.sig_types.specs.declared.aspect.Aspect.{Aspect}
-use Rattle.sig_types.specs.declared.aspect.Aspect.TheVariants.{Red, RedAmber, Green, Amber}
+use Rattle.sig_types.specs.declared.aspect.Aspect.TheVariants.{Red, RedAmber, Green}
 use Rattle.sig_types.specs.declared.aspect.Rule.{Rule}
 use Rattle.std.proofs.Common.{◌++◌, length}
 use Rattle.sig_guard.proofs.Pictures.{trace-append_old, trace-append_new}
@@ -10,7 +10,7 @@ use Rattle.sig_types.specs.Turns.{Picture, shown, History, trace, is_red, is_gre
 use Rattle.sig_types.specs.Words.{last_below, least_below}
 use Rattle.sig_types.specs.Rules.{Rules}
 use Rattle.std.proofs.Common.{is_some, nat_lt, ◌&&◌, inl, inr}
-use Rattle.std.proofs.lemmas.Bool.{cases_eq, cases_lt, both_ways, and_from, and_left, and_right, ltb-false, le-ltb}
+use Rattle.std.proofs.lemmas.Bool.{cases_eq, cases_lt, both_ways, and_from, and_left, ltb-false, le-ltb}
 use Rattle.sig_types.proofs.LastBelow.{IsLast, last_below-some, last_below-at, last_below-never}
 use Rattle.std.proofs.Common.{List, is_none, slice_set, add-one}
 use Rattle.sig_types.specs.declared.refused.TurnRefusal.{TurnRefusal}
@@ -21,12 +21,6 @@ pub natural_red_amber : (ra am : ℕ) (a : ℕ → Aspect) (n m : ℕ) (b : Bool
     last_below (starts_at a) (suc m) ≡ Some s → is_due (Some s) ra n ≡ b → (if b then Green else RedAmber) ≡ natural_after ra am a m
 natural_red_amber ra am a n m b s n_is was last due =
     let due' : is_due (Some s) ra (suc m) ≡ b = rw n_is at due in
-    rw (was, last, due') refl
-
-pub natural_amber : (ra am : ℕ) (a : ℕ → Aspect) (n m : ℕ) (b : Bool) (s : ℕ) → n ≡ suc m → a m ≡ Amber →
-    last_below (ends_at a) (suc m) ≡ Some s → is_due (Some s) am n ≡ b → (if b then Red else Amber) ≡ natural_after ra am a m
-natural_amber ra am a n m b s n_is was last due =
-    let due' : is_due (Some s) am (suc m) ≡ b = rw n_is at due in
     rw (was, last, due') refl
 
 -- of a group that is red or green by nature nothing changes
@@ -151,19 +145,11 @@ starts_left r h m w g p so_far b =
     so_far ∙ sym (ap (λ (c : Bool). if c then slice_set (starts_to r h m w g) g (started (r.red_amber g)) else starts_to r h m w g) b)
     ∙ sym (ap (λ (k : ℕ). starts_to r h m w k) (add-one g))
 
-pub starts_refused : (r : Rules) (h : History) (m : ℕ) (w : List Bool) (g : ℕ) (p : Picture) (breach : Breach) → p ≡ starts_to r h m w g →
-    start_breach r h m p g ≡ Some breach → p ≡ starts_to r h m w (g + 1)
-starts_refused r h m w g p breach so_far some =
-    starts_left r h m w g p so_far (and_right _ _ (ap is_none (ap (λ (q : Picture). start_breach r h m q g) (sym so_far) ∙ some)))
-
 pub starts_unwanted : (r : Rules) (h : History) (m : ℕ) (w : List Bool) (g : ℕ) (n p : Picture) → n ≡ natural r h m → p ≡ starts_to r h m w g → wants_start n w g ≡ false →
     p ≡ starts_to r h m w (g + 1)
 starts_unwanted r h m w g n p nat so_far wants = starts_left r h m w g p so_far (and_left _ _ (ap (λ (q : Picture). wants_start q w g) (sym nat) ∙ wants))
 
 -- and what is refused of it
-pub listed_none : (b : Bool) (g : ℕ) (o : Option Breach) (xs ys : List TurnRefusal) → xs ≡ ys → o ≡ None → xs ≡ listed b g o ys
-listed_none b g o xs ys same none = same ∙ sym (ap (λ (p : Option Breach). listed b g p ys) none)
-
 pub listed_off : (b : Bool) (g : ℕ) (o : Option Breach) (xs ys : List TurnRefusal) → xs ≡ ys → b ≡ false → xs ≡ listed b g o ys
 listed_off b g None xs ys same off = same
 listed_off b g (Some x) xs ys same off = same ∙ sym (ap (λ (c : Bool). if c then ys ++ refusal g x ∷ [] else ys) off)

@@ -5,7 +5,7 @@ use Rattle.sig_guard.specs.Stands.{kept_rules}
 use Rattle.sig_guard.specs.Step.{is_red_wished}
 use Rattle.sig_guard.proofs.InPlace.{size_is}
 use Rattle.sig_guard.proofs.Pictures.{ends_to-length, natural_to-length}
-use Rattle.sig_guard.proofs.Refusals.{many_le}
+use Rattle.sig_guard.proofs.Counts.{many_le}
 use Rattle.sig_guard.proofs.guard.Guard.show_ends.Goals as goal
 
 pub end_one-requires-clause-room : goal.end_one-requires-clause-room
