@@ -170,7 +170,7 @@ impl Guard {
         self.picture.get(g)
     }
 
-    /// For how long the group shows that.
+    /// For how many seconds up to the last one the group shows what it shows then.
     fn age(&self, g: u8) -> u32
         requires { g < (kept_rules self.now).count }
         ensures age { result ≡ self.now.seconds + 1 - (age_at self.now.ages.items g).since }
@@ -179,7 +179,7 @@ impl Guard {
         self.now() - self.since(g)
     }
 
-    /// The second since which it does.
+    /// The second since which the group shows what it shows in the last one.
     fn since(&self, g: u8) -> u32
         requires { g < (kept_rules self.now).count }
         ensures since { result ≡ (age_at self.now.ages.items g).since }
