@@ -233,7 +233,8 @@ impl Guard {
                     Aspect::Amber
                 }
             }
-            aspect => aspect,
+            Aspect::Red => Aspect::Red,
+            Aspect::Green => Aspect::Green,
         }
     }
 

@@ -78,7 +78,7 @@ impl StageState {
                     Ok(())
                 }
             },
-            _ => Err(Rule::WrongStage),
+            StagePlace::NoPlan | StagePlace::Stage(_) => Err(Rule::WrongStage),
         }
     }
 
