@@ -3,7 +3,7 @@ use Rattle.std.proofs.Common.{◌≡◌, ℕ, suc, zero, ◌+◌, ◌<◌, ◌�
 use Rattle.std.specs.Option.{option_or}
 use Rattle.std.specs.Prelude.{IfSome}
 use Rattle.std.specs.List.{list_any}
-use Rattle.std.proofs.lemmas.Bool.{and_parts, or_parts, leb-true, cases_lt, cases_eq}
+use Rattle.std.proofs.lemmas.Bool.{and_parts, or_parts, leb-true, cases_lt, cases_eq, and_from, not-false, not-true, or_from}
 use Rattle.std.proofs.lemmas.List.{length-set, get_or-set_same, get_or-set_other, get_or_append_left, get_or_push, length_push, length-replicate, get_or-replicate}
 use Rattle.pua_reader.specs.declared.refusal.PuaWhy.{PuaWhy}
 use Rattle.sig_types.specs.Text.{number_of}
@@ -19,7 +19,7 @@ use Rattle.pua_reader.specs.Words.{Text, signed_of}
 use Rattle.pua_reader.specs.Groups.{place_of}
 use Rattle.pua_reader.specs.Interstages.{OpenInterstageOf, open_at, form_of, or_none, end_or_none, word, last_word, length_reasons, ends_reasons, has_row, set_row, form_why, open_after_form, interstage_row_why, open_after, interstage_by_keys, interstage_of, greens_in, first_inconsistent, inconsistent_why, interstage_reasons}
 use Rattle.pua_reader.specs.Legal.{IsOpen, IsStage, Leads, AreInterstages}
-use Rattle.pua_reader.proofs.Small.{none_first, not_true, not_false, both_true, both_false, nat_turned}
+use Rattle.pua_reader.proofs.Small.{none_first, nat_turned}
 use Rattle.pua_reader.proofs.KeepStages.{stage_is}
 
 seconds_fit : (given o : Option ℕ) → length_reasons given (or_none o) ≡ None → IfSome o (λ n. (1 ≤ n) × (n ≤ 126))
@@ -28,7 +28,7 @@ seconds_fit given None none = tt
 seconds_fit given (Some n) none =
     let one = none_first (is_some given) _ _ none in
     let two = none_first (not (nat_le 1 n && nat_le n 126)) _ _ one.1 in
-    let both = and_parts (nat_le 1 n) (nat_le n 126) (not_true _ two.0) in
+    let both = and_parts (nat_le 1 n) (nat_le n 126) (not-false _ two.0) in
     (leb-true 1 n both.0, leb-true n 126 both.1)
 
 ends_fit : (rows : List (Option (ℤ × ℤ))) (place : Option ℕ) (r e : ℤ) → ends_reasons rows place r e ≡ None → (is_end r && is_end e) ≡ true
@@ -37,7 +37,7 @@ ends_fit rows place r e none =
     let one = none_first (has_row rows place) _ _ none in
     let two = none_first (is_none place) _ _ one.1 in
     let three = none_first (not (is_end r && is_end e)) _ _ two.1 in
-    not_true _ three.0
+    not-false _ three.0
 
 set_size : (rows : List (Option (ℤ × ℤ))) (place : Option ℕ) (r e : ℤ) → length (set_row rows place r e) ≡ length rows
 set_size rows None r e = refl
@@ -142,25 +142,25 @@ joined groups stages interstages w none =
     record {
       apart = one.0;
       new = two.0;
-      consistent = λ g lt. not_true _ (least_none _ (length groups) all g lt);
+      consistent = λ g lt. not-false _ (least_none _ (length groups) all g lt);
     }
 
 joins_turned : (v w : InterstageOf) → joins v.from v.to w ≡ joins w.from w.to v
 joins_turned v w = rw (nat_turned w.from v.from, nat_turned w.to v.to) refl
 
 pair_push : (a b : ℕ) (interstages : List InterstageOf) (w : InterstageOf) → has_pair a b interstages ≡ false → joins a b w ≡ false → has_pair a b (interstages ++ w ∷ []) ≡ false
-pair_push a b [] w h ne = both_false (joins a b w) false ne refl
+pair_push a b [] w h ne = or_from (joins a b w) false ne refl
 pair_push a b (v ∷ vs) w h ne =
     let both = or_parts (joins a b v) (has_pair a b vs) h in
-    both_false (joins a b v) (has_pair a b (vs ++ w ∷ [])) both.0 (pair_push a b vs w both.1 ne)
+    or_from (joins a b v) (has_pair a b (vs ++ w ∷ [])) both.0 (pair_push a b vs w both.1 ne)
 
 pairs_push : (interstages : List InterstageOf) (w : InterstageOf) → are_pairs_apart interstages ≡ true → list_any (joins w.from w.to) interstages ≡ false → are_pairs_apart (interstages ++ w ∷ []) ≡ true
 pairs_push [] w h new = refl
 pairs_push (v ∷ vs) w h new =
     let both = and_parts (not (has_pair v.from v.to vs)) (are_pairs_apart vs) h in
     let other = or_parts (joins w.from w.to v) (list_any (joins w.from w.to) vs) new in
-    both_true (not (has_pair v.from v.to (vs ++ w ∷ []))) (are_pairs_apart (vs ++ w ∷ []))
-    (ap not (pair_push v.from v.to vs w (not_false _ both.0) (joins_turned v w ∙ other.0))) (pairs_push vs w both.1 other.1)
+    and_from (not (has_pair v.from v.to (vs ++ w ∷ []))) (are_pairs_apart (vs ++ w ∷ []))
+    (ap not (pair_push v.from v.to vs w (not-true _ both.0) (joins_turned v w ∙ other.0))) (pairs_push vs w both.1 other.1)
 
 pub one_interstage_more : (groups : List Group) (stages : List Stage) (interstages : List InterstageOf) (w : InterstageOf) → AreInterstages (length groups) stages interstages → length interstages < 256 →
     IsWhole (length groups) stages w → interstage_reasons groups stages interstages (Some w) ≡ None → AreInterstages (length groups) stages (interstages ++ w ∷ [])

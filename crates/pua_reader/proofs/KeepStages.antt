@@ -2,7 +2,7 @@
 use Rattle.std.proofs.Common.{◌≡◌, ℕ, ◌<◌, ◌≤◌, Bool, true, false, not, ◌&&◌, ◌||◌, List, [], ◌∷◌, ◌++◌, length, map, refl, ap, ◌∙◌, arith, Option, Some, None, if◌then◌else◌, nat_le, inl, inr}
 use Rattle.std.specs.Prelude.{IfSome}
 use Rattle.std.specs.List.{list_any, list_all, position}
-use Rattle.std.proofs.lemmas.Bool.{and_parts, or_parts, leb-true, leb-false, cases_lt}
+use Rattle.std.proofs.lemmas.Bool.{and_parts, or_parts, leb-true, leb-false, cases_lt, not-false, or_from}
 use Rattle.std.proofs.lemmas.List.{map-append, length-map, get_or_append_left, get_or_push, length_push}
 use Rattle.std.proofs.lemmas.List.Quantifiers.{position-Some}
 use Rattle.sig_types.specs.Text.{same_name, is_name, number_of, is_letter, is_word}
@@ -13,13 +13,13 @@ use Rattle.pua_model.specs.Plan.{are_apart, stands_in}
 use Rattle.pua_reader.specs.Words.{Text}
 use Rattle.pua_reader.specs.Stages.{has_stage_name, stage_reasons, greens_of, is_red_word, red_reasons, stage_row_why, stages_with, stage_of, stage_placed, stage_by, start_with}
 use Rattle.pua_reader.specs.Legal.{AreStages, IsStage}
-use Rattle.pua_reader.proofs.Small.{none_first, not_true, names_push, apart_push, both_false}
+use Rattle.pua_reader.proofs.Small.{none_first, names_push, apart_push}
 
 stage_name_free : (stages : List Stage) (w : Text) → has_stage_name stages w ≡ false → stands_in w (map (λ s. s.name) stages) ≡ false
 stage_name_free [] w h = refl
 stage_name_free (s ∷ ss) w h =
     let both = or_parts (same_name s.name w) (has_stage_name ss w) h in
-    both_false (same_name s.name w) (stands_in w (map (λ s. s.name) ss)) both.0 (stage_name_free ss w both.1)
+    or_from (same_name s.name w) (stands_in w (map (λ s. s.name) ss)) both.0 (stage_name_free ss w both.1)
 
 length_greens : (groups : List Group) (named : List Text) → length (greens_of groups named) ≡ length groups
 unfolding greens_of
@@ -38,7 +38,7 @@ stage_fits groups stages name named none =
     let three = none_first (not (list_all (λ w. list_any (λ g. same_name g.name w) groups) named)) _ _ two.1 in
     let four = none_first (nat_le 32 (length stages)) _ _ three.1 in
     record {
-      is = (and_parts (is_name name) (list_all is_name named) (not_true _ one.0)).0;
+      is = (and_parts (is_name name) (list_all is_name named) (not-false _ one.0)).0;
       free = (or_parts (has_stage_name stages name) (not (are_apart named)) two.0).0;
       room = leb-false 32 (length stages) four.0;
     }

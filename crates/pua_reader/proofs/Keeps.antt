@@ -1,7 +1,7 @@
 -- A line that is not refused leaves the draft legal, and a file that ends well has a plan.
 use Rattle.std.proofs.Common.{◌≡◌, ℕ, suc, zero, ◌-◌, ◌≤◌, ◌==◌, Bool, true, false, not, ◌&&◌, ◌||◌, List, [], ◌∷◌, length, get_or, map, refl, sym, ap, subst, ◌∙◌, arith, Option, Some, None, if◌then◌else◌, nat_le, is_some, is_none}
 use Rattle.std.specs.Prelude.{IfSome}
-use Rattle.std.proofs.lemmas.Bool.{or_parts, leb-false}
+use Rattle.std.proofs.lemmas.Bool.{or_parts, leb-false, not-false}
 use Rattle.std.proofs.lemmas.List.{length-map}
 use Rattle.sig_types.specs.declared.numbers.StageNo.{StageNo}
 use Rattle.pua_model.specs.declared.parts.Group.{Group}
@@ -20,7 +20,7 @@ use Rattle.pua_reader.specs.Interstages.{open_at, interstage_row_why, open_after
 use Rattle.pua_reader.specs.PlanDraft.{PlanDraftOf, empty_draft, row_why, row_why_in, after_row, after_row_in, is_interstage, interstage_end_why, after_section_end, section_why, after_section_line, at_next_line, kind_why, after_kind, is_over, line_why, after_line, lacks}
 use Rattle.pua_reader.specs.Accepted.{plan_in, start_number}
 use Rattle.pua_reader.specs.Legal.{AreGroups, AreStages, IsStage, Leads, AreInterstages, Legal}
-use Rattle.pua_reader.proofs.Small.{at_none, none_first, none_next, not_true}
+use Rattle.pua_reader.proofs.Small.{at_none, none_first, none_next}
 use Rattle.pua_reader.proofs.KeepGroups.{groups_keep}
 use Rattle.pua_reader.proofs.KeepStages.{stages_keep, stages_grow, still_stage, start_is}
 use Rattle.pua_reader.proofs.KeepInterstages.{open_keeps, open_begins, one_interstage_more, whole_interstage}
@@ -235,7 +235,7 @@ section_legal g s line legal ended none =
     let one = none_first (not (is_text line)) _ _ none in
     let two = none_first (not (may_follow (after_section_end g).section s)) _ _ one.1 in
     let three = none_first (is_interstage s && nat_le 256 (length (after_section_end g).interstages)) _ _ two.1 in
-    section_line_by (is_interstage s) g (after_section_end g) s refl legal (ended_well g legal ended) (not_true _ two.0) three.0
+    section_line_by (is_interstage s) g (after_section_end g) s refl legal (ended_well g legal ended) (not-false _ two.0) three.0
 
 kind_legal : (k : Kind) (g : PlanDraftOf) (line : Text) → Legal g → kind_why k g line ≡ None → Legal (after_kind k g line)
 kind_legal Passed g line legal none = legal

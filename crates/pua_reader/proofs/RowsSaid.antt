@@ -2,7 +2,7 @@
 use Rattle.std.proofs.Common.{◌≡◌, ℕ, zero, suc, ◌+◌, ◌≤◌, ◌<◌, Bool, true, false, not, ◌&&◌, ◌||◌, List, [], ◌∷◌, ◌++◌, length, take, get_or, map, refl, sym, ap, ◌∙◌, arith, Option, Some, None, if◌then◌else◌, is_some, is_none, append_assoc, length-append, add-one}
 use Rattle.std.proofs.lemmas.List.{take_more, take_all, length-map}
 use Rattle.std.proofs.lemmas.List.{append-nil}
-use Rattle.std.proofs.lemmas.Bool.{or_parts}
+use Rattle.std.proofs.lemmas.Bool.{or_parts, not-false}
 use Rattle.sig_types.specs.FirstRefused.{refused_to, first_refused}
 use Rattle.sig_types.specs.declared.numbers.StageNo.{StageNo}
 use Rattle.pua_model.specs.declared.parts.Group.{Group}
@@ -19,7 +19,7 @@ use Rattle.pua_reader.specs.Interstages.{open_at, interstages_with, interstage_o
 use Rattle.pua_reader.specs.PlanDraft.{PlanDraftOf, draft_of, judge, line_why, after_line, row_why, row_why_in, after_row, after_row_in, interstage_end_why, after_section_end, section_why, after_section_line, at_next_line, kind_why, after_kind, is_over, is_interstage, end_why, lacks}
 use Rattle.pua_reader.specs.Accepted.{lines_in, refusal_of, plan_of_text, plan_in, start_number}
 use Rattle.pua_reader.specs.SectionRows.{section_by, section_with, section_from, is_row, same_section, row_here, rows_from, rows_in, group_before, groups_from, put_all, by_number, file_groups, stages_from, file_stages, SaysItsRows, PlanSaysItsRows}
-use Rattle.pua_reader.proofs.Small.{at_none, none_first, none_next, not_true}
+use Rattle.pua_reader.proofs.Small.{at_none, none_first, none_next}
 use Rattle.pua_reader.proofs.KeepGroups.{length_put}
 use Rattle.pua_reader.proofs.Keeps.{is_full}
 use Rattle.pua_reader.proofs.Reading.{draft_of_more}
@@ -245,7 +245,7 @@ unfolding section_why
 followed d s line none =
     let one = none_first (not (is_text line)) _ _ none in
     let two = none_first (not (may_follow d.section s)) _ _ one.1 in
-    not_true (may_follow d.section s) two.0
+    not-false (may_follow d.section s) two.0
 
 section_line_says : (d : PlanDraftOf) (s : Section) (line : Text) (gr st sr : List (List Text)) → Says d gr st sr → section_why d s line ≡ None →
     Says (after_section_line d s) gr st sr

@@ -1,7 +1,7 @@
 -- Small facts on reasons, names and lists.
-use Rattle.std.proofs.Common.{◌≡◌, ℕ, ◌==◌, Bool, true, false, not, ◌&&◌, ◌||◌, List, [], ◌∷◌, ◌++◌, refl, sym, ap, ◌∙◌, Option, Some, None, nat_eq, inl, inr, ne_eqb}
+use Rattle.std.proofs.Common.{◌≡◌, ℕ, ◌==◌, Bool, true, false, not, List, [], ◌∷◌, ◌++◌, refl, sym, ap, ◌∙◌, Option, Some, None, nat_eq, inl, inr, ne_eqb}
 use Rattle.std.specs.Option.{option_or}
-use Rattle.std.proofs.lemmas.Bool.{and_parts, or_parts, cases_eq}
+use Rattle.std.proofs.lemmas.Bool.{and_parts, or_parts, cases_eq, and_from, not-true, or_from}
 use Rattle.sig_types.specs.Text.{same_name, lower}
 use Rattle.pua_model.specs.Plan.{stands_in, are_apart, are_names}
 use Rattle.sig_types.specs.Text.{is_name}
@@ -21,14 +21,6 @@ pub at_none : (n : ℕ) (o : Option PuaWhy) → at_line n o ≡ None → o ≡ N
 at_none n None e = refl
 at_none n (Some why) e = cc
 
-pub not_false : (b : Bool) → not b ≡ true → b ≡ false
-not_false true e = cc
-not_false false e = refl
-
-pub not_true : (b : Bool) → not b ≡ false → b ≡ true
-not_true true e = refl
-not_true false e = cc
-
 eq_turned : (a b : ℕ) → nat_eq a b ≡ nat_eq b a
 eq_turned a b = elim (cases_eq a b) [
   | inl same ↦ rw same refl
@@ -44,24 +36,18 @@ same_turned [] (y ∷ ys) = refl
 same_turned (x ∷ xs) [] = refl
 same_turned (x ∷ xs) (y ∷ ys) = rw (eq_turned (lower x) (lower y), same_turned xs ys) refl
 
-pub both_true : (a b : Bool) → a ≡ true → b ≡ true → (a && b) ≡ true
-both_true a b p q = rw (p, q) refl
-
-pub both_false : (a b : Bool) → a ≡ false → b ≡ false → (a || b) ≡ false
-both_false a b p q = rw (p, q) refl
-
 -- a name put at the end
 pub names_push : (ns : List (List ℕ)) (n : List ℕ) → are_names ns ≡ true → is_name n ≡ true → are_names (ns ++ n ∷ []) ≡ true
-names_push [] n h is = both_true (is_name n) true is refl
+names_push [] n h is = and_from (is_name n) true is refl
 names_push (m ∷ ms) n h is =
     let both = and_parts (is_name m) (are_names ms) h in
-    both_true (is_name m) (are_names (ms ++ n ∷ [])) both.0 (names_push ms n both.1 is)
+    and_from (is_name m) (are_names (ms ++ n ∷ [])) both.0 (names_push ms n both.1 is)
 
 pub stands_push : (m : List ℕ) (ns : List (List ℕ)) (n : List ℕ) → stands_in m ns ≡ false → same_name n m ≡ false → stands_in m (ns ++ n ∷ []) ≡ false
-stands_push m [] n h ne = both_false (same_name n m) false ne refl
+stands_push m [] n h ne = or_from (same_name n m) false ne refl
 stands_push m (k ∷ ks) n h ne =
     let both = or_parts (same_name k m) (stands_in m ks) h in
-    both_false (same_name k m) (stands_in m (ks ++ n ∷ [])) both.0 (stands_push m ks n both.1 ne)
+    or_from (same_name k m) (stands_in m (ks ++ n ∷ [])) both.0 (stands_push m ks n both.1 ne)
 
 pub apart_push : (ns : List (List ℕ)) (n : List ℕ) → are_apart ns ≡ true → stands_in n ns ≡ false → are_apart (ns ++ n ∷ []) ≡ true
 apart_push [] n h free = refl
@@ -69,5 +55,5 @@ apart_push (m ∷ ms) n h free =
     let both = and_parts (not (stands_in m ms)) (are_apart ms) h in
     let other = or_parts (same_name m n) (stands_in n ms) free in
     let ne : same_name n m ≡ false = same_turned n m ∙ other.0 in
-    let out : stands_in m ms ≡ false = not_false (stands_in m ms) both.0 in
-    both_true (not (stands_in m (ms ++ n ∷ []))) (are_apart (ms ++ n ∷ [])) (ap not (stands_push m ms n out ne)) (apart_push ms n both.1 other.1)
+    let out : stands_in m ms ≡ false = not-true (stands_in m ms) both.0 in
+    and_from (not (stands_in m (ms ++ n ∷ []))) (are_apart (ms ++ n ∷ [])) (ap not (stands_push m ms n out ne)) (apart_push ms n both.1 other.1)

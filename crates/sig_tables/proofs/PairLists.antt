@@ -57,9 +57,6 @@ held_listed plan rows cells pairs f t holds fl tl b is = ap is_some (sym (holds.
 no_self : (f t g : ℕ) → f ≢ t → f ≡ g → t ≡ g → ⊥
 no_self f t g ne e1 e2 = ne (e1 ∙ sym e2)
 
-some_same : (y z : ℕ) → Some y ≡ Some z → y ≡ z
-some_same y z is = same_Some y z is
-
 apart_pair : (f t i g : ℕ) → (f ≡ i → t ≡ g → ⊥) → is_pair (Some (f, t)) i g ≡ false
 apart_pair f t i g ne = elim (cases_eq f i) [
   | inl e ↦ (elim (cases_eq t g) [ inl e2 ↦ absurd (ne e e2) | inr n2 ↦ (let h : (t == g) ≡ false = grind (arith, eqb_tells) in rw h (and_out (f == i))) ])
