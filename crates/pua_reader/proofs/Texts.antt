@@ -1,10 +1,9 @@
 -- Words that are lent, and their texts.
-use Rattle.std.proofs.Common.{◌≡◌, ℕ, ◌≤◌, Bool, ◌&&◌, ◌||◌, List, [], ◌∷◌, length, map, refl, ap, arith, Bor}
+use Rattle.std.proofs.Common.{◌≡◌, ℕ, Bool, ◌&&◌, ◌||◌, List, [], ◌∷◌, map, refl, ap, Bor}
 use Rattle.std.specs.List.{list_all, list_any}
 use Rattle.sig_types.specs.Text.{same_name}
 use Rattle.pua_model.specs.Plan.{stands_in}
-use Rattle.pua_reader.specs.declared.words.Few.TheVariants.{More}
-use Rattle.pua_reader.specs.Words.{Text, FewIs}
+use Rattle.pua_reader.specs.Words.{Text}
 
 abbrev pub texts : List (Bor (List ℕ)) → List Text
 texts ws = map (λ w. w.now) ws
@@ -20,10 +19,3 @@ any_texts p (w ∷ ws) = ap (λ b. p w.now || b) (any_texts p ws)
 pub stands_texts : (name : Text) (ws : List (Bor (List ℕ))) → stands_in name (texts ws) ≡ list_any (λ w. same_name w.now name) ws
 stands_texts name [] = refl
 stands_texts name (w ∷ ws) = ap (λ b. same_name w.now name || b) (stands_texts name ws)
-
-pub more_words : (ws : List Text) → 4 ≤ length ws → FewIs More ws
-more_words [] h = absurd (omega arith)
-more_words (a ∷ []) h = absurd (omega arith)
-more_words (a ∷ b ∷ []) h = absurd (omega arith)
-more_words (a ∷ b ∷ c ∷ []) h = absurd (omega arith)
-more_words (a ∷ b ∷ c ∷ d ∷ more) h = (a, (b, (c, (d, (more, refl)))))

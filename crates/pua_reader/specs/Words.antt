@@ -1,9 +1,7 @@
 -- The words of a line, and what kind of line they make.
-use Rattle.std.specs.Prelude.{◌≡◌, ℕ, ◌==◌, ◌-◌, Bool, true, false, not, ◌&&◌, ◌||◌, List, [], ◌∷◌, length, take, drop, nat_le, filter, codes, Option, Some, None, if◌then◌else◌, ℤ, pos, negsuc}
+use Rattle.std.specs.Prelude.{ℕ, ◌==◌, ◌-◌, Bool, true, false, not, ◌&&◌, ◌||◌, List, [], ◌∷◌, length, take, drop, nat_le, filter, codes, Option, Some, None, if◌then◌else◌, ℤ, pos, negsuc}
 use Rattle.std.specs.List.{slice_split, list_all}
 use Rattle.sig_types.specs.Text.{same_name, number_of, is_digit}
-use Rattle.pua_reader.specs.declared.words.Few.{Few}
-use Rattle.pua_reader.specs.declared.words.Few.TheVariants.{Zero, One, Two, Three, More}
 use Rattle.pua_reader.specs.declared.section.Section.{Section}
 use Rattle.pua_reader.specs.declared.section.Section.TheVariants as section
 use Rattle.pua_reader.specs.declared.section.Kind.{Kind}
@@ -96,11 +94,3 @@ positive (Some n) = Some (pos n)
 abbrev pub signed_of : Text → Option ℤ
 signed_of [] = None
 signed_of (b ∷ bs) = if b == 45 then negative (number_of bs) else positive (number_of (b ∷ bs))
-
--- the words by their number
-abbrev pub FewIs : Few → List Text → Type 0
-FewIs Zero ws = ws ≡ []
-FewIs (One a) ws = ws ≡ a.now ∷ []
-FewIs (Two a b) ws = ws ≡ a.now ∷ b.now ∷ []
-FewIs (Three a b c) ws = ws ≡ a.now ∷ b.now ∷ c.now ∷ []
-FewIs More ws = (a : Text) × ((b : Text) × ((c : Text) × ((d : Text) × ((more : List Text) × (ws ≡ a ∷ b ∷ c ∷ d ∷ more)))))

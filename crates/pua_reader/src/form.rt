@@ -3,7 +3,7 @@ ghost use Rattle.std.specs.Prelude.{◌≡◌, map};
 ghost use Rattle.pua_reader.specs.Interstages.{number_form, stage_form, ends_form, form_of_two, form_of_three, form_of};
 ghost use Rattle.pua_reader.specs.Stages.{is_stage_word};
 
-use crate::words::{Few, is_signed, up_to_three};
+use crate::words::is_signed;
 use sig_types::text::{is_name, is_number, same_name};
 
 /// What a row of an interstage gives.
@@ -98,9 +98,9 @@ fn form_of_three(a: &[u8], b: &[u8], c: &[u8]) -> Form
 pub(crate) fn form_of(words: &[&[u8]]) -> Form
     ensures { result ≡ form_of (map (λ w. w.now) words.now) }
 {
-    match up_to_three(words) {
-        Few::Two(a, b) => form_of_two(a, b),
-        Few::Three(a, b, c) => form_of_three(a, b, c),
-        Few::Zero | Few::One(_) | Few::More => Form::NoForm,
+    match words {
+        [a, b] => form_of_two(a, b),
+        [a, b, c] => form_of_three(a, b, c),
+        _ => Form::NoForm,
     }
 }

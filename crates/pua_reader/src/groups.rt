@@ -7,7 +7,6 @@ ghost use Rattle.pua_reader.specs.Groups.{has_name, has_number, group_reasons, g
 ghost use Rattle.pua_reader.specs.Rules.{RowStopIs};
 
 use crate::refusal::{PuaWhy, RowStop};
-use crate::words::{Few, up_to_three};
 use pua_model::Group;
 use sig_types::ShortName;
 use sig_types::text::{is_name, is_number, number, same_name};
@@ -44,12 +43,9 @@ fn row_parts<'a>(place: u8, words: &[&'a [u8]]) -> Option<(&'a [u8], Option<u8>)
     ensures { MatchOption result (group_row place (map (λ w. w.now) words.now) ≡ None)
         (λ p. (n : ℕ) × ((group_row place (map (λ w. w.now) words.now) ≡ Some (record { name = p.0.now; number = n })) × (p.1 ≡ within 1 255 (Some n)) × (is_name p.0.now ≡ true))) }
 {
-    match up_to_three(words) {
-        Few::One(name) if is_name(name) => Some((name, Some(place))),
-        Few::Two(name, word) if is_name(name) && is_number(word) => Some((
-            name,
-            number_in_range(word),
-        )),
+    match words {
+        [name] if is_name(name) => Some((name, Some(place))),
+        [name, word] if is_name(name) && is_number(word) => Some((name, number_in_range(word))),
         _ => None,
     }
 }

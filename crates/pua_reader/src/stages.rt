@@ -12,7 +12,6 @@ use crate::form::is_stage_word;
 use crate::groups::has_name;
 use crate::refusal::{PuaWhy, RowStop};
 use crate::twins::are_apart;
-use crate::words::{Few, up_to_three};
 use pua_model::{Group, Stage, place_named};
 use sig_types::text::{is_name, is_number, number, same_name};
 use sig_types::{ShortName, StageNo, Wishes};
@@ -264,8 +263,8 @@ pub(crate) fn read_start(
         (λ s. (start_why stages.now start (map (λ w. w.now) words.now) ≡ None) × (start_with stages.now (map (λ w. w.now) words.now) ≡ Some s))
         (λ why. start_why stages.now start (map (λ w. w.now) words.now) ≡ Some why) }
 {
-    match up_to_three(words) {
-        Few::One(word) => start_of(stages, start, word),
+    match words {
+        [word] => start_of(stages, start, word),
         _ => Err(PuaWhy::Row),
     }
 }

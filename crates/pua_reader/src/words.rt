@@ -2,7 +2,7 @@
 ghost use Rattle.std.specs.Prelude.{◌≡◌, map, IfOk, is_some, ℤ, ◌≤ℤ◌, MatchOption, Some, None, true, false, length, ◌<◌, ◌≤◌};
 ghost use Rattle.pua_model.specs.Plan.{is_end};
 ghost use Rattle.pua_reader.specs.Interstages.{word, last_word};
-ghost use Rattle.pua_reader.specs.Words.{parts, words, is_text, signed_of, FewIs};
+ghost use Rattle.pua_reader.specs.Words.{parts, words, is_text, signed_of};
 
 use sig_types::text::{is_number, number};
 use std::alloc::{AllocError, Global};
@@ -33,33 +33,6 @@ pub(crate) fn words(alloc: Global, keys: bool, line: &[u8]) -> Result<Vec<&[u8]>
         }
     }
     Ok(words)
-}
-
-/// At most three words, or more.
-#[derive(Clone, Copy)]
-pub(crate) enum Few<'a> {
-    Zero,
-    One(&'a [u8]),
-    Two(&'a [u8], &'a [u8]),
-    Three(&'a [u8], &'a [u8], &'a [u8]),
-    More,
-}
-
-pub(crate) fn up_to_three<'a>(words: &[&'a [u8]]) -> Few<'a>
-    ensures { FewIs result (map (λ w. w.now) words.now) }
-{
-    let count = words.len();
-    if count == 0 {
-        Few::Zero
-    } else if count == 1 {
-        Few::One(words[0])
-    } else if count == 2 {
-        Few::Two(words[0], words[1])
-    } else if count == 3 {
-        Few::Three(words[0], words[1], words[2])
-    } else {
-        Few::More
-    }
 }
 
 /// Whether the word is a signed number.
