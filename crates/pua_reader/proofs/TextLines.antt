@@ -1,25 +1,12 @@
 -- The lines of a text, one after another.
-use Rattle.std.proofs.Common.{◌≡◌, ℕ, ◌<◌, ◌==◌, Bool, true, false, List, [], ◌∷◌, ◌++◌, length, refl, ap, ◌∙◌, arith, length-append, Option, Some, None, if◌then◌else◌, ne_eqb, nat_eq}
-use Rattle.std.specs.List.{slice_split, All, AllByRecursion}
+use Rattle.std.proofs.Common.{◌≡◌, ℕ, ◌<◌, ◌==◌, Bool, true, false, List, [], ◌∷◌, ◌++◌, length, refl, ap, ◌∙◌, arith, length-append, Option, Some, None, if◌then◌else◌, nat_eq}
+use Rattle.std.specs.List.{AllByRecursion}
 use Rattle.std.specs.Option.{option_map}
-use Rattle.std.specs.Str.Lines.{lines, lines_of_parts, strip_carriage_return}
-use Rattle.std.proofs.lemmas.List.Splits.{slice_split_at, slice_split_none, length-slice_split}
+use Rattle.std.specs.Str.Lines.{lines, strip_carriage_return}
 use Rattle.std.proofs.lemmas.List.Elements.{All-from_recursion}
 use Rattle.std.proofs.lemmas.Bool.{eqb-true}
 use Rattle.sig_types.specs.Text.{cut_at}
-
-lines_of_more : (x : List ℕ) (parts : List (List ℕ)) → 0 < length parts → lines_of_parts (x ∷ parts) ≡ strip_carriage_return x ∷ lines_of_parts parts
-lines_of_more x [] lt = absurd (omega arith)
-lines_of_more x (y ∷ more) lt = refl
-
-lines_next : (raw rest : List ℕ) → All (λ b. (b == 10) ≡ false) raw → lines (raw ++ 10 ∷ rest) ≡ strip_carriage_return raw ∷ lines rest
-lines_next raw rest none =
-    rw (slice_split_at (λ b. b == 10) raw 10 rest none refl)
-    (lines_of_more raw (slice_split (λ b. b == 10) rest) (omega (arith, length-slice_split (λ b. b == 10) rest)))
-
-lines_last : (raw : List ℕ) → All (λ b. (b == 10) ≡ false) raw → 0 < length raw → lines raw ≡ raw ∷ []
-lines_last raw none lt =
-    rw (slice_split_none (λ b. b == 10) raw none, ne_eqb (length raw) 0 (λ e. omega arith)) refl
+use Rattle.sig_types.proofs.Lines.{lines_next, lines_last}
 
 -- what stands before a cut, and what it cuts
 record IsCut (bs a b : List ℕ) : Type 0 where
