@@ -54,7 +54,8 @@ const NO_HEADER: TableRefusal = TableRefusal::At {
 
 /// A reader of the table's text that has read its header.
 pub fn begin<'a>(alloc: Global, text: &'a [u8], table: Table) -> Result<Records<'a>, TableRefusal>
-    ensures read { IfOk result (λ r. (header : Row) × (HasRead r text.now (header ∷ []) × (is_header_spec (header_of table) header ≡ true))) }
+    ensures read { IfOk result (λ r. (header : Row) ×
+        (HasRead r text.now (header ∷ []) × (is_header_spec (header_of table) header ≡ true))) }
     ensures refused { IfErr result (λ e. IsRefusal (header_refusal (header_of table) (table_rows text.now)) e) }
 {
     let mut records = Records::open(alloc, text);
