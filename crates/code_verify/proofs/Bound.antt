@@ -14,7 +14,7 @@ use Rattle.sig_types.specs.declared.kinds.CommandKind.{CommandKind}
 use Rattle.sig_types.specs.declared.kinds.TimerKind.{TimerKind}
 use Rattle.sig_types.specs.declared.kinds.TimerKind.TheVariants.{Start as Start_timer, Stop as Stop_timer, Reset as Reset_timer}
 use Rattle.sig_types.specs.Number.{Answer, bounded, truth, holds, quotient, equal}
-use Rattle.sig_types.specs.Pass.{Store as StoreOf, World, End, set_variable, cell, set_cell, set_cell_at, set_timer, clock_after, read, command, given}
+use Rattle.sig_types.specs.Pass.{Store as StoreOf, World, unit_limit, End, set_variable, cell, set_cell, set_cell_at, set_timer, clock_after, read, command, given}
 use Rattle.sig_types.specs.declared.kinds.CommandKind.TheVariants.{Interstage}
 use Rattle.sig_types.specs.declared.kinds.ReadingKind.TheVariants.{InterstageActive, AnyInterstage}
 use Rattle.vap_code.specs.declared.Instr.{Instr}
@@ -22,7 +22,7 @@ use Rattle.vap_code.specs.declared.Instr.TheVariants.{Tick, Push, Load, Store, C
 use Rattle.vap_code.specs.Codes.{CodeOf}
 use Rattle.vap_code.specs.declared.VerifyWhy.TheVariants.{EdgeToNoTick, Stretch, Shape, Commands}
 use Rattle.sig_types.specs.Arity.{reading_arity, command_arity}
-use Rattle.vap_code.specs.Machine.{Done, Faulted, Stuck, Unfinished, State, Step, Goes, Ends, next, next_store, push_answer, keep_store, on_one, on_two, on_arguments, with_slot, timer_step, tick, back, at_place as to_place, binary, act, step_at, step, after, exec, count_after, steps_of, last_start, first_state, unit_limit, step_limit, machine}
+use Rattle.vap_code.specs.Machine.{Done, Faulted, Stuck, Unfinished, State, Step, Goes, Ends, next, next_store, push_answer, keep_store, on_one, on_two, on_arguments, with_slot, timer_step, tick, back, at_place as to_place, binary, act, step_at, step, after, exec, count_after, steps_of, last_start, first_state, step_limit, machine}
 use Rattle.vap_code.specs.Valid.{Valid, leaves, target, goes_on, begins, is_tick, is_ret, stands_clear, stretch_of, commands_of, starts_upto, routine_of, EdgeFits}
 use Rattle.code_verify.specs.Ends.{IsOver, IfDone, AtMost, StoreFits, RunsWell, ValidCodeEnds}
 use Rattle.code_verify.specs.Room.{RoomToPush, RoomToGive, HasRoom, RoomAlong, after_step}

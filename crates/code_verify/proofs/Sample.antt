@@ -3,10 +3,10 @@ use Rattle.std.proofs.Common.{◌≡◌, ℕ, zero, suc, ◌+◌, ◌*◌, ◌�
 use Rattle.std.specs.Prelude.{pos, negsuc, Ok, Err}
 use Rattle.sig_types.specs.Number.{quotient}
 use Rattle.sig_types.specs.declared.kinds.FaultKind.TheVariants.{Budget, Overflow, ZeroDivisor}
-use Rattle.sig_types.specs.Pass.{Store as StoreOf, World, Faulted}
+use Rattle.sig_types.specs.Pass.{Store as StoreOf, World, unit_limit, Faulted}
 use Rattle.vap_code.specs.declared.Instr.{Instr}
 use Rattle.vap_code.specs.declared.Instr.TheVariants.{Tick, Push, Load, Store, Div, Jump, Call, Ret}
-use Rattle.vap_code.specs.Machine.{State, exec, steps_of, first_state, step_limit, unit_limit}
+use Rattle.vap_code.specs.Machine.{State, exec, steps_of, first_state, step_limit}
 
 abbrev loop : List Instr
 loop = Tick 1 ∷ Jump 0 ∷ []

@@ -1,14 +1,10 @@
 -- The passes of a program: how they end, and the stores that they begin with.
 use Rattle.std.specs.Prelude.{◌≡◌, ℕ, List, [], length, map, replicate, pos, false}
-use Rattle.sig_types.specs.Pass.{Store, End, Logic}
+use Rattle.sig_types.specs.Pass.{Store, unit_limit, End, Logic}
 use Rattle.sig_types.specs.Pass as pass
 use Rattle.vap_ast.specs.Syntax.{Array}
 use Rattle.vap_ast.specs.Names.{Source}
 use Rattle.vap_ast.specs.Mean.{Outcome, Done, Faulted, mean}
-
--- the units of a pass
-abbrev pub unit_limit : ℕ
-unit_limit = 10000
 
 -- how a pass ends, without the units that are left
 abbrev pub ending : Outcome → End

@@ -24,7 +24,7 @@ use Rattle.vap_check.specs.Passes.{first_store_of, source_in}
 use Rattle.vap_compile.specs.Compiled.{IsLaidOut, HasNumbersOf, MeansProgram}
 use Rattle.vap_vm.specs.Passes.{first_store}
 use Rattle.vap_vm.specs.View.{stopped}
-use Rattle.vap_compile.proofs.Means.{machine_units, means_the}
+use Rattle.vap_compile.proofs.Means.{means_the}
 use Rattle.vap_compile.proofs.Validity.{BodyFits, valid_code, good_at, all_is}
 use Rattle.vap_compile.proofs.Routines.{starts_length, starts_rise, starts_inside}
 
@@ -228,7 +228,7 @@ module _ (m : Meant) (c : CodeOf) (checked : IsChecked m) (is : IsLaidOut m c) w
 
   pub compiled_means : ValidCodeEnds → MeansProgram m c
   compiled_means law world s fit =
-      means_the (source_in m) c sound is.layout compiled_valid law 10000 machine_units world s (record {
+      means_the (source_in m) c sound is.layout compiled_valid law world s (record {
         variables = fit.variables ∙ sym is.numbers.variables;
         timers = fit.timers ∙ sym is.numbers.timers;
         arrays = fit.arrays

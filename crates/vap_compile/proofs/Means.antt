@@ -3,21 +3,21 @@ use Rattle.std.proofs.Common.{◌≡◌, ℕ, zero, suc, ◌+◌, ◌<◌, ◌�
 use Rattle.std.specs.Prelude.{slice_get}
 use Rattle.std.proofs.lemmas.Bool.{cases_lt}
 use Rattle.std.proofs.lemmas.List.{get_or_append_left}
-use Rattle.sig_types.specs.Pass.{Store as StoreOf, World}
+use Rattle.sig_types.specs.Pass.{Store as StoreOf, World, unit_limit}
 use Rattle.vap_ast.specs.declared.name.Entry.{Entry}
 use Rattle.vap_ast.specs.Names.{Source}
 use Rattle.vap_ast.specs.Mean.{Outcome, Done, Faulted, mean}
 use Rattle.vap_code.specs.declared.Instr.{Instr}
 use Rattle.vap_code.specs.declared.Instr.TheVariants.{Ret}
 use Rattle.vap_code.specs.Codes.{CodeOf}
-use Rattle.vap_code.specs.Machine.{End, Stuck, Unfinished, State, Step, Goes, Ends, step, after, exec, last_start, first_state, machine, unit_limit, step_limit}
+use Rattle.vap_code.specs.Machine.{End, Stuck, Unfinished, State, Step, Goes, Ends, step, after, exec, last_start, first_state, machine, step_limit}
 use Rattle.vap_code.specs.Machine as code
 use Rattle.vap_code.specs.Valid.{Valid}
 use Rattle.code_verify.specs.Ends.{IsOver, ValidCodeEnds}
 use Rattle.vap_ast.specs.Sizes.{items_size}
 use Rattle.vap_ast.specs.Sound.{Sound_items}
 use Rattle.vap_compile.specs.Layout.{routine_code, routines_code, routine_starts, label_place}
-use Rattle.vap_ast.specs.Passes.{ending}
+use Rattle.vap_ast.specs.Passes.{ending, program_logic}
 use Rattle.vap_compile.specs.Compiled.{IsCodeOf}
 use Rattle.code_verify.specs.Ends.{StoreFits}
 use Rattle.vap_compile.proofs.Runs.{HasAt, has_front, has_back, has_all, state, Comes_to_end, Free, comes_end, one_end}
@@ -153,16 +153,10 @@ ending_over : (o : Outcome) → ending o ≡ Unfinished → ⊥
 ending_over (Done s left) e = cc
 ending_over (Faulted kind line) e = cc
 
--- the units of a machine's pass
-pub machine_units : unit_limit ≡ 10000
-unfolding unit_limit
-machine_units = refl
-
--- with so many units as a pass of the machine has
+-- a code of a program means what the program means, where each pass of valid code comes to an end
 pub means_the : (source : Source) (c : CodeOf) → IsSound source → IsCodeOf source c → Valid c → ValidCodeEnds
-    → (units : ℕ) → unit_limit ≡ units → (world : World) (s : StoreOf) → StoreFits c s
-    → machine c world s ≡ ending (mean source world source.main source.main s units)
-means_the source c sound is valid law units same world s fits =
+    → (world : World) (s : StoreOf) → StoreFits c s → machine c world s ≡ program_logic source world s
+means_the source c sound is valid law world s fits =
     let over = (law c world s valid fits).0 in
     let bodies = source.subs ++ source.main ∷ [] in
     let instrs = routines_code source.names 0 bodies in
@@ -177,4 +171,3 @@ means_the source c sound is valid law units same world s fits =
     e
     ∙ one_ending instrs starts world step_limit end.by.0 first _ _
     (over_differs instrs starts world _ over') (ending_over _) refl end.by.1
-    ∙ ap (λ n. ending (mean source world source.main source.main s n)) same

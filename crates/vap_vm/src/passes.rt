@@ -3,8 +3,8 @@
 ghost use Rattle.std.specs.Prelude.{◌≡◌, ◌+◌, ◌<◌, ◌≤◌, length, map, IfOk};
 ghost use Rattle.std.specs.List.{All};
 ghost use Rattle.sig_types.specs.Pass.{World as WorldOf};
-ghost use Rattle.sig_types.specs.Pass.{counted, without_commands};
-ghost use Rattle.vap_code.specs.Machine.{machine as machine_of, machine_steps, last_start as last_start_of, unit_limit as unit_limit_of};
+ghost use Rattle.sig_types.specs.Pass.{counted, unit_limit as unit_limit_of, without_commands};
+ghost use Rattle.vap_code.specs.Machine.{machine as machine_of, machine_steps, last_start as last_start_of};
 ghost use Rattle.vap_vm.specs.Passes.{PassIs, Ready, first_store};
 
 use crate::machine::{Machine, Next};

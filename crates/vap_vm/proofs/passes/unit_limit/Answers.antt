@@ -1,5 +1,5 @@
 use Rattle.std.proofs.Common.{refl}
-use Rattle.vap_code.specs.Machine.{unit_limit}
+use Rattle.sig_types.specs.Pass.{unit_limit}
 use Rattle.vap_vm.proofs.passes.unit_limit.Goals as goal
 
 pub returns : goal.returns

@@ -1,6 +1,6 @@
 use Rattle.std.proofs.Common.{◌≡◌, length, map, sym, ap, ◌∙◌, subst, arith, false, inl, inr}
-use Rattle.sig_types.specs.Pass.{Done, Unfinished}
-use Rattle.vap_code.specs.Machine.{last_start, machine, unit_limit}
+use Rattle.sig_types.specs.Pass.{unit_limit, Done, Unfinished}
+use Rattle.vap_code.specs.Machine.{last_start, machine}
 use Rattle.vap_vm.specs.Passes.{Kept}
 use Rattle.vap_vm.specs.Run.{end_of}
 use Rattle.vap_vm.specs.Tasks.{instrs_of, Joined}
