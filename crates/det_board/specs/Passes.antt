@@ -81,9 +81,9 @@ AreCounts c = (c.1 ≤ c.0) × (c.0 ≤ most_fronts)
 abbrev pub gain_of : Counts → ℕ → ℕ × ℕ → ℕ × ℕ
 gain_of counts d c = (c.0 - (slice_index_or counts d (0, 0)).0, c.1 - (slice_index_or counts d (0, 0)).1)
 
--- the place is one of a group of four
-abbrev pub IsInGroup : ℕ → ℕ → Type 0
-IsInGroup group place = (group < 16) × (4 * group ≤ place) × (place < 4 * group + 4)
+-- the place is in that four: four f has the places 4 * f to 4 * f + 3
+abbrev pub IsInFour : ℕ → ℕ → Type 0
+IsInFour four place = (four < 16) × (4 * four ≤ place) × (place < 4 * four + 4)
 
 -- the detector at place d, whose counts stand in `counts`, may now have the counts c
 pub record GrowsTo (counts : Counts) (d : ℕ) (c : ℕ × ℕ) : Type 0 where

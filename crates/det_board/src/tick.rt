@@ -1,7 +1,7 @@
 // The tick's pass, which reads the board.
 ghost use Rattle.std.specs.Prelude.{◌≡◌, ℕ, ◌+◌, ◌*◌, ◌/◌, ◌<◌, ◌≤◌, [], length, slice_index_or, slice_set};
 ghost use Rattle.det_board.specs.Rule.{dealt_of, loads_of, owned_of};
-ghost use Rattle.det_board.specs.Passes.{AreCounts, GrowsTo, IsInGroup, LoadsOne, ReadsFour, ReadsOne, Taking, Takes, Ticking, gain_of};
+ghost use Rattle.det_board.specs.Passes.{AreCounts, GrowsTo, IsInFour, LoadsOne, ReadsFour, ReadsOne, Taking, Takes, Ticking, gain_of};
 ghost use Rattle.det_board.specs.declared.view.View.TheVariants.{Tick};
 
 use crate::board::{Board, fronts_word};
@@ -58,61 +58,62 @@ fn events_of(one: (u64, u64), two: (u64, u64), three: (u64, u64), four: (u64, u6
 }
 
 // Takes over the counts of a detector, and puts what they gained into the frame.
-fn gain(totals: &mut Totals, group: u8, place: u8, counts: (u64, u64), frame: &mut Frame)
-    requires of_group { IsInGroup group place }
+fn gain(totals: &mut Totals, four: u8, place: u8, counts: (u64, u64), frame: &mut Frame)
+    requires of_four { IsInFour four place }
     requires grows { GrowsTo totals.old place counts }
     ensures totals { totals.new ≡ slice_set totals.old place counts }
     ensures frame { frame.new ≡ slice_set frame.old place (gain_of totals.old place counts) }
 {
-    let gained = totals.grow(group, place, (counts.0 as u32, counts.1 as u32));
+    let gained = totals.grow(four, place, (counts.0 as u32, counts.1 as u32));
     frame.set(place, gained);
 }
 
 impl TickPass {
     // Loads the counts of a detector, and puts what they gained since the last take into the frame.
-    fn read_one(&mut self, board: &Board, group: u8, place: u8, frame: &mut Frame)
+    fn read_one(&mut self, board: &Board, four: u8, place: u8, frame: &mut Frame)
         requires board { self.old.table ≡ board.now.table }
         requires inside { place < board.now.detectors }
-        requires of_group { IsInGroup group place }
+        requires of_four { IsInFour four place }
         ensures { (gained : ℕ × ℕ) × ReadsOne place self.old self.new gained × (frame.new ≡ slice_set frame.old place gained) }
     {
         let counts = load_counts(board, &mut self.seat, place);
-        gain(&mut self.totals, group, place, counts, frame);
+        gain(&mut self.totals, four, place, counts, frame);
     }
 
-    // The same of each of four detectors. Most gain nothing in most seconds, and then nothing is written.
+    // Loads the counts of four detectors, and puts what they gained since the last take into the frame. Most gain nothing in
+    // most seconds, and then nothing is written.
     #[inline(always)]
-    fn read_four(&mut self, board: &Board, group: u8, frame: &mut Frame)
+    fn read_four(&mut self, board: &Board, four: u8, frame: &mut Frame)
         requires board { self.old.table ≡ board.now.table }
-        requires inside { (4 * group + 3 < board.now.detectors) × (group < 16) }
-        requires silent { (d : ℕ) → 4 * group ≤ d → slice_index_or frame.old d (0, 0) ≡ (0, 0) }
-        ensures { ReadsFour (4 * group) self.old self.new frame.old frame.new }
+        requires inside { (4 * four + 3 < board.now.detectors) × (four < 16) }
+        requires silent { (d : ℕ) → 4 * four ≤ d → slice_index_or frame.old d (0, 0) ≡ (0, 0) }
+        ensures { ReadsFour (4 * four) self.old self.new frame.old frame.new }
     {
-        let place = 4 * group;
-        let one = load_counts(board, &mut self.seat, place);
-        let two = load_counts(board, &mut self.seat, place + 1);
-        let three = load_counts(board, &mut self.seat, place + 2);
-        let four = load_counts(board, &mut self.seat, place + 3);
+        let place = 4 * four;
+        let first = load_counts(board, &mut self.seat, place);
+        let second = load_counts(board, &mut self.seat, place + 1);
+        let third = load_counts(board, &mut self.seat, place + 2);
+        let fourth = load_counts(board, &mut self.seat, place + 3);
         if !self
             .totals
-            .are_still(group, events_of(one, two, three, four))
+            .are_still(four, events_of(first, second, third, fourth))
         {
-            gain(&mut self.totals, group, place, one, frame);
-            gain(&mut self.totals, group, place + 1, two, frame);
-            gain(&mut self.totals, group, place + 2, three, frame);
-            gain(&mut self.totals, group, place + 3, four, frame);
+            gain(&mut self.totals, four, place, first, frame);
+            gain(&mut self.totals, four, place + 1, second, frame);
+            gain(&mut self.totals, four, place + 2, third, frame);
+            gain(&mut self.totals, four, place + 3, fourth, frame);
         }
     }
 
-    // Those after the last whole group of four, one after the other.
+    // Reads the detectors after the last whole four, one after the other.
     fn read_rest(&mut self, board: &Board, frame: &mut Frame)
         requires board { self.old.table ≡ board.now.table }
         ensures { (begin : Ticking) → Taking (4 * (board.now.detectors / 4)) begin self.old frame.old → Taking board.now.detectors begin self.new frame.new }
     {
         let detectors = board.detectors();
-        let group = detectors / 4;
-        for place in 4 * group..detectors {
-            self.read_one(board, group, place, frame);
+        let four = detectors / 4;
+        for place in 4 * four..detectors {
+            self.read_one(board, four, place, frame);
         }
     }
 
@@ -123,8 +124,8 @@ impl TickPass {
         ensures { Takes board.now.detectors self.old self.new frame.new }
     {
         frame.clear();
-        for group in 0..board.detectors() / 4 {
-            self.read_four(board, group, frame);
+        for four in 0..board.detectors() / 4 {
+            self.read_four(board, four, frame);
         }
         self.read_rest(board, frame);
     }

@@ -1,6 +1,6 @@
 // The counts that the tick has loaded.
 ghost use Rattle.std.specs.Prelude.{◌≡◌, ◌+◌, ◌*◌, ◌^◌, ◌<◌, true, replicate, slice_index_or, slice_set};
-ghost use Rattle.det_board.specs.Passes.{GrowsTo, IsInGroup, events_at as events_at_lem, events_from as events_from_lem, gain_of};
+ghost use Rattle.det_board.specs.Passes.{GrowsTo, IsInFour, events_at as events_at_lem, events_from as events_from_lem, gain_of};
 
 use sig_types::Frame;
 use std::marker::Model;
@@ -35,7 +35,7 @@ fn events_at(counts: &Frame, place: u8) -> u64
     u64::from(fronts) + u64::from(rears)
 }
 
-// Those of four detectors, from this place on.
+// The fronts and rears of four detectors together, from this place on.
 fn events_from(counts: &Frame, place: u8) -> u64
     requires { place + 3 < 64 }
     ensures { result ≡ events_from_lem counts.now place }
@@ -64,25 +64,25 @@ impl Totals {
         self.counts.get(place)
     }
 
-    /// Whether the four detectors of that group, which now have so many fronts and rears together, have counted nothing more.
+    /// Whether the detectors of that four, which now have so many fronts and rears together, have counted nothing more.
     #[inline(always)]
-    pub fn are_still(&self, group: u8, events: u64) -> bool
-        requires { group < 16 }
-        ensures { result ≡ true → events ≡ events_from_lem self.now (4 * group) }
+    pub fn are_still(&self, four: u8, events: u64) -> bool
+        requires { four < 16 }
+        ensures { result ≡ true → events ≡ events_from_lem self.now (4 * four) }
     {
-        events == self.sums[usize::from(group)]
+        events == self.sums[usize::from(four)]
     }
 
     /// Takes over the counts that the detector at that place now has, and answers what it gained.
-    pub fn grow(&mut self, group: u8, place: u8, counts: (u32, u32)) -> (u32, u32)
-        requires of_group { IsInGroup group place }
+    pub fn grow(&mut self, four: u8, place: u8, counts: (u32, u32)) -> (u32, u32)
+        requires of_four { IsInFour four place }
         requires grows { GrowsTo self.old place counts }
         ensures counts { self.new ≡ slice_set self.old place counts }
         ensures gained { result ≡ gain_of self.old place counts }
     {
         let before = self.counts.get(place);
         self.counts.set(place, counts);
-        self.sums[usize::from(group)] = events_from(&self.counts, 4 * group);
+        self.sums[usize::from(four)] = events_from(&self.counts, 4 * four);
         (counts.0 - before.0, counts.1 - before.1)
     }
 }

@@ -5,54 +5,54 @@ use Rattle.det_board.specs.Passes.{Ticking, ReadsFour, IsTicking, GrowsTo, gain_
 use Rattle.det_board.proofs.Fours.{FourLoads, after_four, grows_four, reads_four, totals_stay, frame_stays}
 use Rattle.det_board.proofs.tick.TickPass.read_four.Goals as goal
 
-before_last : (c : goal.After-gain-arg-then-not-are_still-7-1) → FourLoads c.self.inside.seat.table_id c.self.inside.seat.me c.self.inside.totals (4 * c.args.group) c.load_counts-one.result c.load_counts-two.result
-    c.load_counts-three.result c.load_counts-four.result c.load_counts-four.new.seat.table_id c.load_counts-four.new.seat.me
+before_last : (c : goal.After-gain-arg-then-not-are_still-7-1) → FourLoads c.self.inside.seat.table_id c.self.inside.seat.me c.self.inside.totals (4 * c.args.four) c.load_counts-first.result c.load_counts-second.result
+    c.load_counts-third.result c.load_counts-fourth.result c.load_counts-fourth.new.seat.table_id c.load_counts-fourth.new.seat.me
 before_last c = record {
-  ids = (c.load_counts-one.new.seat.table_id, c.load_counts-two.new.seat.table_id, c.load_counts-three.new.seat.table_id);
-  mes = (c.load_counts-one.new.seat.me, c.load_counts-two.new.seat.me, c.load_counts-three.new.seat.me);
+  ids = (c.load_counts-first.new.seat.table_id, c.load_counts-second.new.seat.table_id, c.load_counts-third.new.seat.table_id);
+  mes = (c.load_counts-first.new.seat.me, c.load_counts-second.new.seat.me, c.load_counts-third.new.seat.me);
   was = c.self.invariant;
   low = let r = c.requires.inside.1 in omega arith;
-  one = c.load_counts-one.ensures;
-  two = c.load_counts-two.ensures;
-  three = c.load_counts-three.ensures;
-  four = c.load_counts-four.ensures;
+  one = c.load_counts-first.ensures;
+  two = c.load_counts-second.ensures;
+  three = c.load_counts-third.ensures;
+  four = c.load_counts-fourth.ensures;
 }
 
-after_last : (c : goal.After-gain-then-not-are_still-3) → FourLoads c.self.inside.seat.table_id c.self.inside.seat.me c.self.inside.totals (4 * c.args.group) c.load_counts-one.result c.load_counts-two.result
-    c.load_counts-three.result c.load_counts-four.result c.load_counts-four.new.seat.table_id c.load_counts-four.new.seat.me
+after_last : (c : goal.After-gain-then-not-are_still-3) → FourLoads c.self.inside.seat.table_id c.self.inside.seat.me c.self.inside.totals (4 * c.args.four) c.load_counts-first.result c.load_counts-second.result
+    c.load_counts-third.result c.load_counts-fourth.result c.load_counts-fourth.new.seat.table_id c.load_counts-fourth.new.seat.me
 after_last c = record {
-  ids = (c.load_counts-one.new.seat.table_id, c.load_counts-two.new.seat.table_id, c.load_counts-three.new.seat.table_id);
-  mes = (c.load_counts-one.new.seat.me, c.load_counts-two.new.seat.me, c.load_counts-three.new.seat.me);
+  ids = (c.load_counts-first.new.seat.table_id, c.load_counts-second.new.seat.table_id, c.load_counts-third.new.seat.table_id);
+  mes = (c.load_counts-first.new.seat.me, c.load_counts-second.new.seat.me, c.load_counts-third.new.seat.me);
   was = c.self.invariant;
   low = let r = c.requires.inside.1 in omega arith;
-  one = c.load_counts-one.ensures;
-  two = c.load_counts-two.ensures;
-  three = c.load_counts-three.ensures;
-  four = c.load_counts-four.ensures;
+  one = c.load_counts-first.ensures;
+  two = c.load_counts-second.ensures;
+  three = c.load_counts-third.ensures;
+  four = c.load_counts-fourth.ensures;
 }
 
-where_still : (c : goal.Else-not-are_still) → FourLoads c.self.inside.seat.table_id c.self.inside.seat.me c.self.inside.totals (4 * c.args.group) c.load_counts-one.result c.load_counts-two.result
-    c.load_counts-three.result c.load_counts-four.result c.load_counts-four.new.seat.table_id c.load_counts-four.new.seat.me
+where_still : (c : goal.Else-not-are_still) → FourLoads c.self.inside.seat.table_id c.self.inside.seat.me c.self.inside.totals (4 * c.args.four) c.load_counts-first.result c.load_counts-second.result
+    c.load_counts-third.result c.load_counts-fourth.result c.load_counts-fourth.new.seat.table_id c.load_counts-fourth.new.seat.me
 where_still c = record {
-  ids = (c.load_counts-one.new.seat.table_id, c.load_counts-two.new.seat.table_id, c.load_counts-three.new.seat.table_id);
-  mes = (c.load_counts-one.new.seat.me, c.load_counts-two.new.seat.me, c.load_counts-three.new.seat.me);
+  ids = (c.load_counts-first.new.seat.table_id, c.load_counts-second.new.seat.table_id, c.load_counts-third.new.seat.table_id);
+  mes = (c.load_counts-first.new.seat.me, c.load_counts-second.new.seat.me, c.load_counts-third.new.seat.me);
   was = c.self.invariant;
   low = let r = c.requires.inside.1 in omega arith;
-  one = c.load_counts-one.ensures;
-  two = c.load_counts-two.ensures;
-  three = c.load_counts-three.ensures;
-  four = c.load_counts-four.ensures;
+  one = c.load_counts-first.ensures;
+  two = c.load_counts-second.ensures;
+  three = c.load_counts-third.ensures;
+  four = c.load_counts-fourth.ensures;
 }
 
 pub gain-requires-then-not-are_still-3-clause-grows : goal.gain-requires-then-not-are_still-3-clause-grows
 gain-requires-then-not-are_still-3-clause-grows c =
-    let d : ℕ = 4 * c.args.group in
-    let one = c.load_counts-one.result in
-    let two = c.load_counts-two.result in
-    let three = c.load_counts-three.result in
-    let four = c.load_counts-four.result in
+    let d : ℕ = 4 * c.args.four in
+    let one = c.load_counts-first.result in
+    let two = c.load_counts-second.result in
+    let three = c.load_counts-third.result in
+    let four = c.load_counts-fourth.result in
     let T = c.self.inside.totals in
-    let seat = c.load_counts-four.new.seat in
+    let seat = c.load_counts-fourth.new.seat in
     let old = c.self.inside.seat in
     let h = before_last c in
     let e1 = c.gain.ensures.totals in
@@ -62,13 +62,13 @@ gain-requires-then-not-are_still-3-clause-grows c =
 
 pub invariant_of-self : goal.invariant_of-self
 invariant_of-self c =
-    let d : ℕ = 4 * c.args.group in
-    let one = c.load_counts-one.result in
-    let two = c.load_counts-two.result in
-    let three = c.load_counts-three.result in
-    let four = c.load_counts-four.result in
+    let d : ℕ = 4 * c.args.four in
+    let one = c.load_counts-first.result in
+    let two = c.load_counts-second.result in
+    let three = c.load_counts-third.result in
+    let four = c.load_counts-fourth.result in
     let T = c.self.inside.totals in
-    let seat = c.load_counts-four.new.seat in
+    let seat = c.load_counts-fourth.new.seat in
     let old = c.self.inside.seat in
     let h = after_last c in
     let e1 = c.gain.ensures.totals in
@@ -79,27 +79,27 @@ invariant_of-self c =
 
 pub invariant_of-self-else-not-are_still : goal.invariant_of-self-else-not-are_still
 invariant_of-self-else-not-are_still c =
-    let d : ℕ = 4 * c.args.group in
-    let one = c.load_counts-one.result in
-    let two = c.load_counts-two.result in
-    let three = c.load_counts-three.result in
-    let four = c.load_counts-four.result in
+    let d : ℕ = 4 * c.args.four in
+    let one = c.load_counts-first.result in
+    let two = c.load_counts-second.result in
+    let three = c.load_counts-third.result in
+    let four = c.load_counts-fourth.result in
     let T = c.self.inside.totals in
-    let seat = c.load_counts-four.new.seat in
+    let seat = c.load_counts-fourth.new.seat in
     let old = c.self.inside.seat in
     let h = where_still c in
     subst (λ (t : Counts). IsTicking seat.table_id seat.me t) (totals_stay h (sym c.events_of.ensures ∙ c.are_still.ensures c.if-not-are_still.false)) (after_four h)
 
 pub returns-then-not-are_still : goal.returns-then-not-are_still
 returns-then-not-are_still c =
-    let d : ℕ = 4 * c.args.group in
-    let one = c.load_counts-one.result in
-    let two = c.load_counts-two.result in
-    let three = c.load_counts-three.result in
-    let four = c.load_counts-four.result in
+    let d : ℕ = 4 * c.args.four in
+    let one = c.load_counts-first.result in
+    let two = c.load_counts-second.result in
+    let three = c.load_counts-third.result in
+    let four = c.load_counts-fourth.result in
     let T = c.self.inside.totals in
     let f = c.args.frame.now in
-    let seat = c.load_counts-four.new.seat in
+    let seat = c.load_counts-fourth.new.seat in
     let old = c.self.inside.seat in
     let h = after_last c in
     let e1 = c.gain.ensures.totals in
@@ -115,14 +115,14 @@ returns-then-not-are_still c =
 
 pub returns-else-not-are_still : goal.returns-else-not-are_still
 returns-else-not-are_still c =
-    let d : ℕ = 4 * c.args.group in
-    let one = c.load_counts-one.result in
-    let two = c.load_counts-two.result in
-    let three = c.load_counts-three.result in
-    let four = c.load_counts-four.result in
+    let d : ℕ = 4 * c.args.four in
+    let one = c.load_counts-first.result in
+    let two = c.load_counts-second.result in
+    let three = c.load_counts-third.result in
+    let four = c.load_counts-fourth.result in
     let T = c.self.inside.totals in
     let f = c.args.frame.now in
-    let seat = c.load_counts-four.new.seat in
+    let seat = c.load_counts-fourth.new.seat in
     let old = c.self.inside.seat in
     let h = where_still c in
     let same = sym c.events_of.ensures ∙ c.are_still.ensures c.if-not-are_still.false in

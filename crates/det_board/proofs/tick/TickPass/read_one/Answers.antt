@@ -8,6 +8,6 @@ pub invariant_of-self : goal.invariant_of-self
 invariant_of-self c =
     let old = c.self.inside.seat in
     let new = c.load_counts-counts.new.seat in
-    let low : c.args.place < 64 = let g = c.requires.of_group.0 in let p = c.requires.of_group.2 in omega arith in
+    let low : c.args.place < 64 = let g = c.requires.of_four.0 in let p = c.requires.of_four.2 in omega arith in
     subst (λ (t : Counts). IsTicking new.table_id new.me t) (sym c.gain.ensures.totals)
     (still_ticking old.table_id new.table_id old.me new.me c.self.inside.totals c.args.place c.load_counts-counts.result c.self.invariant low c.load_counts-counts.ensures)
