@@ -1,6 +1,6 @@
 // The counts that the tick has loaded.
 ghost use Rattle.std.specs.Prelude.{◌≡◌, ◌+◌, ◌*◌, ◌^◌, ◌<◌, true, replicate, slice_index_or, slice_set};
-ghost use Rattle.det_board.specs.Passes.{GrowsTo, IsInFour, events_at as events_at_lem, events_from as events_from_lem, gain_of};
+ghost use Rattle.det_board.specs.Passes.{GrowsTo, IsInFour, events_at as events_at_spec, events_from as events_from_spec, gain_of};
 
 use sig_types::Frame;
 use std::marker::Model;
@@ -28,7 +28,7 @@ impl Model for Totals {
 // The fronts and rears of a detector together.
 fn events_at(counts: &Frame, place: u8) -> u64
     requires { place < 64 }
-    ensures sum { result ≡ events_at_lem counts.now place }
+    ensures sum { result ≡ events_at_spec counts.now place }
     ensures few { result < 2 ^ 33 }
 {
     let (fronts, rears) = counts.get(place);
@@ -38,7 +38,7 @@ fn events_at(counts: &Frame, place: u8) -> u64
 // The fronts and rears of four detectors together, from this place on.
 fn events_from(counts: &Frame, place: u8) -> u64
     requires { place + 3 < 64 }
-    ensures { result ≡ events_from_lem counts.now place }
+    ensures { result ≡ events_from_spec counts.now place }
 {
     let first = events_at(counts, place) + events_at(counts, place + 1);
     let last = events_at(counts, place + 2) + events_at(counts, place + 3);
@@ -68,7 +68,7 @@ impl Totals {
     #[inline(always)]
     pub fn are_still(&self, four: u8, events: u64) -> bool
         requires { four < 16 }
-        ensures { result ≡ true → events ≡ events_from_lem self.now (4 * four) }
+        ensures { result ≡ true → events ≡ events_from_spec self.now (4 * four) }
     {
         events == self.sums[usize::from(four)]
     }
