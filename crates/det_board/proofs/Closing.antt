@@ -49,16 +49,6 @@ get_within [] k p e = absurd (cc)
 get_within (x ∷ xs) zero p e = omega arith
 get_within (x ∷ xs) (suc k) p e = omega (arith, get_within xs k p e)
 
-pub gathers_first : (board : Boarded) (all : List Feeding) (tick : Ticking) (me : Me (Unit {0}) View) (counts : List (ℕ × ℕ)) → AreAll board all tick → me ≡ (Tick (dealt_of me.0) (loads_of me.0) (owned_of me.0), [])
-    → loads_of me.0 ≡ tick.loads → length (owned_of me.0) ≡ board.detectors → length counts ≡ 64 → Gathering all all board.detectors tick.loads me counts
-gathers_first board all tick me counts are is loads size sized = record {
-  part = λ k p e. e;
-  few = let c = are.count in omega arith;
-  back = record { view = is ∙ (λ i. (Tick (dealt_of me.0) (loads i) (owned_of me.0), [])); owned_count = size; back = λ k p h e. absurd (let w = get_within all k p e in omega arith) };
-  size = sized;
-  counted = λ k p h e. absurd (let w = get_within all k p e in omega arith);
-}
-
 pub gathers_one : (board : Boarded) (all rest rest' : List Feeding) (tick : Ticking) (x : Feeding) (place : ℕ) (loads : List (List ℕ)) (me me' : Me (Unit {0}) View) (counts : List (ℕ × ℕ)) → AreAll board all tick → board.detectors ≤ 64
     → Gathering all rest board.detectors loads me counts → rest ≡ rest' ++ x ∷ [] → place ≡ x.place
     → me' ≡ (Tick (dealt_of me.0) (loads_of me.0) (set (owned_of me.0) x.place (Some (x.fronts, x.rears))), [])

@@ -1,17 +1,14 @@
 -- Detectors are dealt one by one.
-use Rattle.std.proofs.Common.{◌≡◌, ℕ, suc, ◌+◌, ◌*◌, ◌<◌, ◌≤◌, List, [], refl, sym, ap, ◌∙◌, subst, arith, replicate, Some, None, length-set, get_or-set_other, add-one}
+use Rattle.std.proofs.Common.{◌≡◌, ℕ, suc, ◌*◌, ◌<◌, List, [], refl, sym, ap, ◌∙◌, subst, arith, replicate, None}
 use Rattle.std.specs.Prelude.{slice_set}
 use Rattle.atomic_table.specs.Table.{Me, Splits}
 use Rattle.atomic_table.specs.Seated.{TableId}
 use Rattle.det_board.specs.declared.view.View.{View}
 use Rattle.det_board.specs.declared.view.View.TheVariants.{Tick, Feeder}
-use Rattle.det_board.specs.Rule.{fronts_word, rears_word, Keeps, opening_view, dealt_from, dealt_to, feeder_of, owned_of}
-use Rattle.det_board.specs.Passes.{Undealt, IsTicking, IsFeeding}
+use Rattle.det_board.specs.Rule.{fronts_word, rears_word, Keeps, dealt_from, dealt_to, feeder_of, owned_of}
+use Rattle.det_board.specs.Passes.{Undealt, IsTicking}
 use Rattle.det_board.proofs.Allowed.{deal_allows}
-use Rattle.det_board.proofs.Opening.{owned_first, nothing_read, length-same, all_zero}
-
-pub undealt_first : (detectors : ℕ) (me : Me (Unit {0}) View) → me ≡ (opening_view detectors, []) → Undealt 0 detectors me
-undealt_first detectors me is = subst (Undealt 0 detectors) (sym is) (record { view = refl; owned_count = length-same detectors (Some (0, 0)); rest = λ d h lt. owned_first detectors d lt })
+use Rattle.det_board.proofs.Opening.{nothing_read, length-same, all_zero}
 
 -- the seat's view, and what the new seat gets
 seen : (n detectors : ℕ) (me : Me (Unit {0}) View) → Undealt n detectors me → n < detectors → (dealt_to me.0 ≡ Feeder n 0 0) × (dealt_from me.0 ≡ Tick (suc n) (replicate (8 * detectors) []) (slice_set (owned_of me.0) n None))
@@ -30,23 +27,6 @@ deals key detectors id n me same u inside =
     (subst (λ (r : View). Splits (Keeps key) id (Tick n L (owned_of me.0)) (dealt_from me.0) r) (sym s.0)
     (subst (λ (l : View). Splits (Keeps key) id (Tick n L (owned_of me.0)) l (Feeder n 0 0)) (sym s.1)
     (deal_allows key id n 0 0 L (owned_of me.0) (u.rest n (omega arith) inside))))
-
-pub undealt_next : (n detectors : ℕ) (me me' : Me (Unit {0}) View) → Undealt n detectors me → n < detectors → me' ≡ (dealt_from me.0, me.1) → Undealt (n + 1) detectors me'
-undealt_next n detectors me me' u inside is =
-    let s = seen n detectors me u inside in
-    let none_loaded : List ℕ = [] in
-    let held : me.1 ≡ [] = ap (λ (m : Me (Unit {0}) View). m.1) u.view in
-    let now : me' ≡ (Tick (n + 1) (replicate (8 * detectors) none_loaded) (slice_set (owned_of me.0) n None), []) = is ∙ (λ i. (s.1 i, held i)) ∙ ap (λ k. (Tick k (replicate (8 * detectors) none_loaded) (slice_set (owned_of me.0) n None), [])) (sym (add-one n)) in
-    subst (Undealt (n + 1) detectors) (sym now) (record {
-      view = refl;
-      owned_count = length-set (owned_of me.0) n None ∙ u.owned_count;
-      rest = λ d h lt. get_or-set_other (owned_of me.0) n d None None (λ e. omega arith) ∙ u.rest d (omega arith) lt;
-    })
-
-pub feeding_first : (id : TableId) (n detectors : ℕ) (me me' : Me (Unit {0}) View) → Undealt n detectors me → n < detectors → detectors ≤ 64 → id.words ≡ 8 * detectors → me' ≡ (dealt_to me.0, []) → IsFeeding id me' n 0 0
-feeding_first id n detectors me me' u inside low words is =
-    let s = seen n detectors me u inside in
-    record { view = is ∙ (λ i. (s.0 i, [])); ordered = omega arith; bounded = omega arith; in_range = omega arith; on_board = omega arith }
 
 pub ticking_first : (id : TableId) (n detectors : ℕ) (me : Me (Unit {0}) View) (totals : List (ℕ × ℕ)) → Undealt n detectors me → id.words ≡ 8 * detectors → totals ≡ replicate 64 (0, 0) → IsTicking id me totals
 ticking_first id n detectors me totals u words zeros =

@@ -4,10 +4,10 @@ use mathlib.Core.Logic.{dite}
 use native.Mathlib.Decide.{ℕ_discrete}
 use Rattle.det_board.specs.Interleaving.{Marks, Event, front, rear, read_rears, read_fronts, May, after, put, Leads, Reached, no_marks, reads_of, TakesOne}
 
-put_here : (f : ℕ → ℕ) (d n k : ℕ) → k ≡ d → put f d n k ≡ n
+pub put_here : (f : ℕ → ℕ) (d n k : ℕ) → k ≡ d → put f d n k ≡ n
 put_here f d n k e = rw (eq-eqb k d e)
 
-put_else : (f : ℕ → ℕ) (d n k : ℕ) → k ≢ d → put f d n k ≡ f k
+pub put_else : (f : ℕ → ℕ) (d n k : ℕ) → k ≢ d → put f d n k ≡ f k
 put_else f d n k e = rw (ne_eqb k d e)
 
 put_least : (f : ℕ → ℕ) (d n k : ℕ) → f d ≤ n → f k ≤ put f d n k

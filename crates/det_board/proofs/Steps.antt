@@ -1,5 +1,5 @@
 -- Each kind of step keeps the rule.
-use Rattle.std.proofs.Common.{◌≡◌, ◌≢◌, ◌⊎◌, ℕ, zero, suc, ◌+◌, ◌*◌, ◌<◌, ◌≤◌, List, [], ◌∷◌, ◌++◌, length, set, refl, sym, ap, ◌∙◌, subst, inl, inr, ⊎_elim, le_trans, arith, get_or-set_same, get_or-set_other, length-set, Option, Some, None, eq-eqb, ne_eqb}
+use Rattle.std.proofs.Common.{◌≡◌, ◌≢◌, ◌⊎◌, ℕ, zero, suc, ◌+◌, ◌*◌, ◌<◌, ◌≤◌, List, [], ◌∷◌, ◌++◌, length, set, refl, sym, ap, ◌∙◌, subst, inl, inr, ⊎_elim, le_trans, arith, get_or-set_same, get_or-set_other, length-set, Option, Some, None}
 use Rattle.std.specs.Prelude.{slice_index, slice_index_or, slice_set}
 use mathlib.Core.Option.{some, some-injective, some-ne-none}
 use mathlib.Core.Logic.{dite}
@@ -11,6 +11,7 @@ use Rattle.det_board.specs.declared.view.View.{View}
 use Rattle.det_board.specs.declared.view.View.TheVariants.{Tick, Feeder, Spent}
 use Rattle.det_board.specs.Interleaving.{Marks, Event, front, rear, read_rears, read_fronts, May, after, put, Leads, Reached, no_marks}
 use Rattle.det_board.specs.Rule.{most_fronts, last_read, loads_after, owned_by, fronts_word, rears_word, marks_of, CountsAt, Fits, Owns, Keeps}
+use Rattle.det_board.proofs.Events.{put_here, put_else}
 use Rattle.det_board.proofs.Words.{last_read-here, last_read-else, owned_here, owned_only}
 
 -- the table after a step that leaves these words and this view of seat id
@@ -112,12 +113,6 @@ leads_on (d ∷ es) e x y l may = (l.0, leads_on es e (after d x) y l.1 may)
 -- one event more
 pub reached_on : (e : Event) (x y : Marks) → Reached x → May e x → y ≡ after e x → Reached y
 reached_on e x y r may is = (r.0 ++ e ∷ [], subst (λ m. Leads (r.0 ++ e ∷ []) no_marks m) (sym is) (leads_on r.0 e no_marks x r.1 may))
-
-pub put_here : (f : ℕ → ℕ) (d n k : ℕ) → k ≡ d → put f d n k ≡ n
-put_here f d n k e = rw (eq-eqb k d e)
-
-pub put_else : (f : ℕ → ℕ) (d n k : ℕ) → k ≢ d → put f d n k ≡ f k
-put_else f d n k e = rw (ne_eqb k d e)
 
 -- numbers g that are f but for n at d
 pub putting : (f g : ℕ → ℕ) (d n : ℕ) → g d ≡ n → ((k : ℕ) → k ≢ d → g k ≡ f k) → (k : ℕ) → g k ≡ put f d n k

@@ -4,7 +4,7 @@ use Rattle.std.specs.Prelude.{slice_index_or}
 use mathlib.Core.Logic.{dite}
 use native.Mathlib.Decide.{ℕ_discrete}
 use Rattle.det_board.specs.Rule.{most_fronts, last_from, last_read, loads_after, fronts_word, rears_word}
-use Rattle.det_board.specs.Passes.{Ticking, ReadsOne, fronts_read, rears_read, fronts_loads, rears_loads, ReadsFour, Taking, Takes}
+use Rattle.det_board.specs.Passes.{Ticking, ReadsOne, fronts_read, rears_read, fronts_loads, rears_loads, ReadsFour, Taking}
 use Rattle.det_board.proofs.Opening.{all_zero}
 use Rattle.det_board.proofs.Reading.{both_loads, fronts_last, rears_last, fronts_kept, rears_kept}
 
@@ -86,9 +86,6 @@ one_taken n old mid new frame g t one low =
 pub next_taken : (n : ℕ) (old mid new : Ticking) (was now : List (ℕ × ℕ)) → Taking n old mid was → n < 64
     → (g : ℕ × ℕ) × ReadsOne n mid new g × (now ≡ set was n g) → Taking (n + 1) old new now
 next_taken n old mid new was now t low one = subst (Taking (n + 1) old new) (sym one.2) (one_taken n old mid new was one.0 t one.1 low)
-
-pub all_taken : (n : ℕ) (old new : Ticking) (frame : List (ℕ × ℕ)) → Taking n old new frame → Takes n old new frame
-all_taken n old new frame t = record { table = t.table; fronts = t.fronts; rears = t.rears; size = t.size; gains = t.gains; absent = t.absent; ordered = t.ordered }
 
 -- the next four are taken
 pub four_taken : (n : ℕ) (old mid new : Ticking) (was now : List (ℕ × ℕ)) → Taking n old mid was → n + 3 < 64 → ReadsFour n mid new was now → Taking (n + 4) old new now
