@@ -1,5 +1,5 @@
 -- What every order of events keeps.
-use Rattle.std.proofs.Common.{◌≡◌, ◌≢◌, ℕ, ◌+◌, ◌≤◌, Bool, cond, eqb, List, [], ◌∷◌, sym, ap, ◌∙◌, subst, le_refl, le_trans, arith, eq-eqb, ne_eqb}
+use Rattle.std.proofs.Common.{◌≡◌, ◌≢◌, ℕ, ◌+◌, ◌≤◌, cond, List, [], ◌∷◌, sym, ap, ◌∙◌, subst, le_refl, le_trans, arith, eq-eqb, ne_eqb}
 use mathlib.Core.Logic.{dite}
 use native.Mathlib.Decide.{ℕ_discrete}
 use Rattle.det_board.specs.Interleaving.{Marks, Event, front, rear, read_rears, read_fronts, May, after, put, Leads, Reached, no_marks, reads_of, TakesOne}
@@ -64,10 +64,6 @@ rears_not_fronts e = cc
 
 rest_of : {a b : Event} {es fs : List Event} → a ∷ es ≡ b ∷ fs → es ≡ fs
 rest_of e = cc
-
--- the loads of d in what follows
-skip : (k d : ℕ) (b : Bool) → eqb k d ≡ b → (e : Event) (l : List Event) → cond b (e ∷ l) l ≡ cond (eqb k d) (e ∷ l) l
-skip k d b is e l = ap (λ c. cond c (e ∷ l) l) (sym is)
 
 -- no load of d is left: what was read of d stays
 unread : (d : ℕ) (es : List Event) (x y : Marks) → reads_of d es ≡ [] → Leads es x y → (y.rears_read d ≡ x.rears_read d) × (y.fronts_read d ≡ x.fronts_read d)
