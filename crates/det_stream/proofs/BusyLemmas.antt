@@ -23,10 +23,6 @@ no_counts c e =
     let parts = and_parts (c.0 == 0) (c.1 == 0) e in
     (λ i. (sym (eqb-true c.0 0 parts.0) i, sym (eqb-true c.1 0 parts.1) i))
 
--- of a silent detector no line is kept
-pub silent_kept : (n : ℕ) (c : ℕ × ℕ) → c ≡ (0, 0) → line_kept n c ≡ []
-silent_kept n c is = rw is refl
-
 -- the line of one detector more was kept
 pub one_place : (n p : ℕ) (f : Counts) (first lists : List (List BusyLine)) (l : List BusyLine) → length lists ≡ 64 → p < 64 →
     ((d : ℕ) → d < p → d < 64 → slice_index_or lists d [] ≡ slice_index_or first d [] ++ line_kept n (slice_index_or f d (0, 0))) →

@@ -4,7 +4,6 @@ use Rattle.std.specs.Option.{option_map}
 use Rattle.std.specs.List.{slice_split, onto_first}
 use Rattle.std.proofs.Math.Seq.{get_or-append_seam}
 use Rattle.std.proofs.lemmas.List.Splits.{length-slice_split}
-use Rattle.std.proofs.lemmas.Bool.{both_ways, le-leb}
 use Rattle.std.proofs.Common.{replicate, slice_set, inl, inr, ◌≤◌}
 use Rattle.std.proofs.lemmas.Bool.{eqb-true, cases_eq}
 use Rattle.std.proofs.lemmas.List.{get_or-set_other, get_or-replicate}
@@ -13,10 +12,9 @@ use Rattle.std.proofs.lemmas.List.Sums.{fold_push}
 use Rattle.std.proofs.Common.{fold}
 use Rattle.sig_types.specs.Counts.{Counts}
 use Rattle.sig_types.specs.FirstRefused.{refused_to, first_refused}
-use Rattle.sig_types.specs.Text.{cut_at, number_of, within}
-use Rattle.det_stream.specs.declared.refusal.StreamWhy.TheVariants as why
+use Rattle.sig_types.specs.Text.{cut_at, number_of}
 use Rattle.det_stream.specs.Totals.{HasAtMost, RearsWithinFronts}
-use Rattle.det_stream.specs.Entries.{Numbers, judge_entry, numbers_why, numbers_of, last_detector, numbers_in, all_three, field_number, AreNumbers, entries_of, frame_of, with_entry}
+use Rattle.det_stream.specs.Entries.{Numbers, judge_entry, numbers_of, last_detector, numbers_in, all_three, field_number, AreNumbers, entries_of, frame_of, with_entry}
 
 abbrev at_colon : ℕ → Bool
 at_colon c = c == 58
@@ -98,78 +96,6 @@ are_numbers xs d f r parts passed =
       detector = ap is_some (sym d_is) ∙ each.0;
       fronts = ap is_some (sym f_is) ∙ each.1;
       rears = ap is_some (sym r_is) ∙ each.2;
-    }
-
--- an entry whose three numbers are known
-record Numbered (numbers : Option Numbers) (d f r : Option ℕ) : Type 0 where
-  a : ℕ
-  b : ℕ
-  c : ℕ
-  detector : d ≡ Some a
-  fronts : f ≡ Some b
-  rears : r ≡ Some c
-  are : numbers ≡ Some (a, b, c)
-
-numbered_parts : (numbers : Option Numbers) (d f r : Option ℕ) → AreNumbers numbers d f r → Numbered numbers d f r
-numbered_parts numbers None f r is = absurd (both_ways false refl is.detector)
-numbered_parts numbers (Some a) None r is = absurd (both_ways false refl is.fronts)
-numbered_parts numbers (Some a) (Some b) None is = absurd (both_ways false refl is.rears)
-numbered_parts numbers (Some a) (Some b) (Some c) is = record { a = a; b = b; c = c; detector = refl; fronts = refl; rears = refl; are = is.are }
-
-within_no : (t : Bool) (n : ℕ) → if◌then◌else◌ {A = Option ℕ} t (Some n) None ≡ None → t ≡ false
-within_no true n none = cc
-within_no false n none = refl
-
-within_yes : (t : Bool) (n m : ℕ) → if◌then◌else◌ {A = Option ℕ} t (Some n) None ≡ Some m → (t ≡ true) × (n ≡ m)
-within_yes true n m some = (refl, cc)
-within_yes false n m some = cc
-
--- from 0 on only the greatest number counts
-at_most : (n most : ℕ) → (nat_le 0 n && nat_le n most) ≡ nat_le n most
-at_most n most = rw (le-leb 0 n (omega arith)) refl
-
-pub unknown_why : (last : ℕ) (numbers : Option Numbers) (d f r : Option ℕ) → AreNumbers numbers d f r → within 1 64 d ≡ None → numbers_why last numbers ≡ Some why.Unknown
-unknown_why last numbers d f r is none =
-    let n = numbered_parts numbers d f r is in
-    let out : (nat_le 1 n.a && nat_le n.a 64) ≡ false = within_no _ n.a (ap (within 1 64) (sym n.detector) ∙ none) in
-    rw (n.are, out) refl
-
-pub fronts_why : (last : ℕ) (numbers : Option Numbers) (d f r : Option ℕ) (x : ℕ) → AreNumbers numbers d f r → within 1 64 d ≡ Some x → within 0 99 f ≡ None → numbers_why last numbers ≡ Some why.Range
-fronts_why last numbers d f r x is known none =
-    let n = numbered_parts numbers d f r is in
-    let inside = within_yes (nat_le 1 n.a && nat_le n.a 64) n.a x (ap (within 1 64) (sym n.detector) ∙ known) in
-    let out : nat_le n.b 99 ≡ false = sym (at_most n.b 99) ∙ within_no _ n.b (ap (within 0 99) (sym n.fronts) ∙ none) in
-    rw (n.are, inside.0, out) refl
-
-pub rears_why : (last : ℕ) (numbers : Option Numbers) (d f r : Option ℕ) (x y : ℕ) → AreNumbers numbers d f r → within 1 64 d ≡ Some x → within 0 99 f ≡ Some y → within 0 99 r ≡ None →
-    numbers_why last numbers ≡ Some why.Range
-rears_why last numbers d f r x y is known few none =
-    let n = numbered_parts numbers d f r is in
-    let inside = within_yes (nat_le 1 n.a && nat_le n.a 64) n.a x (ap (within 1 64) (sym n.detector) ∙ known) in
-    let first = within_yes (nat_le 0 n.b && nat_le n.b 99) n.b y (ap (within 0 99) (sym n.fronts) ∙ few) in
-    let inner : nat_le n.b 99 ≡ true = sym (at_most n.b 99) ∙ first.0 in
-    let out : nat_le n.c 99 ≡ false = sym (at_most n.c 99) ∙ within_no _ n.c (ap (within 0 99) (sym n.rears) ∙ none) in
-    rw (n.are, inside.0, inner, out) refl
-
--- an entry with numbers in their ranges: only its order is left to judge
-pub record InRange (last : ℕ) (numbers : Option Numbers) (x y z : ℕ) : Type 0 where
-  pub are : numbers ≡ Some (x, y, z)
-  pub fell : nat_le x last ≡ true → numbers_why last numbers ≡ Some why.Order
-  pub rose : nat_le x last ≡ false → numbers_why last numbers ≡ None
-
-pub in_range : (last : ℕ) (numbers : Option Numbers) (d f r : Option ℕ) (x y z : ℕ) → AreNumbers numbers d f r → within 1 64 d ≡ Some x → within 0 99 f ≡ Some y → within 0 99 r ≡ Some z →
-    InRange last numbers x y z
-in_range last numbers d f r x y z is known few more =
-    let n = numbered_parts numbers d f r is in
-    let inside = within_yes (nat_le 1 n.a && nat_le n.a 64) n.a x (ap (within 1 64) (sym n.detector) ∙ known) in
-    let first = within_yes (nat_le 0 n.b && nat_le n.b 99) n.b y (ap (within 0 99) (sym n.fronts) ∙ few) in
-    let second = within_yes (nat_le 0 n.c && nat_le n.c 99) n.c z (ap (within 0 99) (sym n.rears) ∙ more) in
-    let inner : nat_le n.b 99 ≡ true = sym (at_most n.b 99) ∙ first.0 in
-    let inner' : nat_le n.c 99 ≡ true = sym (at_most n.c 99) ∙ second.0 in
-    record {
-      are = n.are ∙ rw (inside.1, first.1, second.1) refl;
-      fell = λ le. (let there : nat_le n.a last ≡ true = rw inside.1 le in rw (n.are, inside.0, inner, inner', there) refl);
-      rose = λ gt. (let there : nat_le n.a last ≡ false = rw inside.1 gt in rw (n.are, inside.0, inner, inner', there) refl);
     }
 
 pub last_pushed : (before : List (List ℕ)) (piece : List ℕ) (n : Numbers) → numbers_of piece ≡ Some n → last_detector (before ++ piece ∷ []) ≡ n.0
