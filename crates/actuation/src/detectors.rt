@@ -41,7 +41,7 @@ fn holds_at(detectors: &[Detector; 64], frame: &Frame, place: u8) -> bool
     rears <= fronts && fronts <= MOST_FRONTS
 }
 
-/// Whether this is so of every detector, as it was before the frame.
+/// Whether with one more frame each detector's rears stay within its fronts, and these within their limit.
 pub fn holds(detectors: &[Detector; 64], frame: &Frame) -> bool
     requires size { length detectors.now ≡ 64 }
     requires within { (p : ℕ) → p < 64 → (at detectors.now p).rears ≤ (at detectors.now p).fronts }

@@ -46,7 +46,7 @@ fn events_from(counts: &Frame, place: u8) -> u64
 }
 
 impl Totals {
-    /// Those of detectors that have counted nothing.
+    /// The counts of detectors that have counted nothing.
     pub fn zero() -> Totals
         ensures { result ≡ replicate 64 (0, 0) }
     {

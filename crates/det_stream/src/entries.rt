@@ -40,7 +40,7 @@ fn parts(entry: &[u8]) -> Option<(&[u8], &[u8], &[u8])>
     }
 }
 
-// Whether the parts of an entry are such numbers.
+// Whether all three parts of an entry are decimal numbers of at most 9 digits.
 fn are_fields(d: &[u8], f: &[u8], r: &[u8]) -> bool
     ensures { result ≡ (is_some (field_number d.now) && is_some (field_number f.now) && is_some (field_number r.now)) }
 {
@@ -91,7 +91,7 @@ fn digits(text: &[u8]) -> Option<(u32, u32, u32)>
     Some((digit(text[0]), digit(text[2]), digit(text[4])))
 }
 
-// The same where the detector has two digits.
+// The numbers of the entry that a text begins with, where its detector has two digits, and its fronts and rears one each.
 fn more_digits(text: &[u8]) -> Option<(u32, u32, u32)>
     ensures begins { IfSome result (λ n. BeginsWith text.now 6 (n.0, n.1, n.2)) }
     ensures few { IfSome result (λ n. (n.0 ≤ 99) × (n.1 ≤ 9) × (n.2 ≤ 9)) }
@@ -109,7 +109,8 @@ fn more_digits(text: &[u8]) -> Option<(u32, u32, u32)>
     Some((detector, digit(text[3]), digit(text[5])))
 }
 
-// The numbers and the length of the entry that a text begins with, where it has one of these forms.
+// The numbers and the length of the entry that a text begins with, where its detector has one digit or two, and its fronts
+// and rears one each.
 fn short_entry(text: &[u8]) -> Option<((u32, u32, u32), usize)>
     ensures begins { IfSome result (λ p. BeginsWith text.now p.1 (p.0.0, p.0.1, p.0.2)) }
     ensures few { IfSome result (λ p. (p.0.1 ≤ 9) × (p.0.2 ≤ 9)) }

@@ -1,4 +1,4 @@
-// A signal group's name.
+// The name of a signal group or a stage.
 ghost use Rattle.std.specs.Prelude.{◌≡◌, ◌<◌, ◌≤◌, length};
 
 use std::marker::Model;
