@@ -31,7 +31,7 @@ pub fn strip<'a>(front: &[u8], bytes: &'a [u8]) -> Option<&'a [u8]>
 pub fn is_digit(b: u8) -> bool
     ensures { result ≡ is_digit b }
 {
-    48 <= b && b <= 57
+    b'0' <= b && b <= b'9'
 }
 
 // The number that the bytes are, where they are digits and it is at most `most`.
@@ -46,7 +46,7 @@ fn digits(bytes: &[u8], most: u64) -> Option<u64>
         if value > most as u128 {
             return None;
         }
-        value = 10 * value + (*b - 48) as u128;
+        value = 10 * value + (*b - b'0') as u128;
     }
     if value <= most as u128 {
         Some(value as u64)
@@ -109,7 +109,7 @@ pub fn number(bytes: &[u8], least: u32, most: u32) -> Option<u32>
 pub fn is_letter(b: u8) -> bool
     ensures { result ≡ is_letter b }
 {
-    (65 <= b && b <= 90) || (97 <= b && b <= 122) || b == 95
+    (b'A' <= b && b <= b'Z') || (b'a' <= b && b <= b'z') || b == b'_'
 }
 
 /// Whether all bytes are ASCII letters, digits or `_`.
@@ -139,7 +139,7 @@ pub fn is_name(bytes: &[u8]) -> bool
 pub fn lower(b: u8) -> u8
     ensures { result ≡ lower b }
 {
-    if 65 <= b && b <= 90 { b + 32 } else { b }
+    if b'A' <= b && b <= b'Z' { b + 32 } else { b }
 }
 
 /// Whether two names are the same without regard to ASCII case.
