@@ -1,5 +1,5 @@
 // The entries of a line.
-ghost use Rattle.std.specs.Prelude.{◌≡◌, ◌<◌, ◌≤◌, ◌-◌, length, Some, None, true, MatchOption, OnOk, IfOk, IfSome, is_some, ◌&&◌, ◌==◌, ◌+◌, drop, position};
+ghost use Rattle.std.specs.Prelude.{◌≡◌, ◌<◌, ◌≤◌, ◌-◌, length, Some, None, true, MatchOption, OnOk, IfOk, IfSome, is_some, ◌&&◌, ◌==◌, ◌+◌, ◌*◌, drop, position};
 ghost use Rattle.sig_types.specs.Text.{is_digit};
 ghost use Rattle.det_stream.specs.Totals.{HasAtMost, IsSum, RearsWithinFronts};
 ghost use Rattle.det_stream.specs.Entries.{BeginsWith, HasNumbers, HasParts, IsJudged, ends_at, entries_reason, entry_end, field_number, first_entry, frame_of, numbers_of, numbers_why};
@@ -230,7 +230,7 @@ fn next_entry(last: u32, text: &[u8]) -> Result<(Entry, usize), StreamWhy>
 /// Reads the entries of a line into a frame, whatever it had before, and adds them to the counts so far; whether no
 /// detector has more rears than fronts in these.
 pub fn read_entries(line: &[u8], totals: &mut Totals, frame: &mut Frame) -> Result<bool, StreamWhy>
-    requires totals { HasAtMost 59875101 totals.old }
+    requires totals { HasAtMost (99 * 604799) totals.old }
     requires within_fronts { RearsWithinFronts totals.old }
     ensures judged { IsJudged (entries_reason line.now) result }
     ensures frame { OnOk result (frame.new ≡ frame_of line.now) }

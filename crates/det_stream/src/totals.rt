@@ -1,5 +1,5 @@
 // The counts so far of all detectors.
-ghost use Rattle.std.specs.Prelude.{◌≡◌, ◌+◌, ◌<◌, ◌≤◌, true, length, replicate, slice_set, OnOk};
+ghost use Rattle.std.specs.Prelude.{◌≡◌, ◌+◌, ◌*◌, ◌<◌, ◌≤◌, true, length, replicate, slice_set, OnOk};
 ghost use Rattle.det_stream.specs.Entries.{IsJudged};
 ghost use Rattle.det_stream.specs.Stream.{ahead_reason};
 ghost use Rattle.det_stream.specs.Totals.{RearsWithinFronts, SilentWithinFronts, counts_at, least_ahead_in, with_counts};
@@ -57,7 +57,7 @@ impl Totals {
 /// there then.
 pub fn add_counts(totals: &mut Totals, place: u8, counts: (u32, u32), within: bool) -> bool
     requires place { place < 64 }
-    requires so_far { ((counts_at totals.old place).0 ≤ 59875101) × ((counts_at totals.old place).1 ≤ 59875101) }
+    requires so_far { ((counts_at totals.old place).0 ≤ 99 * 604799) × ((counts_at totals.old place).1 ≤ 99 * 604799) }
     requires few { (counts.0 ≤ 99) × (counts.1 ≤ 99) }
     ensures added { totals.new ≡ with_counts totals.old place counts }
     ensures size { length totals.old ≡ 64 }
