@@ -6,9 +6,7 @@ ghost use Rattle.actuation.specs.Detector.{at, IsSized};
 
 use crate::detector::{Detector, named, read};
 use crate::detectors::{advance_all, clear_fronts_at, clear_rears_at, holds, none};
-use sig_types::{DetNo, Frame, ReadingKind};
-
-const MOST_SECONDS: u32 = 604801;
+use sig_types::{DetNo, Frame, MOST_SECONDS, ReadingKind};
 
 /// The readings of detectors 1 to 64.
 #[derive(Drop)]

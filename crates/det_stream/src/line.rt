@@ -7,10 +7,7 @@ ghost use Rattle.det_stream.specs.Totals.{HasAtMost, IsSum, RearsWithinFronts};
 use crate::entries::read_entries;
 use crate::refusal::StreamWhy;
 use crate::totals::{Totals, judge_totals};
-use sig_types::Frame;
-
-/// The most lines of a detector file.
-pub const MOST_LINES: u32 = 604800;
+use sig_types::{Frame, MOST_LINES};
 
 /// The reason to refuse a line of more than 1,024 bytes that follows `second` lines.
 pub fn too_long(second: u32) -> StreamWhy

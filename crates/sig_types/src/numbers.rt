@@ -1,5 +1,11 @@
 // Numbers of groups, stages, detectors, interstages and seconds, and what is said by them: commands, timers and places.
 
+/// The most lines of a detector file: one for each second of a week.
+pub const MOST_LINES: u32 = 604_800;
+
+/// The most seconds of a run: a live one has a closing second after those of a week.
+pub const MOST_SECONDS: u32 = 604_801;
+
 /// A signal group, by its place (0 to 63) in rising order of group numbers.
 #[derive(Clone, Copy, Debug, PartialEq, Eq)]
 pub struct GroupNo(pub u8);
