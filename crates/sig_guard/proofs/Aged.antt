@@ -3,11 +3,11 @@ use Rattle.std.proofs.Common.{◌≡◌, ℕ, zero, suc, ◌-◌, ◌<◌, ◌�
 use Rattle.std.proofs.lemmas.Bool.{cases_eq, cases_lt, and_from}
 use Rattle.sig_types.specs.declared.aspect.Aspect.{Aspect}
 use Rattle.sig_types.specs.declared.aspect.Aspect.TheVariants.{Red, RedAmber, Green, Amber}
-use Rattle.sig_types.specs.Turns.{Picture, History, shown, trace, is_red, is_green, starts_at, turns_green_at, ends_at}
+use Rattle.sig_types.specs.Turns.{Picture, History, shown, trace, is_red, is_green, same_aspect, starts_at, turns_green_at, ends_at}
 use Rattle.sig_types.specs.Words.{last_below, run_to}
 use Rattle.sig_guard.specs.declared.ages.GroupAge.{GroupAge}
 use Rattle.sig_guard.specs.Safety.{Sequence, IsStep}
-use Rattle.sig_guard.specs.Ages.{HasAge, first_age, next_age, same_aspect}
+use Rattle.sig_guard.specs.Ages.{HasAge, first_age, next_age}
 use Rattle.sig_types.proofs.LastBelow.{last_below-at, last_below-some, last_below-agree, IsLast}
 use Rattle.sig_guard.proofs.Agree.{AgreeBelow, ends_at-agree}
 use Rattle.sig_guard.proofs.Pictures.{trace-append_old, trace-append_new}
