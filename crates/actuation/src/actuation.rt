@@ -4,7 +4,7 @@ ghost use Rattle.sig_types.specs.Counts.{Counts, Takes, fronts, rears};
 ghost use Rattle.sig_types.specs.Detectors.{Clear, ClearsUntil, is_detector, detector_reading};
 ghost use Rattle.actuation.specs.Detector.{at, IsSized};
 
-use crate::detector::{Detector, named, read};
+use crate::detector::{Detector, read};
 use crate::detectors::{advance_all, clear_fronts_at, clear_rears_at, holds, none};
 use sig_types::{DetNo, Frame, MOST_SECONDS, ReadingKind};
 
@@ -60,7 +60,7 @@ impl Actuation {
         ensures { (frames : List Counts) (clears : List Clear) → StandsFor self.now frames clears → 0 < length frames → ClearsUntil clears (length frames - 1) →
             result ≡ detector_reading frames clears kind d }
     {
-        match named(d) {
+        match DetNo::named(d) {
             None => None,
             Some(found) => Some(read(&self.detectors[found.0 as usize - 1], kind, self.seconds)),
         }

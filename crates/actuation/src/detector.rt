@@ -1,9 +1,9 @@
 // One detector.
-ghost use Rattle.std.specs.Prelude.{◌≡◌, ◌+◌, ◌<◌, ◌≤◌, IfSome, pos};
-ghost use Rattle.sig_types.specs.Detectors.{detector_of, detector_number, headway_of};
+ghost use Rattle.std.specs.Prelude.{◌≡◌, ◌+◌, ◌<◌, ◌≤◌, pos};
+ghost use Rattle.sig_types.specs.Detectors.{headway_of};
 ghost use Rattle.actuation.specs.Detector.{last_detection, advanced, occupied_at, detected_at, is_now, reading_of};
 
-use sig_types::{DetNo, ReadingKind};
+use sig_types::{ReadingKind, truth};
 
 /// What is kept of a detector: its fronts and rears so far, those at the last clears, the second since which it is occupied,
 /// and the last second with a detection, 0 where there was none. `since` tells where it is occupied, `last` where it isn't;
@@ -121,13 +121,7 @@ pub fn read(detector: &Detector, kind: ReadingKind, second: u32) -> i32
     ensures { result ≡ reading_of detector.now second kind }
 {
     match kind {
-        ReadingKind::Detection => {
-            if is_now(detected(detector, second), second) {
-                1
-            } else {
-                0
-            }
-        }
+        ReadingKind::Detection => truth(is_now(detected(detector, second), second)),
         ReadingKind::Occupancy => signed(occupied(detector, second)),
         ReadingKind::Headway => signed(headway(detected(detector, second), second)),
         ReadingKind::FrontEnds => {
@@ -144,17 +138,5 @@ pub fn read(detector: &Detector, kind: ReadingKind, second: u32) -> i32
         | ReadingKind::StageDuration
         | ReadingKind::InterstageActive
         | ReadingKind::AnyInterstage => 0,
-    }
-}
-
-/// The detector that a number names.
-pub fn named(number: i32) -> Option<DetNo>
-    ensures number { detector_number result ≡ detector_of number }
-    ensures range { IfSome result (λ d. (1 ≤ d.0) × (d.0 ≤ 64)) }
-{
-    if 1 <= number && number <= 64 {
-        Some(DetNo(number as u8))
-    } else {
-        None
     }
 }

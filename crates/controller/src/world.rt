@@ -1,5 +1,5 @@
 // The world of a pass.
-ghost use Rattle.std.specs.Prelude.{◌≡◌, ◌-◌, ◌+◌, ◌<◌, ◌≤◌, ◌^◌, List, Option, Some, None, IfSome};
+ghost use Rattle.std.specs.Prelude.{◌≡◌, ◌-◌, ◌<◌, ◌^◌, List, Option, Some, None, IfSome};
 ghost use Rattle.controller.specs.Commanded.{IsCommand};
 ghost use Rattle.sig_types.specs.Number.{truth};
 ghost use Rattle.std.specs.Prelude.{pos, if◌then◌else◌};
@@ -7,12 +7,11 @@ ghost use Rattle.controller.specs.World.{is_between, is_inter, command_in};
 ghost use Rattle.controller.specs.Standing.{MeansWorld};
 ghost use Rattle.sig_guard.specs.Stands.{rules};
 ghost use Rattle.pua_model.specs.Plan.{groups_in};
-ghost use Rattle.sig_types.specs.Detectors.{detector_of, detector_number};
 
 use actuation::Actuation;
 use pua_model::Plan;
 use sig_guard::Guard;
-use sig_types::{Aspect, Command, CommandKind, DetNo, GroupNo, ReadingKind, StageNo, StagePlace};
+use sig_types::{Aspect, Command, CommandKind, DetNo, GroupNo, ReadingKind, StageNo, StagePlace, truth};
 use stage_machine::StageState;
 use vap_vm::World;
 
@@ -26,12 +25,6 @@ pub struct SecondWorld<'a> {
     pub actuation: &'a Actuation,
     ghost fits: { second < 2 ^ 31 },
     ghost groups: { (rules guard.now).count ≡ groups_in plan.now },
-}
-
-fn truth(b: bool) -> i32
-    ensures { result ≡ truth b }
-{
-    if b { 1 } else { 0 }
 }
 
 fn is_between(place: StagePlace, a: StageNo, b: StageNo) -> bool
@@ -185,26 +178,15 @@ impl SecondWorld<'_> {
                 None => None,
                 Some(group) => Some(Command::SgRed(group)),
             },
-            CommandKind::ClearFronts => match detector(a) {
+            CommandKind::ClearFronts => match DetNo::named(a) {
                 None => None,
                 Some(detector) => Some(Command::ClearFronts(detector)),
             },
-            CommandKind::ClearRears => match detector(a) {
+            CommandKind::ClearRears => match DetNo::named(a) {
                 None => None,
                 Some(detector) => Some(Command::ClearRears(detector)),
             },
         }
-    }
-}
-
-fn detector(number: i32) -> Option<DetNo>
-    ensures found { detector_number result ≡ detector_of number }
-    ensures range { IfSome result (λ d. (1 ≤ d.0) × (d.0 ≤ 64)) }
-{
-    if 1 <= number && number <= 64 {
-        Some(DetNo(number as u8))
-    } else {
-        None
     }
 }
 

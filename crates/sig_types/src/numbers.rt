@@ -1,4 +1,7 @@
 // Numbers of groups, stages, detectors, interstages and seconds, and what is said by them: commands, timers and places.
+ghost use Rattle.std.specs.Prelude.{◌≡◌, ◌≤◌, IfSome};
+ghost use Rattle.sig_types.specs.Detectors.{detector_of, detector_number};
+ghost use Rattle.sig_types.specs.Number.{truth};
 
 /// The most lines of a detector file: one for each second of a week.
 pub const MOST_LINES: u32 = 604_800;
@@ -17,6 +20,20 @@ pub struct StageNo(pub u8);
 /// A detector, 1 to 64.
 #[derive(Clone, Copy, Debug, PartialEq, Eq)]
 pub struct DetNo(pub u8);
+
+impl DetNo {
+    /// The detector that a number names.
+    pub fn named(number: i32) -> Option<DetNo>
+        ensures number { detector_number result ≡ detector_of number }
+        ensures range { IfSome result (λ d. (1 ≤ d.0) × (d.0 ≤ 64)) }
+    {
+        if 1 <= number && number <= 64 {
+            Some(DetNo(number as u8))
+        } else {
+            None
+        }
+    }
+}
 
 /// An interstage, 0 to 255, by its place in the plan.
 #[derive(Clone, Copy, Debug, PartialEq, Eq)]
@@ -59,4 +76,11 @@ pub enum StagePlace {
     Stage(StageNo),
     /// The interstage between these stages runs, in its second t, from 0.
     Inter { from: StageNo, to: StageNo, t: u8 },
+}
+
+/// 1 for true and 0 for false.
+pub fn truth(value: bool) -> i32
+    ensures { result ≡ truth value }
+{
+    if value { 1 } else { 0 }
 }
