@@ -2,13 +2,10 @@
 use crate::codes::compiled;
 use junction_run::Status;
 use run_cases::cases::{Case, EXEC, JUMP_RUN, TIMER_RUN, answer, is_log, is_log_front};
-use run_cases::watched::{Side, failing};
+use run_cases::watched::{Side, failing, failing_calls};
 use std::alloc::Global;
 use std::test::Fail;
 use test_texts::programs::JUMP;
-
-// More calls than a run makes.
-const MOST: u64 = 2000;
 
 // Whether files were asked for in this order up to a call that failed, and for nothing after it: plan, times, intergreens, the
 // first file of the words, detectors, each by the first letter of its name.
@@ -56,16 +53,6 @@ fn is_done_before(alloc: Global, case: &Case<'_>, side: Side, call: u64) -> Resu
     }
 }
 
-// How many calls fail one after the other until a run is done before the next one.
-fn failing_calls(alloc: Global, case: &Case<'_>, side: Side) -> Result<u64, Fail> {
-    for call in 0..MOST {
-        if is_done_before(alloc, case, side, call)? {
-            return Ok(call);
-        }
-    }
-    Err(Fail::new("never ends"))
-}
-
 #[test]
 fn each_call_fails_in_turn(rt: HostRuntime) -> Result<(), Fail> {
     let alloc = rt.alloc();
@@ -76,8 +63,8 @@ fn each_call_fails_in_turn(rt: HostRuntime) -> Result<(), Fail> {
         ..JUMP_RUN
     };
     for case in [TIMER_RUN, exec] {
-        let reads = failing_calls(alloc, &case, Side::Read)?;
-        let writes = failing_calls(alloc, &case, Side::Write)?;
+        let reads = failing_calls(|call| is_done_before(alloc, &case, Side::Read, call))?;
+        let writes = failing_calls(|call| is_done_before(alloc, &case, Side::Write, call))?;
         assert!(rt; 100 < reads && 10 < writes, "{reads} {writes}");
     }
     Ok(())

@@ -7,7 +7,7 @@ use run_cases::cases::{
     CUT_RUN, Case, DECIMAL_RUN, DONE, FOUR_ARMS_RUN, ONE_WAY_RUN, REARS_AHEAD_RUN, RUN, files,
     is_log, texts,
 };
-use run_cases::watched::{Side, failing};
+use run_cases::watched::{Side, failing, failing_calls};
 use sig_io::{Files, FreeGate, Gate, MemFiles, MemSink, Sink};
 use std::alloc::Global;
 use std::test::Fail;
@@ -142,9 +142,6 @@ fn words_are_judged_and_missing_files_told(rt: HostRuntime) -> Result<(), Fail> 
     Ok(())
 }
 
-// More calls than a live run of one line makes.
-const MOST: u64 = 500;
-
 // Whether a live run is done before its call of that number on this side, which fails; an error where it answers otherwise than
 // it must. After a read that failed nothing is asked for, and nothing is written. After a write that failed nothing is written,
 // and no event is counted twice.
@@ -178,20 +175,10 @@ fn is_done_before<R: Threads + Sync>(
     }
 }
 
-// How many calls fail one after the other until a live run is done before the next one.
-fn failing_calls<R: Threads + Sync>(rt: &R, alloc: Global, side: Side) -> Result<u64, Fail> {
-    for call in 0..MOST {
-        if is_done_before(rt, alloc, side, call)? {
-            return Ok(call);
-        }
-    }
-    Err(Fail::new("never ends"))
-}
-
 #[test]
 fn each_call_of_a_live_run_fails_in_turn(rt: HostRuntime) -> Result<(), Fail> {
-    let reads = failing_calls(&rt, rt.alloc(), Side::Read)?;
-    let writes = failing_calls(&rt, rt.alloc(), Side::Write)?;
+    let reads = failing_calls(|call| is_done_before(&rt, rt.alloc(), Side::Read, call))?;
+    let writes = failing_calls(|call| is_done_before(&rt, rt.alloc(), Side::Write, call))?;
     assert!(rt; 100 < reads && 5 < writes, "{reads} {writes}");
     Ok(())
 }

@@ -1,5 +1,5 @@
-// Files and sinks of a test's own, which watch how they are called.
-ghost use Rattle.std.specs.Prelude.{◌≡◌, [], false, None, IfOk};
+// Files and sinks of a test's own, which watch how they are called, and runs whose calls fail in turn.
+ghost use Rattle.std.specs.Prelude.{◌≡◌, ◌<◌, ℕ, [], false, true, None, Ok, IfOk};
 
 use crate::cases::{Case, files};
 use sig_io::{Failed, Files, MemFiles, MemSink, Sink};
@@ -96,4 +96,22 @@ pub fn failing(
         late: 0,
     };
     Ok((files, out))
+}
+
+// More calls than a run of a test makes.
+const MOST: u64 = 2000;
+
+/// How many calls fail one after the other until a run is done before the next one: whether it is, is told of the number of the
+/// call that fails.
+pub fn failing_calls<F: Fn(u64) -> Result<bool, Fail>>(is_done_before: F) -> Result<u64, Fail>
+    requires { F.IsAlwaysCallable is_done_before }
+    ensures done { IfOk result (λ calls. F.post is_done_before calls (Ok true)) }
+    ensures failed { IfOk result (λ calls. (call : ℕ) → call < calls → F.post is_done_before call (Ok false)) }
+{
+    for call in 0..MOST {
+        if is_done_before(call)? {
+            return Ok(call);
+        }
+    }
+    Err(Fail::new("never ends"))
 }
