@@ -1,7 +1,9 @@
 // Runs over files in memory, and what they must answer.
 ghost use Rattle.std.specs.Prelude.{◌≡◌, ◌≢◌, [], IfOk, IsFalse, IsTrue, MatchOption, Some, map, string_bytes};
+ghost use Rattle.std.specs.List.{slice_get};
 ghost use Rattle.std.specs.Option.{option_map};
 ghost use Rattle.sig_types.specs.Text.{strip};
+ghost use Rattle.run_cases.specs.Files.{named, site_files, with_first};
 ghost use Rattle.run_cases.specs.Logs.{header, is_front};
 
 use junction_run::{Status, junction};
@@ -137,7 +139,9 @@ pub const TIMER_RUN: Case<'static> = Case {
     ..DONE
 };
 
-fn file(alloc: Global, name: &str, bytes: &[u8]) -> Result<(String, Vec<u8>), AllocError> {
+fn file(alloc: Global, name: &str, bytes: &[u8]) -> Result<(String, Vec<u8>), AllocError>
+    ensures { IfOk result (λ file. named file ≡ (name.now, bytes.now)) }
+{
     Ok((
         String::from_str(alloc, name)?,
         Vec::from_slice(alloc, bytes)?,
@@ -156,7 +160,11 @@ pub fn texts(alloc: Global, words: &[&str]) -> Result<Vec<String>, AllocError>
 }
 
 /// The files of a case; the second word names the first one.
-pub fn files(alloc: Global, case: &Case<'_>) -> Result<Vec<(String, Vec<u8>)>, AllocError> {
+pub fn files(alloc: Global, case: &Case<'_>) -> Result<Vec<(String, Vec<u8>)>, AllocError>
+    ensures { IfOk result (λ files. map named files.items ≡
+        with_first (option_map (λ name. name.now) (slice_get case.now.words.now 1)) case.now.program.now
+        (site_files case.now.plan.now case.now.times.now case.now.intergreens.now case.now.detectors.now)) }
+{
     let mut files = Vec::new(alloc);
     if let Some(first) = case.words.get(1) {
         files.push(file(alloc, first, case.program)?)?;
