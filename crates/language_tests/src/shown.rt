@@ -163,7 +163,7 @@ fn put_program(out: &mut String, program: &Program) -> Result<(), Fail> {
 }
 
 /// The declarations, the subroutines and the body of a program.
-pub fn written(alloc: Global, text: &[u8]) -> Result<String, Fail> {
+pub(crate) fn written(alloc: Global, text: &[u8]) -> Result<String, Fail> {
     if text.len() >= 1_000_000 {
         return Err(Fail::new("too long"));
     }
