@@ -46,7 +46,7 @@ fn const_line(consts: &IndexMap<Name, First>, name: &Name) -> Option<u32>
     Some(first.line)
 }
 
-// Keeps the first of what was found and the clash of an array with a constant of its name.
+// `first` becomes the earlier of itself and the clash of an array with a constant of its name, if there is one.
 fn judge_clash(consts: &IndexMap<Name, First>, name: &Name, line: u32, first: &mut Option<Finding>)
     ensures { first.new ≡ first_of_all first.old (wrong.clash_findings (line_in consts.now.entries name.now) line) }
 {
@@ -92,7 +92,7 @@ fn judge_arrays(
     Ok(())
 }
 
-// Keeps the first of what was found and what is wrong with a body in which the subroutines `above` may be called.
+// `first` becomes the earlier of itself and the first finding of a body in which the subroutines `above` may be called.
 #[tactic(auto, using(crate::proofs::Flat::findings_on))]
 fn judge_body(
     alloc: Global,
@@ -121,8 +121,8 @@ fn is_taken(known: &Known, name: &Name) -> bool
     has_const(&known.consts, name) || has(&known.arrays, name)
 }
 
-// Keeps the first of what was found and what is wrong with subroutines, whose names are put among those above as they
-// come.
+// `first` becomes the earlier of itself and the first finding of subroutines. Each may call those in `above`, and is then
+// added to `above` itself.
 #[tactic(auto, using(crate::proofs::Flat::findings_on))]
 fn judge_subs(
     alloc: Global,

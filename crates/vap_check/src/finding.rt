@@ -43,7 +43,7 @@ fn is_sooner(a: Finding, b: Finding) -> bool
     a.line < b.line || (a.line == b.line && order(a.why) < order(b.why))
 }
 
-/// Keeps the earlier of the finding so far and this one.
+/// `first` becomes the earlier of itself and a finding for `why` in this line.
 pub fn note_finding(first: &mut Option<Finding>, line: u32, why: CheckWhy)
     ensures { first.new ≡ sooner first.old record { line = line; why = why } }
 {
@@ -58,7 +58,7 @@ pub fn note_finding(first: &mut Option<Finding>, line: u32, why: CheckWhy)
     }
 }
 
-/// Keeps the earlier of the finding so far and this one, where something is wrong at all.
+/// `first` becomes the earlier of itself and a finding for `why` in this line, if `is_wrong`.
 pub fn note_finding_if(first: &mut Option<Finding>, is_wrong: bool, line: u32, why: CheckWhy)
     ensures { first.new ≡ first_of_all first.old (when is_wrong line why) }
 {

@@ -13,7 +13,7 @@ use sig_types::Memory;
 use std::alloc::Global;
 use vap_ast::{Item, Name, Stmt};
 
-/// Notes a name, which is wrong for this reason where it stands before.
+/// Adds a name to `before`. If the name is there already, `first` becomes the earlier of itself and a finding for `why`.
 pub fn declare(
     alloc: Global,
     before: &mut IndexSet<Name>,
@@ -29,7 +29,7 @@ pub fn declare(
     note(alloc, before, name)
 }
 
-// Notes the labels of an item, and keeps the first of what was found and the labels that stand again.
+// Adds the labels of an item to `names`; `first` becomes the earlier of itself and the first label that is there already.
 #[cycle(labels)]
 #[tactic(auto, using(crate::proofs::Labelling::labels_on, crate::proofs::Labelling::names_of_both))]
 fn note_item_labels(
@@ -74,7 +74,7 @@ fn note_stmt_labels(
     }
 }
 
-/// Notes the labels of items, and keeps the first of what was found and the labels that stand again.
+/// Adds the labels of items to `names`; `first` becomes the earlier of itself and the first label that is there already.
 #[cycle(labels)]
 #[tactic(auto, using(crate::proofs::Labelling::labels_on, crate::proofs::Labelling::names_of_both))]
 pub fn note_items_labels(

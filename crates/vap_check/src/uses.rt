@@ -51,7 +51,7 @@ fn is_no_timer(kind: Kind) -> bool
     }
 }
 
-// Keeps the first of what was found and what is wrong with an assignment to a name of this kind.
+// `first` becomes the earlier of itself and the finding against an assignment to a name of this kind, if there is one.
 fn judge_target(kind: Kind, line: u32, first: &mut Option<Finding>)
     ensures { first.new ≡ first_of_all first.old (wrong.assign_findings kind line) }
 {
@@ -70,7 +70,7 @@ fn is_other_count(args: &[Expr], arity: usize) -> bool
     args.len() != arity
 }
 
-/// Keeps the first of what was found and what is wrong with an expression in a statement of this line.
+/// `first` becomes the earlier of itself and the first finding of an expression in a statement of this line.
 #[cycle(expressions)]
 #[tactic(auto, using(crate::proofs::Flat::findings_on))]
 pub fn judge_expr(known: &Known, line: u32, e: &Expr, first: &mut Option<Finding>)
@@ -110,7 +110,7 @@ pub fn judge_expr(known: &Known, line: u32, e: &Expr, first: &mut Option<Finding
     }
 }
 
-/// Keeps the first of what was found and what is wrong with expressions one after another, in a statement of this line.
+/// `first` becomes the earlier of itself and the first finding of expressions in a statement of this line.
 #[cycle(expressions)]
 #[tactic(auto, using(crate::proofs::Flat::findings_on))]
 pub fn judge_exprs(known: &Known, line: u32, args: &[Expr], first: &mut Option<Finding>)
@@ -121,7 +121,7 @@ pub fn judge_exprs(known: &Known, line: u32, args: &[Expr], first: &mut Option<F
     }
 }
 
-/// Keeps the first of what was found and what is wrong with an item.
+/// `first` becomes the earlier of itself and the first finding of an item.
 #[cycle(statements)]
 #[tactic(auto, using(crate::proofs::Flat::findings_on))]
 pub fn judge_item(scope: &Scope<'_>, item: &Item, first: &mut Option<Finding>)
@@ -141,7 +141,7 @@ pub fn judge_item(scope: &Scope<'_>, item: &Item, first: &mut Option<Finding>)
     }
 }
 
-/// Keeps the first of what was found and what is wrong with a statement of this line.
+/// `first` becomes the earlier of itself and the first finding of a statement of this line.
 #[cycle(statements)]
 #[tactic(auto, using(crate::proofs::Flat::findings_on))]
 pub fn judge_stmt(scope: &Scope<'_>, line: u32, what: &Stmt, first: &mut Option<Finding>)
@@ -203,7 +203,7 @@ pub fn judge_stmt(scope: &Scope<'_>, line: u32, what: &Stmt, first: &mut Option<
     }
 }
 
-/// Keeps the first of what was found and what is wrong with items one after another.
+/// `first` becomes the earlier of itself and the first finding of items.
 #[cycle(statements)]
 #[tactic(auto, using(crate::proofs::Flat::findings_on))]
 pub fn judge_items(scope: &Scope<'_>, items: &[Item], first: &mut Option<Finding>)
