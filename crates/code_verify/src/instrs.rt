@@ -109,21 +109,21 @@ pub fn stands_clear(i: Instr) -> bool
     matches!(i, Instr::Tick(_) | Instr::Call(_) | Instr::Ret)
 }
 
-/// Whether it spends a unit.
+/// Whether an instruction spends a unit.
 pub fn is_tick(i: Instr) -> bool
     ensures { result ≡ is_tick_of i }
 {
     matches!(i, Instr::Tick(_))
 }
 
-/// Whether it calls a routine.
+/// Whether an instruction calls a routine.
 pub fn is_call(i: Instr) -> bool
     ensures { result ≡ is_call_of i }
 {
     matches!(i, Instr::Call(_))
 }
 
-/// Whether it ends a routine.
+/// Whether an instruction ends a routine.
 pub fn is_ret(i: Instr) -> bool
     ensures { result ≡ is_ret_of i }
 {

@@ -116,7 +116,7 @@ fn sign_kind(sign: Sign) -> Kind
     }
 }
 
-// Those of readings; any other word is a name.
+// The kind of a word: that of a reading, or else `Name`.
 #[tactic(auto, unfolding(crate::specs::Kinds::reading_word))]
 fn reading_word(word: &[u8]) -> Kind
     ensures { result ≡ spec.reading_word word.now }
@@ -144,7 +144,7 @@ fn reading_word(word: &[u8]) -> Kind
     }
 }
 
-// Those of commands; any other word is one of the others.
+// The kind of a word: that of a command, or else what `reading_word` says.
 #[tactic(auto, unfolding(crate::specs::Kinds::command_word))]
 fn command_word(word: &[u8]) -> Kind
     ensures { result ≡ spec.command_word word.now }
@@ -172,7 +172,7 @@ fn command_word(word: &[u8]) -> Kind
     }
 }
 
-// Those of statements and operators; any other word is one of the others.
+// The kind of a word: that of a statement or an operator, or else what `command_word` says.
 #[tactic(auto, unfolding(crate::specs::Kinds::statement_word))]
 fn statement_word(word: &[u8]) -> Kind
     ensures { result ≡ spec.statement_word word.now }
@@ -200,7 +200,7 @@ fn statement_word(word: &[u8]) -> Kind
     }
 }
 
-// The reserved words of declarations and branches; any other word is one of the others.
+// The kind of a word: that of a declaration or a branch, or else what `statement_word` says.
 #[tactic(auto, unfolding(crate::specs::Kinds::structure_word))]
 fn structure_word(word: &[u8]) -> Kind
     ensures { result ≡ spec.structure_word word.now }
