@@ -1,9 +1,9 @@
 -- What the least jump to a place brings there.
 use Rattle.std.proofs.Common.{◌≡◌, ℕ, suc, ◌+◌, ◌-◌, ◌<◌, ◌≤◌, List, [], ◌∷◌, ◌++◌, length, get_or, true, false, Option, Some, None, refl, sym, ap, ◌∙◌, arith}
-use Rattle.std.specs.Prelude.{if◌then◌else◌, eqb, unwrap_or}
+use Rattle.std.specs.Prelude.{if◌then◌else◌, unwrap_or}
 use Rattle.vap_code.specs.declared.Instr.{Instr}
-use Rattle.vap_code.specs.declared.Instr.TheVariants.{Push, Jump, JumpZero}
-use Rattle.vap_code.specs.Valid.{jumped_height, jumps_to, leaves, pushes, target, begins, goes_on, instr_at, height_after}
+use Rattle.vap_code.specs.declared.Instr.TheVariants.{Push}
+use Rattle.vap_code.specs.Valid.{jumped_height, jumps_to, leaves, pushes, begins, goes_on, instr_at, height_after}
 use Rattle.std.specs.Option.{option_or}
 use Rattle.code_verify.specs.Tables.{first_jump, brings}
 
@@ -59,17 +59,6 @@ jumped_low_from (i ∷ is) (h ∷ hs) p o low =
 
 pub jumped_low : (is : List Instr) (hs : List ℕ) (p : ℕ) → ((k : ℕ) → k < length hs → get_or hs k 0 ≤ k) → jumped_height is hs p ≤ length hs
 jumped_low is hs p low = omega (arith, jumped_low_from is hs p 0 (λ k lt. omega (arith, low k lt)))
-
--- a jump to a place, by its target
-pub brings_target : (i : Instr) (h p t : ℕ) → target i ≡ Some t → brings i h p ≡ (if eqb t p then Some (leaves h i) else None)
-brings_target (Jump t) h p t' e = ap (λ o. if eqb (or_zero o) p then Some (leaves h (Jump t)) else None) e
-brings_target (JumpZero t) h p t' e = ap (λ o. if eqb (or_zero o) p then Some (leaves h (JumpZero t)) else None) e
-brings_target _ h p t' e = cc
-
-pub brings_none : (i : Instr) (h p : ℕ) → target i ≡ None → brings i h p ≡ None
-brings_none (Jump t) h p e = cc
-brings_none (JumpZero t) h p e = cc
-brings_none _ h p e = refl
 
 pub jumped_unwrap : (is : List Instr) (hs : List ℕ) (p : ℕ) → unwrap_or (first_jump is hs p) 0 ≡ jumped_height is hs p
 jumped_unwrap is hs p = same (first_jump is hs p) ∙ jumped_is is hs p

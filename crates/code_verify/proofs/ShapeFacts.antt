@@ -1,12 +1,12 @@
 -- The starts of routines, and sums over a part of a list.
-use Rattle.std.proofs.Common.{◌≡◌, ℕ, zero, suc, ◌+◌, ◌-◌, ◌<◌, ◌≤◌, List, [], ◌∷◌, length, get_or, take, drop, map, true, refl, ap, arith, length-drop}
+use Rattle.std.proofs.Common.{◌≡◌, ℕ, ◌+◌, ◌-◌, ◌<◌, ◌≤◌, List, [], ◌∷◌, length, get_or, take, drop, map, true, refl, ap, arith, length-drop}
 use Rattle.std.specs.Prelude.{sum}
 use Rattle.std.specs.List.{All}
 use Rattle.std.proofs.lemmas.List.Elements.{All-nil, All-cons, All-head, All-tail}
 use Rattle.std.proofs.lemmas.List.Sums.{sum-map, sum_by_more_le}
 use Rattle.std.proofs.Math.ListN.{length-map}
 use Rattle.std.specs.Prelude.{ℤ}
-use Rattle.vap_code.specs.Valid.{rise, begins}
+use Rattle.vap_code.specs.Valid.{rise}
 use Rattle.code_verify.specs.Shape.{ArraysFit}
 
 rise_short : (xs : List ℕ) → length xs ≤ 1 → rise xs ≡ true
@@ -19,11 +19,6 @@ rise_end xs k h = rise_short (drop (k - 1) xs) (omega (arith, length-drop (k - 1
 
 pub sum_with : {A : Type 0} (f : A → ℕ) (xs : List A) (i : ℕ) (d : A) → i < length xs → sum (map f (take i xs)) + f (get_or xs i d) ≤ sum (map f xs)
 sum_with f xs i d h = omega (arith, sum-map f (take i xs), sum-map f xs, sum_by_more_le f xs i d h)
-
-pub begins_first : (starts : List ℕ) → get_or starts 0 1 ≡ 0 → begins starts 0 ≡ true
-begins_first [] e = absurd (omega (arith, e))
-begins_first (zero ∷ ps) e = refl
-begins_first (suc p ∷ ps) e = absurd (omega (arith, e))
 
 -- what holds of each image
 pub images_all : {A B : Type 0} (P : B → Type 0) (f : A → B) (xs : List A) → All (λ a. P (f a)) xs → All P (map f xs)

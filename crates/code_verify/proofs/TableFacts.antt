@@ -74,9 +74,6 @@ pub length-from_last : (head : ℕ → List ℕ → ℕ) (n : ℕ) → length (f
 length-from_last head zero = refl
 length-from_last head (suc n) = omega (arith, length-from_last head n)
 
-pub all_done : (table : List ℕ) (all n : ℕ) → n ≡ all → drop (all - n) table ≡ table
-all_done table all n e = let z : all - n ≡ 0 = omega arith in ap (λ k. drop k table) z
-
 module _ (number : Number) (instrs : List Instr) (starts : List ℕ) where
   pub from_last_more : (table : List ℕ) (n p v : ℕ) → p ≡ length instrs - 1 - n → n < length instrs → length table ≡ length instrs → drop (length instrs - n) table ≡ from_last (number_before number instrs starts) n → v ≡ number_of number (instr_at instrs p) (greatest instrs starts p (later_at instrs p (drop (p + 1) table))) → drop (length instrs - (n + 1)) (set table p v) ≡ from_last (number_before number instrs starts) (n + 1)
   from_last_more table n p v at lt long is e =
