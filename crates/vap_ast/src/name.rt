@@ -1,6 +1,5 @@
 // Names of a program, and what they are.
 ghost use Rattle.std.specs.Prelude.{◌≡◌, IfOk};
-ghost use Rattle.std.specs.Str.{bytes_eq};
 ghost use Rattle.vap_ast.specs.Name.{lowered, IsWord};
 
 use sig_types::Memory;
@@ -53,13 +52,6 @@ impl Name {
         ensures bytes { result.now ≡ self.now }
     {
         self.bytes.as_slice()
-    }
-
-    /// Whether two names are the same.
-    pub fn same(&self, other: &Name) -> bool
-        ensures { result ≡ bytes_eq self.now other.now }
-    {
-        self.bytes() == other.bytes()
     }
 }
 
