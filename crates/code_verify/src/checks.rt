@@ -108,7 +108,28 @@ fn slot_fits(code: &Code, instr: Instr) -> bool
         Instr::Load(x) | Instr::Store(x) => x < code.vars,
         Instr::Cell(a) | Instr::SetCell(a) => (a as usize) < code.arrays.len(),
         Instr::Timer(t) | Instr::Start(t) | Instr::Stop(t) | Instr::Reset(t) => t < code.timers,
-        _ => true,
+        Instr::Tick(_)
+        | Instr::Push(_)
+        | Instr::Neg
+        | Instr::Not
+        | Instr::Add
+        | Instr::Sub
+        | Instr::Mul
+        | Instr::Div
+        | Instr::Eq
+        | Instr::Ne
+        | Instr::Lt
+        | Instr::Le
+        | Instr::Gt
+        | Instr::Ge
+        | Instr::And
+        | Instr::Or
+        | Instr::Read(_)
+        | Instr::Do(_)
+        | Instr::Jump(_)
+        | Instr::JumpZero(_)
+        | Instr::Call(_)
+        | Instr::Ret => true,
     }
 }
 
@@ -118,7 +139,35 @@ fn call_fits(starts: &[u16], p: usize, instr: Instr) -> bool
 {
     match instr {
         Instr::Call(r) => (r as usize) < routine_of(starts, p),
-        _ => true,
+        Instr::Tick(_)
+        | Instr::Push(_)
+        | Instr::Load(_)
+        | Instr::Store(_)
+        | Instr::Cell(_)
+        | Instr::SetCell(_)
+        | Instr::Timer(_)
+        | Instr::Neg
+        | Instr::Not
+        | Instr::Add
+        | Instr::Sub
+        | Instr::Mul
+        | Instr::Div
+        | Instr::Eq
+        | Instr::Ne
+        | Instr::Lt
+        | Instr::Le
+        | Instr::Gt
+        | Instr::Ge
+        | Instr::And
+        | Instr::Or
+        | Instr::Read(_)
+        | Instr::Do(_)
+        | Instr::Start(_)
+        | Instr::Stop(_)
+        | Instr::Reset(_)
+        | Instr::Jump(_)
+        | Instr::JumpZero(_)
+        | Instr::Ret => true,
     }
 }
 

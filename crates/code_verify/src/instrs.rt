@@ -91,7 +91,34 @@ pub fn target(i: Instr) -> Option<usize>
 {
     match i {
         Instr::Jump(place) | Instr::JumpZero(place) => Some(place as usize),
-        _ => None,
+        Instr::Tick(_)
+        | Instr::Push(_)
+        | Instr::Load(_)
+        | Instr::Store(_)
+        | Instr::Cell(_)
+        | Instr::SetCell(_)
+        | Instr::Timer(_)
+        | Instr::Neg
+        | Instr::Not
+        | Instr::Add
+        | Instr::Sub
+        | Instr::Mul
+        | Instr::Div
+        | Instr::Eq
+        | Instr::Ne
+        | Instr::Lt
+        | Instr::Le
+        | Instr::Gt
+        | Instr::Ge
+        | Instr::And
+        | Instr::Or
+        | Instr::Read(_)
+        | Instr::Do(_)
+        | Instr::Start(_)
+        | Instr::Stop(_)
+        | Instr::Reset(_)
+        | Instr::Call(_)
+        | Instr::Ret => None,
     }
 }
 

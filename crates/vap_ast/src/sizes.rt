@@ -80,7 +80,13 @@ pub fn stmt_size(what: &Stmt) -> usize
             let branches = add_capped(items_size(&yes.0), items_size(&no.0));
             add_capped(add_capped(expr_size(test), 3), branches)
         }
-        other => own_size(other),
+        Stmt::Assign { .. }
+        | Stmt::Cell { .. }
+        | Stmt::Goto { .. }
+        | Stmt::Gosub { .. }
+        | Stmt::Do { .. }
+        | Stmt::Timer { .. }
+        | Stmt::Trace => own_size(what),
     }
 }
 
