@@ -8,6 +8,25 @@ ghost use Rattle.vap_code.specs.Valid.{HasShape, rise as rise_of, line_fits as l
 
 use vap_code::{Code, Instr};
 
+const MOST_INSTRS: usize = 65_535;
+
+const MOST_ROUTINES: usize = 65;
+
+const MOST_VARIABLES: u16 = 256;
+
+const MOST_TIMERS: u16 = 64;
+
+const MOST_ARRAYS: usize = 32;
+
+// The cells of one array.
+const MOST_ARRAY_CELLS: usize = 1024;
+
+// The cells of all arrays together.
+const MOST_CELLS: usize = 4096;
+
+// The last line that a program can have.
+const LAST_LINE: u32 = 1_048_577;
+
 /// Whether all counts are within their limits, the starts begin with 0, rise and lie in the code, and each tick has a line
 /// that a program can have, 1 to 1,048,577.
 pub fn has_shape(code: &Code) -> bool
@@ -22,13 +41,16 @@ pub fn has_shape(code: &Code) -> bool
 fn counts_fit(code: &Code) -> bool
     ensures { IsTrue result ↔ CountsFit (code_in code.now) }
 {
-    code.instrs.len() <= 65_535 && code.starts.len() <= 65 && code.vars <= 256 && code.timers <= 64
+    code.instrs.len() <= MOST_INSTRS
+        && code.starts.len() <= MOST_ROUTINES
+        && code.vars <= MOST_VARIABLES
+        && code.timers <= MOST_TIMERS
 }
 
 fn arrays_fit(arrays: &[Vec<i32>]) -> bool
     ensures { IsTrue result ↔ ArraysFit (map (λ a. a.items) arrays.now) }
 {
-    arrays.len() <= 32 && cells_fit(arrays) && all_cells_fit(arrays)
+    arrays.len() <= MOST_ARRAYS && cells_fit(arrays) && all_cells_fit(arrays)
 }
 
 // Whether each array has 1 to 1,024 cells.
@@ -36,7 +58,7 @@ fn cells_fit(arrays: &[Vec<i32>]) -> bool
     ensures { IsTrue result ↔ All (λ a. (1 ≤ length a.items) × (length a.items ≤ 1024)) arrays.now }
 {
     for array in arrays {
-        if array.len() < 1 || array.len() > 1024 {
+        if array.len() < 1 || array.len() > MOST_ARRAY_CELLS {
             return false;
         }
     }
@@ -47,7 +69,7 @@ fn cells_fit(arrays: &[Vec<i32>]) -> bool
 fn all_cells_fit(arrays: &[Vec<i32>]) -> bool
     ensures { IsTrue result ↔ (sum (map (λ a. length a.items) arrays.now) ≤ 4096) }
 {
-    let mut room = 4096;
+    let mut room = MOST_CELLS;
     for array in arrays {
         if array.len() > room {
             return false;
@@ -102,7 +124,35 @@ fn line_fits(instr: Instr) -> bool
     ensures { result ≡ line_fits_of instr }
 {
     match instr {
-        Instr::Tick(line) => 1 <= line && line <= 1_048_577,
-        _ => true,
+        Instr::Tick(line) => 1 <= line && line <= LAST_LINE,
+        Instr::Push(_)
+        | Instr::Load(_)
+        | Instr::Store(_)
+        | Instr::Cell(_)
+        | Instr::SetCell(_)
+        | Instr::Timer(_)
+        | Instr::Neg
+        | Instr::Not
+        | Instr::Add
+        | Instr::Sub
+        | Instr::Mul
+        | Instr::Div
+        | Instr::Eq
+        | Instr::Ne
+        | Instr::Lt
+        | Instr::Le
+        | Instr::Gt
+        | Instr::Ge
+        | Instr::And
+        | Instr::Or
+        | Instr::Read(_)
+        | Instr::Do(_)
+        | Instr::Start(_)
+        | Instr::Stop(_)
+        | Instr::Reset(_)
+        | Instr::Jump(_)
+        | Instr::JumpZero(_)
+        | Instr::Call(_)
+        | Instr::Ret => true,
     }
 }
