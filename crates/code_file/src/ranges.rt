@@ -46,7 +46,10 @@ fn instr_range(instr: Instr)
         Instr::Push(_) | Instr::Load(_) | Instr::Store(_) | Instr::Cell(_) => {}
         Instr::SetCell(_) | Instr::Timer(_) | Instr::Start(_) | Instr::Stop(_) => {}
         Instr::Reset(_) | Instr::Jump(_) | Instr::JumpZero(_) | Instr::Call(_) => {}
-        _ => {}
+        Instr::Tick(_) | Instr::Neg | Instr::Not | Instr::Ret => {}
+        Instr::Add | Instr::Sub | Instr::Mul | Instr::Div => {}
+        Instr::Eq | Instr::Ne | Instr::Lt | Instr::Le | Instr::Gt | Instr::Ge => {}
+        Instr::And | Instr::Or | Instr::Read(_) | Instr::Do(_) => {}
     }
 }
 

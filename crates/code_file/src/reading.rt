@@ -16,6 +16,20 @@ use crate::refusal::{CodeRefusal, CodeWhy};
 use std::alloc::Global;
 use vap_code::{Code, Instr};
 
+const MOST_ROUTINES: u32 = 65;
+
+const MOST_VARIABLES: u32 = 256;
+
+const MOST_TIMERS: u32 = 64;
+
+const MOST_ARRAYS: u32 = 32;
+
+// The cells of one array.
+const MOST_ARRAY_CELLS: u32 = 1024;
+
+// The cells of all arrays together.
+const MOST_CELLS: u32 = 4096;
+
 // A line that is this text.
 #[tactic(auto, unfolding(crate::specs::Reading::judged_at))]
 fn fixed<'a>(cursor: Cursor<'a>, text: &[u8], wrong: CodeWhy) -> Result<Cursor<'a>, CodeRefusal>
@@ -69,9 +83,9 @@ pub fn counts(cursor: Cursor<'_>) -> Result<((u32, u32, u32), Cursor<'_>), CodeR
     ensures at_most { IfOk result (λ x. (x.0.0 ≤ 256) × (x.0.1 ≤ 64) × (x.0.2 ≤ 32)) }
 {
     let head = fixed(cursor, b"VAPCODE 1", CodeWhy::Header)?;
-    let (vars, cursor) = count(head, b"VARS ", 0, 256)?;
-    let (timers, cursor) = count(cursor, b"TIMERS ", 0, 64)?;
-    let (arrays, cursor) = count(cursor, b"ARRAYS ", 0, 32)?;
+    let (vars, cursor) = count(head, b"VARS ", 0, MOST_VARIABLES)?;
+    let (timers, cursor) = count(cursor, b"TIMERS ", 0, MOST_TIMERS)?;
+    let (arrays, cursor) = count(cursor, b"ARRAYS ", 0, MOST_ARRAYS)?;
     Ok(((vars, timers, arrays), cursor))
 }
 
@@ -126,7 +140,7 @@ pub fn routines(alloc: Global, cursor: Cursor<'_>) -> Result<(Vec<u16>, Cursor<'
         (routines_at (place_of cursor.entry)) }
     ensures number { IfOk result (λ x. x.1.number ≤ cursor.entry.number + 66) }
 {
-    let (n, cursor) = count(cursor, b"ROUTINES ", 1, 65)?;
+    let (n, cursor) = count(cursor, b"ROUTINES ", 1, MOST_ROUTINES)?;
     starts(alloc, n, cursor)
 }
 
@@ -225,7 +239,7 @@ fn array(
     let why = match numbers_in(alloc, line)? {
         None => CodeWhy::Line,
         Some(survey) => {
-            if survey.count > 1024 || survey.count > room {
+            if survey.count > MOST_ARRAY_CELLS || survey.count > room {
                 CodeWhy::Limit
             } else if survey.fit {
                 return Ok((survey.kept, after));
@@ -254,7 +268,7 @@ fn arrays(
 {
     let mut arrays = Vec::new(alloc);
     let mut rest = cursor;
-    let mut room = 4096;
+    let mut room = MOST_CELLS;
     for _ in 0..count {
         let (values, after) = array(alloc, rest, room)?;
         room = room - values.len() as u32;
