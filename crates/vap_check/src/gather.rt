@@ -34,7 +34,12 @@ fn note_stmt_timers(alloc: Global, what: &Stmt, names: &mut IndexSet<Name>) -> R
             note_items_timers(alloc, &no.0, names)
         }
         Stmt::Timer { timer, .. } => note(alloc, names, timer),
-        _ => Ok(()),
+        Stmt::Assign { .. }
+        | Stmt::Cell { .. }
+        | Stmt::Goto { .. }
+        | Stmt::Gosub { .. }
+        | Stmt::Do { .. }
+        | Stmt::Trace => Ok(()),
     }
 }
 

@@ -70,7 +70,13 @@ fn note_stmt_labels(
             note_items_labels(alloc, &yes.0, names, first)?;
             note_items_labels(alloc, &no.0, names, first)
         }
-        _ => Ok(()),
+        Stmt::Assign { .. }
+        | Stmt::Cell { .. }
+        | Stmt::Goto { .. }
+        | Stmt::Gosub { .. }
+        | Stmt::Do { .. }
+        | Stmt::Timer { .. }
+        | Stmt::Trace => Ok(()),
     }
 }
 
