@@ -7,6 +7,19 @@ ghost use Rattle.vap_check.specs.Names as names;
 use crate::refusal::Which;
 use vap_ast::{ArrayDecl, Item, Program, Routine, Stmt, add_capped, items_size};
 
+const MOST_VARIABLES: usize = 256;
+
+const MOST_TIMERS: usize = 64;
+
+const MOST_ARRAYS: usize = 32;
+
+// The cells of all arrays together.
+const MOST_CELLS: usize = 4096;
+
+const MOST_SUBROUTINES: usize = 64;
+
+const MOST_LABELS: usize = 4096;
+
 // The cells of arrays, counted up to 65,536.
 #[tactic(auto, using(crate::proofs::Sums::length_on))]
 fn count_cells(arrays: &[ArrayDecl]) -> usize
@@ -41,7 +54,13 @@ fn count_stmt_labels(what: &Stmt) -> usize
             count_items_labels(&yes.0),
             count_items_labels(&no.0),
         ),
-        _ => 0,
+        Stmt::Assign { .. }
+        | Stmt::Cell { .. }
+        | Stmt::Goto { .. }
+        | Stmt::Gosub { .. }
+        | Stmt::Do { .. }
+        | Stmt::Timer { .. }
+        | Stmt::Trace => 0,
     }
 }
 
@@ -108,17 +127,17 @@ pub fn first_passed_limit(program: &Program, variables: usize, timers: usize) ->
     requires timers { timers ≡ length (names.timers (program_of program.now)) }
     ensures { result ≡ whole.passed (program_of program.now) }
 {
-    if variables > 256 {
+    if variables > MOST_VARIABLES {
         Some(Which::Variables)
-    } else if timers > 64 {
+    } else if timers > MOST_TIMERS {
         Some(Which::Timers)
-    } else if program.arrays.len() > 32 {
+    } else if program.arrays.len() > MOST_ARRAYS {
         Some(Which::Arrays)
-    } else if count_cells(&program.arrays) > 4096 {
+    } else if count_cells(&program.arrays) > MOST_CELLS {
         Some(Which::Cells)
-    } else if program.subs.len() > 64 {
+    } else if program.subs.len() > MOST_SUBROUTINES {
         Some(Which::Subroutines)
-    } else if count_labels(program) > 4096 {
+    } else if count_labels(program) > MOST_LABELS {
         Some(Which::Labels)
     } else {
         None
