@@ -8,7 +8,7 @@ use std::alloc::{AllocError, Global};
 use std::marker::Model;
 
 // The most commands of a pass.
-const ROOM: usize = 10_000;
+const MOST_COMMANDS: usize = 10_000;
 
 /// The commands given so far, in order.
 #[derive(Drop)]
@@ -33,7 +33,7 @@ impl Given {
         ensures { IfOk result (λ g. g ≡ []) }
     {
         Ok(Given {
-            items: Vec::with_capacity(alloc, ROOM)?,
+            items: Vec::with_capacity(alloc, MOST_COMMANDS)?,
         })
     }
 

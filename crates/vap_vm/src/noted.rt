@@ -6,7 +6,7 @@ use std::alloc::{AllocError, Global};
 use std::marker::Model;
 
 // The most places that verified code notes.
-const ROOM: usize = 65;
+const MOST_CALLS: usize = 65;
 
 /// The noted places, seen as a list whose first is the one that was noted last.
 #[derive(Drop)]
@@ -30,7 +30,7 @@ impl Noted {
         ensures { IfOk result (λ o. o ≡ []) }
     {
         Ok(Noted {
-            items: Vec::with_capacity(alloc, ROOM)?,
+            items: Vec::with_capacity(alloc, MOST_CALLS)?,
         })
     }
 
