@@ -66,7 +66,11 @@ pub fn array_number(checked: &Checked, name: &Name) -> u16
 {
     match checked.meaning(name) {
         Some(Meaning::Array(array)) => array,
-        _ => 0,
+        Some(Meaning::Constant(_))
+        | Some(Meaning::Sub(_))
+        | Some(Meaning::Timer(_))
+        | Some(Meaning::Variable(_))
+        | None => 0,
     }
 }
 

@@ -23,7 +23,11 @@ fn variable_number(checked: &Checked, name: &Name) -> u16
 {
     match checked.meaning(name) {
         Some(Meaning::Variable(variable)) => variable,
-        _ => 0,
+        Some(Meaning::Constant(_))
+        | Some(Meaning::Array(_))
+        | Some(Meaning::Sub(_))
+        | Some(Meaning::Timer(_))
+        | None => 0,
     }
 }
 
@@ -32,7 +36,11 @@ fn timer_number(checked: &Checked, name: &Name) -> u16
 {
     match checked.meaning(name) {
         Some(Meaning::Timer(timer)) => timer,
-        _ => 0,
+        Some(Meaning::Constant(_))
+        | Some(Meaning::Array(_))
+        | Some(Meaning::Sub(_))
+        | Some(Meaning::Variable(_))
+        | None => 0,
     }
 }
 
@@ -41,7 +49,11 @@ fn sub_number(checked: &Checked, name: &Name) -> u16
 {
     match checked.meaning(name) {
         Some(Meaning::Sub(sub)) => sub,
-        _ => 0,
+        Some(Meaning::Constant(_))
+        | Some(Meaning::Array(_))
+        | Some(Meaning::Timer(_))
+        | Some(Meaning::Variable(_))
+        | None => 0,
     }
 }
 
