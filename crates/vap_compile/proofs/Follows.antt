@@ -16,7 +16,7 @@ use Rattle.vap_ast.specs.Rest.{rest_from}
 use Rattle.vap_code.specs.declared.Instr.{Instr}
 use Rattle.vap_code.specs.declared.Instr.TheVariants.{Tick, Store, SetCell, Do, Start, Stop, Reset, Jump, JumpZero, Call, Ret}
 use Rattle.sig_types.specs.Arity.{command_arity}
-use Rattle.vap_code.specs.Machine.{End, State, Step, Goes, Ends, act, tick, back, with_slot, keep_store, next_store}
+use Rattle.vap_code.specs.Machine.{State, Goes, act, back, with_slot, keep_store, next_store}
 use Rattle.vap_code.specs.Machine as machine
 use Rattle.vap_ast.specs.Sizes.{expr_size, exprs_size}
 use Rattle.vap_ast.specs.Sound.{count_arguments}

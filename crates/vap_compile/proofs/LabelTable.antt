@@ -6,10 +6,6 @@ use Rattle.std.specs.Str.{bytes_eq}
 use Rattle.std.proofs.lemmas.Slice.Eq.{bytes_eq-Decides}
 use Rattle.vap_compile.specs.Labels.{Places, place_among, one_place, Notes}
 
-pub option_or_assoc : (a b c : Option ℕ) → option_or (option_or a b) c ≡ option_or a (option_or b c)
-option_or_assoc None b c = refl
-option_or_assoc (Some x) b c = refl
-
 pub option_or_none : (a : Option ℕ) → option_or a None ≡ a
 option_or_none None = refl
 option_or_none (Some x) = refl
