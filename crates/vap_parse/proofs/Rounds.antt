@@ -43,10 +43,6 @@ agree_again z z' n n' o o' f f' (past _ _ h) short short' grows again_ = past (a
 agree_again z z' n n' o o' f f' (both_ok x m r r' a) short short' grows again_ = again_ x m r r' short short' a
 agree_again z z' n n' o o' f f' (both_err why r r' a) short short' grows again_ = both_err why r r' a
 
-wider : {B : Type 0} (n m : ℕ) (o : Outcome B) → Within n o → n ≤ m → Within m o
-wider n m (Ok p) within le = omega arith
-wider n m (Err e) within le = omega arith
-
 abbrev many_test : (test fq mq first goes : Kind → Bool) → Kind → Bool
 many_test test fq mq first goes k = implies (fq k) (first k && (test k && not (mq k))) && (implies (mq k) (goes k) && implies (test k) (goes k))
 

@@ -16,7 +16,7 @@ use Rattle.vap_parse.specs.declared.kind.Kind.{Kind}
 use Rattle.vap_parse.specs.declared.kind.Kind.TheVariants as k
 use Rattle.vap_parse.specs.declared.kind.Rank.{Rank}
 use Rattle.vap_parse.specs.Kinds.{kind_of, structure_word, statement_word, command_word, reading_word, same_kind, operator_of, reading_of, command_of, timer_of}
-use Rattle.vap_parse.specs.Input.{Mark, token, where_kind, with_line, line_of, word_in, name_in, name_at, number_in, aspect_in, no_limit, as_many, limit, below, frequency_mark}
+use Rattle.vap_parse.specs.Input.{Mark, token, where_kind, with_line, line_of, word_in, name_at, number_in, aspect_in, no_limit, as_many, limit, below, frequency_mark}
 use Rattle.vap_parse.specs.Input as p
 use Rattle.vap_parse.specs.Grammar as g
 use Rattle.vap_parse.specs.Forms.{Picks}

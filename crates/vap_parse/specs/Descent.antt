@@ -7,7 +7,7 @@ use Rattle.std.specs.Prelude.{ℕ, zero, suc, Bool, true, false, not, is_some, L
 use Rattle.sig_types.specs.declared.kinds.ReadingKind.TheVariants.{AnyInterstage}
 use Rattle.vap_lex.specs.declared.token.Token.{Token}
 use Rattle.vap_ast.specs.declared.tree.UnaryOp.TheVariants.{Neg, Not}
-use Rattle.vap_ast.specs.Syntax.{Expr, Exprs, Item, Stmt, Constant, Array, Routine, Program}
+use Rattle.vap_ast.specs.Syntax.{Expr, Item, Stmt, Constant, Array, Routine, Program}
 use Rattle.vap_ast.specs.Syntax as tree
 use Rattle.vap_ast.specs.Tree.{exprs, items as one_after_another}
 use Rattle.vap_parse.specs.declared.kind.Kind.{Kind}

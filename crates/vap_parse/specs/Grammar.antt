@@ -12,7 +12,7 @@ use Rattle.sig_types.specs.declared.kinds.TimerKind.{TimerKind}
 use Rattle.vap_lex.specs.declared.token.Token.{Token}
 use Rattle.vap_ast.specs.declared.tree.UnaryOp.TheVariants.{Neg, Not}
 use Rattle.vap_ast.specs.declared.tree.BinaryOp.{BinaryOp}
-use Rattle.vap_ast.specs.Syntax.{Expr, Exprs, Item, Stmt, Constant, Array, Routine, Program}
+use Rattle.vap_ast.specs.Syntax.{Expr, Item, Stmt, Constant, Array, Routine, Program}
 use Rattle.vap_ast.specs.Syntax as tree
 use Rattle.vap_ast.specs.Tree.{exprs, items as one_after_another}
 use Rattle.vap_parse.specs.declared.kind.Kind.{Kind}
