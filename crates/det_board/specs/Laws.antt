@@ -46,7 +46,8 @@ RearIsEvent = (detectors id d f r : ℕ) (s : State (Unit {0}) View)
 abbrev pub ReadRearsIsEvent : Type 0
 ReadRearsIsEvent = (detectors id d dealt : ℕ) (loads : List (List ℕ)) (owned : List (Option (ℕ × ℕ))) (s : State (Unit {0}) View)
     → Sits s id (Tick dealt loads owned) → d < detectors
-    → Steps detectors (read_rears d) s (loaded s (rears_word d) id (Tick dealt (loads_after loads (rears_word d) (slice_index s.words (rears_word d))) owned))
+    → Steps detectors (read_rears d) s
+    (loaded s (rears_word d) id (Tick dealt (loads_after loads (rears_word d) (slice_index s.words (rears_word d))) owned))
 
 -- the load of a detector's fronts word is that event
 abbrev pub ReadFrontsIsEvent : Type 0
@@ -67,7 +68,8 @@ DealMoves = (detectors id dealt f r : ℕ) (loads : List (List ℕ)) (owned : Li
 
 -- a feeder's pass given back is no event
 abbrev pub GiveBackMoves : Type 0
-GiveBackMoves = (detectors id other dealt d f r : ℕ) (loads : List (List ℕ)) (owned : List (Option (ℕ × ℕ))) (s : State (Unit {0}) View)
+GiveBackMoves = (detectors id other dealt d f r : ℕ) (loads : List (List ℕ)) (owned : List (Option (ℕ × ℕ)))
+    → (s : State (Unit {0}) View)
     → length owned ≡ detectors → Sits s id (Tick dealt loads owned) → other ≢ id → Sits s other (Feeder d f r)
     → Moves detectors s (record {
       words = s.words;

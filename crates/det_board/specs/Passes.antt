@@ -54,7 +54,9 @@ pub record IsTicking (id : TableId) (me : Me (Unit {0}) View) (totals : Counts) 
   pub load_count : length (loads_of me.0) ≡ id.words
   pub owned_count : 8 * length (owned_of me.0) ≡ id.words
   pub size : length totals ≡ 64
-  pub read : (d : ℕ) → d < 64 → slice_index_or totals d (0, 0) ≡ (last_read (loads_of me.0) (fronts_word d), last_read (loads_of me.0) (rears_word d))
+  pub read : (d : ℕ) → d < 64 →
+      slice_index_or totals d (0, 0)
+      ≡ (last_read (loads_of me.0) (fronts_word d), last_read (loads_of me.0) (rears_word d))
   pub ordered : (d : ℕ) → d < 64 →
       (last_read (loads_of me.0) (rears_word d) ≤ last_read (loads_of me.0) (fronts_word d))
       × (last_read (loads_of me.0) (fronts_word d) ≤ most_fronts)
@@ -94,9 +96,14 @@ pub record GrowsTo (counts : Counts) (d : ℕ) (c : ℕ × ℕ) : Type 0 where
   pub bounded : c.0 ≤ most_fronts
 
 -- the tick's seat after it loaded both words of the detector at place d, first that of its rears; it found c
-pub record LoadsOne (d : ℕ) (id : TableId) (me : Me (Unit {0}) View) (id' : TableId) (me' : Me (Unit {0}) View) (c : ℕ × ℕ) : Type 0 where
+pub record LoadsOne (d : ℕ) (id : TableId) (me : Me (Unit {0}) View) (id' : TableId) (me' : Me (Unit {0}) View)
+    (c : ℕ × ℕ) : Type 0 where
   pub table : id' ≡ id
-  pub view : me' ≡ (Tick (dealt_of me.0) (loads_after (loads_after (loads_of me.0) (rears_word d) c.1) (fronts_word d) c.0) (owned_of me.0), [])
+  pub view : me' ≡ (
+    Tick (dealt_of me.0) (loads_after (loads_after (loads_of me.0) (rears_word d) c.1) (fronts_word d) c.0)
+        (owned_of me.0),
+    [],
+  )
   pub inside : 8 * d + 1 < length (loads_of me.0)
   pub fronts_grow : last_read (loads_of me.0) (fronts_word d) ≤ c.0
   pub rears_grow : last_read (loads_of me.0) (rears_word d) ≤ c.1
@@ -106,7 +113,8 @@ pub record LoadsOne (d : ℕ) (id : TableId) (me : Me (Unit {0}) View) (id' : Ta
 -- one value more of each word of the detector at place d: first of its rears, then of its fronts; g is what they gained
 pub record ReadsOne (d : ℕ) (old new : Ticking) (g : ℕ × ℕ) : Type 0 where
   pub table : new.table ≡ old.table
-  pub loads : new.loads ≡ loads_after (loads_after old.loads (rears_word d) (g.1 + rears_read old d)) (fronts_word d) (g.0 + fronts_read old d)
+  pub loads : new.loads
+      ≡ loads_after (loads_after old.loads (rears_word d) (g.1 + rears_read old d)) (fronts_word d) (g.0 + fronts_read old d)
   pub inside : 8 * d + 1 < length old.loads
   pub ordered : g.1 + rears_read old d ≤ g.0 + fronts_read old d
   pub bounded : g.0 + fronts_read old d ≤ most_fronts
@@ -119,7 +127,8 @@ pub record ReadsFour (d : ℕ) (old new : Ticking) (was now : Counts) : Type 0 w
   pub two : ReadsOne (d + 1) passes.0 passes.1 gained.1
   pub three : ReadsOne (d + 2) passes.1 passes.2 gained.2
   pub four : ReadsOne (d + 3) passes.2 new gained.3
-  pub frame : now ≡ slice_set (slice_set (slice_set (slice_set was d gained.0) (d + 1) gained.1) (d + 2) gained.2) (d + 3) gained.3
+  pub frame : now
+      ≡ slice_set (slice_set (slice_set (slice_set was d gained.0) (d + 1) gained.1) (d + 2) gained.2) (d + 3) gained.3
 
 -- the first n detectors are taken
 pub record Taking (n : ℕ) (old new : Ticking) (frame : Counts) : Type 0 where
@@ -130,11 +139,14 @@ pub record Taking (n : ℕ) (old new : Ticking) (frame : Counts) : Type 0 where
   pub left_fronts : (d : ℕ) → n ≤ d → fronts_loads new d ≡ fronts_loads old d
   pub left_rears : (d : ℕ) → n ≤ d → rears_loads new d ≡ rears_loads old d
   pub size : length frame ≡ 64
-  pub gains : (d : ℕ) → d < n → ((slice_index_or frame d (0, 0)).0 + fronts_read old d ≡ fronts_read new d) × ((slice_index_or frame d (0, 0)).1 + rears_read old d ≡ rears_read new d)
+  pub gains : (d : ℕ) → d < n →
+      ((slice_index_or frame d (0, 0)).0 + fronts_read old d ≡ fronts_read new d)
+      × ((slice_index_or frame d (0, 0)).1 + rears_read old d ≡ rears_read new d)
   pub absent : (d : ℕ) → n ≤ d → slice_index_or frame d (0, 0) ≡ (0, 0)
   pub ordered : (d : ℕ) → d < n → (rears_read new d ≤ fronts_read new d) × (fronts_read new d ≤ most_fronts)
 
--- the tick's pass after a take by a board of `detectors` detectors: one value more of each word, and the frame is what they gained
+-- the tick's pass after a take by a board of `detectors` detectors: one value more of each word, and the frame is what they
+-- gained
 pub record Takes (detectors : ℕ) (old new : Ticking) (frame : Counts) : Type 0 where
   pub table : new.table ≡ old.table
   pub fronts : (d : ℕ) → d < detectors → fronts_loads new d ≡ fronts_loads old d ++ fronts_read new d ∷ []
@@ -150,7 +162,8 @@ pub record Takes (detectors : ℕ) (old new : Ticking) (frame : Counts) : Type 0
 pub record IsOpening (detectors : ℕ) (board : Boarded) (feeders : List Feeding) (tick : Ticking) : Type 0 where
   pub detectors_are : board.detectors ≡ detectors
   pub count : length feeders ≡ detectors
-  pub each : (k : ℕ) → k < detectors → slice_get feeders k ≡ Some (record { table = board.table; place = k; fronts = 0; rears = 0 })
+  pub each : (k : ℕ) → k < detectors →
+      slice_get feeders k ≡ Some (record { table = board.table; place = k; fronts = 0; rears = 0 })
   pub of_tick : tick.table ≡ board.table
   pub unread : (w : ℕ) → slice_index_or tick.loads w [] ≡ []
 
@@ -179,7 +192,8 @@ pub record Undealt (n detectors : ℕ) (me : Me (Unit {0}) View) : Type 0 where
 pub record GivenBack (n detectors : ℕ) (feeders : List Feeding) (loads : List (List ℕ)) (me : Me (Unit {0}) View) : Type 0 where
   pub view : me ≡ (Tick (dealt_of me.0) loads (owned_of me.0), [])
   pub owned_count : length (owned_of me.0) ≡ detectors
-  pub back : (k : ℕ) (p : Feeding) → n ≤ k → slice_get feeders k ≡ Some p → slice_index_or (owned_of me.0) k None ≡ Some (p.fronts, p.rears)
+  pub back : (k : ℕ) (p : Feeding) → n ≤ k → slice_get feeders k ≡ Some p →
+      slice_index_or (owned_of me.0) k None ≡ Some (p.fronts, p.rears)
 
 -- what the tick has read of the detectors that it owns is at most their counts
 abbrev pub WithinCounts : ℕ → View → Type 0

@@ -25,7 +25,8 @@ impl Model for Board {
 
     ghost view = { λ b. record { table = b.table.shared.table_id; detectors = b.detectors } };
 
-    ghost invariant = { λ b. (b.table.shared.key ≡ b.detectors) × (b.table.shared.table_id.words ≡ 8 * b.detectors) × (0 < b.detectors) × (b.detectors ≤ 64) × (b.table.shared.table_id.slots ≡ 0) };
+    ghost invariant = { λ b. (b.table.shared.key ≡ b.detectors) × (b.table.shared.table_id.words ≡ 8 * b.detectors)
+        × (0 < b.detectors) × (b.detectors ≤ 64) × (b.table.shared.table_id.slots ≡ 0) };
 }
 
 // What a feeder's thread writes at each event.
@@ -51,9 +52,15 @@ impl Model for FeederPass {
 
     ghost Value = { Feeding };
 
-    ghost view = { λ p. record { table = p.seat.table_id; place = p.place; fronts = (padded_value p.counts).fronts; rears = (padded_value p.counts).rears } };
+    ghost view = { λ p. record {
+      table = p.seat.table_id;
+      place = p.place;
+      fronts = (padded_value p.counts).fronts;
+      rears = (padded_value p.counts).rears;
+    } };
 
-    ghost invariant = { λ p. IsFeeding p.seat.table_id p.seat.me p.place (padded_value p.counts).fronts (padded_value p.counts).rears };
+    ghost invariant = { λ p. IsFeeding p.seat.table_id p.seat.me p.place
+        (padded_value p.counts).fronts (padded_value p.counts).rears };
 }
 
 // Where the word with the fronts of the detector at that place stands. That with its rears is the next one.

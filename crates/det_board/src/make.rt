@@ -57,7 +57,9 @@ fn open(alloc: Global, zeros: &[u64; 512], detectors: u8) -> Result<(Board, Seat
     requires zeros { zeros.now ≡ replicate 512 0 }
     requires at_least { 0 < detectors }
     requires at_most { detectors ≤ 64 }
-    ensures { IfOk result (λ r. (r.0.detectors ≡ detectors) × (r.1.table_id ≡ r.0.table) × (r.0.table.words ≡ 8 * detectors) × Undealt 0 detectors r.1.me) }
+    ensures { IfOk result
+        (λ r. (r.0.detectors ≡ detectors) × (r.1.table_id ≡ r.0.table) × (r.0.table.words ≡ 8 * detectors)
+        × Undealt 0 detectors r.1.me) }
 {
     let Ok((table, seat)) = Table::of_words(alloc, &zeros[..8 * usize::from(detectors)], &detectors)
     else {

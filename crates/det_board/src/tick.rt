@@ -108,7 +108,8 @@ impl TickPass {
     // Reads the detectors after the last whole four, one after the other.
     fn read_rest(&mut self, board: &Board, frame: &mut Frame)
         requires board { self.old.table ≡ board.now.table }
-        ensures { (begin : Ticking) → Taking (4 * (board.now.detectors / 4)) begin self.old frame.old → Taking board.now.detectors begin self.new frame.new }
+        ensures { (begin : Ticking) → Taking (4 * (board.now.detectors / 4)) begin self.old frame.old →
+            Taking board.now.detectors begin self.new frame.new }
     {
         let detectors = board.detectors();
         let four = detectors / 4;
