@@ -41,7 +41,8 @@ impl StageState {
     #[tactic(auto, unfolding(crate::specs::Stands::StandsFor, crate::specs::Orders::place_at, crate::specs::Orders::since_at))]
     pub fn step(&mut self, plan: &Plan)
         requires { (orders : List Order) × (k : ℕ) × StandsFor self.old plan.now orders k × (k < 604801) }
-        ensures { (orders : List Order) (k : ℕ) → StandsFor self.old plan.now orders k → StandsFor self.new plan.now orders (k + 1) }
+        ensures { (orders : List Order) (k : ℕ) → StandsFor self.old plan.now orders k →
+            StandsFor self.new plan.now orders (k + 1) }
     {
         self.second += 1;
         if let StagePlace::Inter { from, to, t } = self.place {
@@ -63,8 +64,11 @@ impl StageState {
         requires from { HasStage plan.now from.0 }
         requires to { HasStage plan.now to.0 }
         ensures { (orders : List Order) (k : ℕ) → StandsFor self.old plan.now orders k →
-            MatchResult result (λ _. (refused_order plan.now (place_at plan.now orders k) from.0 to.0 ≡ None) × StandsFor self.new plan.now (record { second = k; from = from.0; to = to.0 } ∷ orders) k)
-            (λ rule. (refused_order plan.now (place_at plan.now orders k) from.0 to.0 ≡ Some rule) × StandsFor self.new plan.now orders k) }
+            MatchResult result
+            (λ _. (refused_order plan.now (place_at plan.now orders k) from.0 to.0 ≡ None)
+            × StandsFor self.new plan.now (record { second = k; from = from.0; to = to.0 } ∷ orders) k)
+            (λ rule. (refused_order plan.now (place_at plan.now orders k) from.0 to.0 ≡ Some rule)
+            × StandsFor self.new plan.now orders k) }
     {
         match self.place {
             StagePlace::Inter { .. } => Err(Rule::Running),
@@ -85,7 +89,8 @@ impl StageState {
     /// The stage that is active, or the interstage that runs and its second from 0.
     #[tactic(auto, unfolding(crate::specs::Stands::StandsFor))]
     pub fn place(&self) -> StagePlace
-        ensures { (plan : PlanOf) (orders : List Order) (k : ℕ) → StandsFor self.now plan orders k → result ≡ place_at plan orders k }
+        ensures { (plan : PlanOf) (orders : List Order) (k : ℕ) → StandsFor self.now plan orders k →
+            result ≡ place_at plan orders k }
     {
         self.place
     }
@@ -94,7 +99,8 @@ impl StageState {
     #[tactic(auto, unfolding(crate::specs::Stands::StandsFor))]
     pub fn is_active(&self, stage: StageNo) -> bool
         requires { 1 ≤ stage.0 }
-        ensures { (plan : PlanOf) (orders : List Order) (k : ℕ) → StandsFor self.now plan orders k → result ≡ is_stage (place_at plan orders k) stage.0 }
+        ensures { (plan : PlanOf) (orders : List Order) (k : ℕ) → StandsFor self.now plan orders k →
+            result ≡ is_stage (place_at plan orders k) stage.0 }
     {
         self.active == stage.0
     }
@@ -102,7 +108,8 @@ impl StageState {
     /// The second in which the active stage became active; while an interstage runs, that in which its from-stage did.
     #[tactic(auto, unfolding(crate::specs::Stands::StandsFor, crate::specs::Orders::since_at))]
     pub fn since(&self) -> Second
-        ensures { (plan : PlanOf) (orders : List Order) (k : ℕ) → StandsFor self.now plan orders k → (result.0 ≡ since_at plan orders k) × (result.0 ≤ k) }
+        ensures { (plan : PlanOf) (orders : List Order) (k : ℕ) → StandsFor self.now plan orders k →
+            (result.0 ≡ since_at plan orders k) × (result.0 ≤ k) }
     {
         Second(self.since)
     }
@@ -114,7 +121,8 @@ impl StageState {
         requires groups { length out.old ≡ groups_in plan.now }
         ensures groups { length out.new ≡ groups_in plan.now }
         ensures wishes { (orders : List Order) (k : ℕ) → StandsFor self.now plan.now orders k →
-            (g : ℕ) → g < groups_in plan.now → slice_index_or out.new g false ≡ stage_wish plan.now (place_at plan.now orders k) g }
+            (g : ℕ) → g < groups_in plan.now →
+            slice_index_or out.new g false ≡ stage_wish plan.now (place_at plan.now orders k) g }
     {
         let groups = plan.groups();
         match self.place {
