@@ -32,7 +32,8 @@ picture_of guard = guard.picture
 
 -- each group shows what is wished of it: green, or else red
 unfoldable pub ShowsWishes : Guard → List Bool → Type 0
-ShowsWishes guard wishes = (g : ℕ) → g < (kept_rules guard).count → shows_wish (shown guard.picture g) (slice_index_or wishes g false) ≡ true
+ShowsWishes guard wishes = (g : ℕ) → g < (kept_rules guard).count →
+    shows_wish (shown guard.picture g) (slice_index_or wishes g false) ≡ true
 
 -- one clause for each kept number, and that the history is safe
 pub record HasPast (guard : Guard) (h : History) : Type 0 where

@@ -65,7 +65,8 @@ impl Guard {
         ensures tables { tables self.new ≡ tables self.old }
         ensures rules { rules self.new ≡ rules self.old }
         ensures seconds { seconds_made self.new ≡ seconds_made self.old + 1 }
-        ensures history { (h : History) → StandsFor self.old h → StandsFor self.new (h ++ guard_picture (rules self.old) h wishes.now ∷ []) }
+        ensures history { (h : History) → StandsFor self.old h →
+            StandsFor self.new (h ++ guard_picture (rules self.old) h wishes.now ∷ []) }
         ensures refused { (h : History) → StandsFor self.old h → out.new ≡ guard_refused (rules self.old) h wishes.now }
         ensures turns { All (IsTurn (rules self.old).count) out.new }
     {
@@ -99,8 +100,10 @@ impl Guard {
         ensures tables { tables self.new ≡ tables self.old }
         ensures rules { rules self.new ≡ rules self.old }
         ensures seconds { seconds_made self.new ≡ seconds_made self.old + 1 }
-        ensures history { (h : History) (wishes : List Bool) → StandsFor self.old h → ShowsWishes self.old wishes → StandsFor self.new (h ++ guard_picture (rules self.old) h wishes ∷ []) }
-        ensures refused { (h : History) (wishes : List Bool) → StandsFor self.old h → ShowsWishes self.old wishes → guard_refused (rules self.old) h wishes ≡ [] }
+        ensures history { (h : History) (wishes : List Bool) → StandsFor self.old h → ShowsWishes self.old wishes →
+            StandsFor self.new (h ++ guard_picture (rules self.old) h wishes ∷ []) }
+        ensures refused { (h : History) (wishes : List Bool) → StandsFor self.old h → ShowsWishes self.old wishes →
+            guard_refused (rules self.old) h wishes ≡ [] }
         ensures picture { picture_of self.new ≡ picture_of self.old }
         ensures shown { (wishes : List Bool) → ShowsWishes self.old wishes → ShowsWishes self.new wishes }
     {
@@ -201,7 +204,8 @@ impl Guard {
     /// are asked at a time.
     fn is_steady(&self, wishes: &Wishes) -> bool
         requires wished { length wishes.now ≡ (kept_rules self.now).count }
-        ensures { IsTrue result ↔ ((g : ℕ) → g < (kept_rules self.now).count → shows_wish (shown self.now.picture g) (slice_index_or wishes.now g false) ≡ true) }
+        ensures { IsTrue result ↔ ((g : ℕ) → g < (kept_rules self.now).count →
+            shows_wish (shown self.now.picture g) (slice_index_or wishes.now g false) ≡ true) }
     {
         let mut others: u8 = 0;
         for g in 0..self.times.groups() {
@@ -214,7 +218,8 @@ impl Guard {
     fn natural_aspect(&self, g: u8) -> Aspect
         requires { g < (kept_rules self.now).count }
         ensures { (h : History) → HasPast self.now h →
-            result ≡ natural_after ((kept_rules self.now).red_amber g) ((kept_rules self.now).amber g) (trace h g) (length h - 1) }
+            result
+            ≡ natural_after ((kept_rules self.now).red_amber g) ((kept_rules self.now).amber g) (trace h g) (length h - 1) }
     {
         match self.aspect(g) {
             Aspect::RedAmber => {
@@ -263,7 +268,8 @@ impl Guard {
     fn last_end(&self, picture: &Picture, i: u8) -> u32
         requires group { i < (kept_rules self.now).count }
         requires size { length picture.now ≡ (kept_rules self.now).count }
-        ensures last { (h : History) → HasPast self.now h → last_below (ends_at (trace (h ++ picture.now ∷ []) i)) (suc (suc (length h - 1))) ≡ Some result }
+        ensures last { (h : History) → HasPast self.now h →
+            last_below (ends_at (trace (h ++ picture.now ∷ []) i)) (suc (suc (length h - 1))) ≡ Some result }
         ensures at_most { result ≤ 604802 }
     {
         if ends(self.aspect(i), picture.get(i)) {
@@ -292,7 +298,8 @@ impl Guard {
     fn conflict_with(&self, picture: &Picture, g: u8) -> Option<u8>
         requires group { g < (kept_rules self.now).count }
         requires size { length picture.now ≡ (kept_rules self.now).count }
-        ensures conflict { result ≡ least_below (λ i. is_in_conflict (kept_rules self.now) picture.now g i) (kept_rules self.now).count }
+        ensures conflict { result
+            ≡ least_below (λ i. is_in_conflict (kept_rules self.now) picture.now g i) (kept_rules self.now).count }
         ensures inside { IfSome result (λ i. i < (kept_rules self.now).count) }
     {
         for i in 0..self.times.groups() {
@@ -326,7 +333,8 @@ impl Guard {
     fn start_breach(&self, picture: &Picture, g: u8) -> Option<Breach>
         requires group { g < (kept_rules self.now).count }
         requires size { length picture.now ≡ (kept_rules self.now).count }
-        ensures breach { (h : History) → HasPast self.now h → result ≡ start_breach (kept_rules self.now) h (length h - 1) picture.now g }
+        ensures breach { (h : History) → HasPast self.now h →
+            result ≡ start_breach (kept_rules self.now) h (length h - 1) picture.now g }
         ensures turn { IfSome result (λ b. IsTurn (kept_rules self.now).count (refusal_spec g b)) }
     {
         if self.aspect(g) != Aspect::Red {
@@ -356,10 +364,13 @@ impl Guard {
         requires size { length picture.old ≡ (kept_rules self.now).count }
         requires room { length out.old < 64 }
         ensures here { (h : History) → HasPast self.now h → shown picture.new g ≡
-            (if is_none (end_breach (kept_rules self.now) h (length h - 1) g) then ended ((kept_rules self.now).amber g) else shown picture.old g) }
+            (if is_none (end_breach (kept_rules self.now) h (length h - 1) g)
+            then ended ((kept_rules self.now).amber g)
+            else shown picture.old g) }
         ensures others { (j : ℕ) → (j ≡ g → ⊥) → shown picture.new j ≡ shown picture.old j }
         ensures size { length picture.new ≡ (kept_rules self.now).count }
-        ensures refused { (h : History) → HasPast self.now h → out.new ≡ listed true g (end_breach (kept_rules self.now) h (length h - 1) g) out.old }
+        ensures refused { (h : History) → HasPast self.now h →
+            out.new ≡ listed true g (end_breach (kept_rules self.now) h (length h - 1) g) out.old }
         ensures turns { All (IsTurn (kept_rules self.now).count) out.old → All (IsTurn (kept_rules self.now).count) out.new }
         ensures count { length out.new ≤ suc (length out.old) }
     {
@@ -378,14 +389,17 @@ impl Guard {
         requires room { length out.old < 64 }
         requires start { shown picture.old g ≡ shown self.now.picture g }
         ensures here { (h : History) → HasPast self.now h →
-            shown picture.new g ≡ shown (ends_to (kept_rules self.now) h (length h - 1) wishes.now (kept_rules self.now).count) g }
+            shown picture.new g
+            ≡ shown (ends_to (kept_rules self.now) h (length h - 1) wishes.now (kept_rules self.now).count) g }
         ensures others { (j : ℕ) → (j ≡ g → ⊥) → shown picture.new j ≡ shown picture.old j }
         ensures size { length picture.new ≡ (kept_rules self.now).count }
-        ensures refused { (h : History) → HasPast self.now h → out.old ≡ refused_ends_to (kept_rules self.now) h (length h - 1) wishes.now g →
+        ensures refused { (h : History) → HasPast self.now h →
+            out.old ≡ refused_ends_to (kept_rules self.now) h (length h - 1) wishes.now g →
             out.new ≡ refused_ends_to (kept_rules self.now) h (length h - 1) wishes.now (g + 1) }
         ensures turns { All (IsTurn (kept_rules self.now).count) out.old → All (IsTurn (kept_rules self.now).count) out.new }
         ensures count { length out.new ≤ (if is_red_wished wishes.now g then suc (length out.old) else length out.old) }
-        ensures steady { (h : History) → HasPast self.now h → result ≡ true → IsSteady (kept_rules self.now) h (length h - 1) wishes.now g }
+        ensures steady { (h : History) → HasPast self.now h → result ≡ true →
+            IsSteady (kept_rules self.now) h (length h - 1) wishes.now g }
     {
         let (aspect, green) = (self.aspect(g), wishes.get(g));
         if shows_wish(aspect, green) {
@@ -406,11 +420,13 @@ impl Guard {
         requires size { length picture.old ≡ (kept_rules self.now).count }
         requires room { is_green_wished wishes.now g ≡ true → length out.old < 64 }
         ensures picture { (h : History) → HasPast self.now h →
-            picture.old ≡ starts_to (kept_rules self.now) h (length h - 1) wishes.now g → picture.new ≡ starts_to (kept_rules self.now) h (length h - 1) wishes.now (g + 1) }
+            picture.old ≡ starts_to (kept_rules self.now) h (length h - 1) wishes.now g →
+            picture.new ≡ starts_to (kept_rules self.now) h (length h - 1) wishes.now (g + 1) }
         ensures size { length picture.new ≡ (kept_rules self.now).count }
         ensures refused { (h : History) → HasPast self.now h →
             picture.old ≡ starts_to (kept_rules self.now) h (length h - 1) wishes.now g →
-            out.old ≡ refused_to (kept_rules self.now) h (length h - 1) wishes.now g → out.new ≡ refused_to (kept_rules self.now) h (length h - 1) wishes.now (g + 1) }
+            out.old ≡ refused_to (kept_rules self.now) h (length h - 1) wishes.now g →
+            out.new ≡ refused_to (kept_rules self.now) h (length h - 1) wishes.now (g + 1) }
         ensures turns { All (IsTurn (kept_rules self.now).count) out.old → All (IsTurn (kept_rules self.now).count) out.new }
         ensures count { length out.new ≤ (if is_green_wished wishes.now g then suc (length out.old) else length out.old) }
     {
@@ -428,7 +444,8 @@ impl Guard {
         requires wished { length wishes.now ≡ (kept_rules self.now).count }
         requires start { picture.old ≡ self.now.picture }
         requires none { out.old ≡ [] }
-        ensures below { (h : History) → HasPast self.now h → IsSteadyBelow (kept_rules self.now) h (length h - 1) wishes.now result }
+        ensures below { (h : History) → HasPast self.now h →
+            IsSteadyBelow (kept_rules self.now) h (length h - 1) wishes.now result }
         ensures at_most { result ≤ (kept_rules self.now).count }
         ensures picture { (h : History) → HasPast self.now h →
             picture.new ≡ ends_to (kept_rules self.now) h (length h - 1) wishes.now (kept_rules self.now).count }
@@ -450,7 +467,8 @@ impl Guard {
 
     /// Shows the wished starts that break no rule in the picture so far, and notes the others. Groups below `first` do not turn.
     fn show_starts(&self, wishes: &Wishes, picture: &mut Picture, out: &mut TurnRefusals, first: u8)
-        requires steady { (h : History) → HasPast self.now h → IsSteadyBelow (kept_rules self.now) h (length h - 1) wishes.now first }
+        requires steady { (h : History) → HasPast self.now h →
+            IsSteadyBelow (kept_rules self.now) h (length h - 1) wishes.now first }
         requires at_most { first ≤ (kept_rules self.now).count }
         requires wished { length wishes.now ≡ (kept_rules self.now).count }
         requires start_size { length picture.old ≡ (kept_rules self.now).count }
