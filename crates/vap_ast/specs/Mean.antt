@@ -58,7 +58,8 @@ module _ (source : Source) (world : World) where
   abbrev pub step :
       (Items → Items → Store → ℕ → Outcome) → Items → ℕ → Stmt → Items → Store → ℕ → Outcome
   step next routine line (Stmt.Assign name e) rest s units =
-      or_fault line (value source.names world s e) (λ v. next routine rest (set_variable s (variable_number (meaning_in source.names name)) v) units)
+      or_fault line (value source.names world s e)
+      (λ v. next routine rest (set_variable s (variable_number (meaning_in source.names name)) v) units)
   step next routine line (Stmt.Cell name index e) rest s units =
       or_fault line
       (and_then (value source.names world s index) (λ i.
@@ -66,13 +67,15 @@ module _ (source : Source) (world : World) where
       set_cell s (array_number (meaning_in source.names name)) i v)))
       (λ s'. next routine rest s' units)
   step next routine line (Stmt.If test first second) rest s units =
-      or_fault line (value source.names world s test) (λ v. next routine ((if holds v then first else second) before rest) s units)
+      or_fault line (value source.names world s test)
+      (λ v. next routine ((if holds v then first else second) before rest) s units)
   step next routine line (Stmt.Goto label) rest s units = next routine (rest_from label routine) s units
   step next routine line (Stmt.Gosub name) rest s units =
       let body = sub_body source.subs (meaning_in source.names name) in
       after_done (next body body s units) (λ s' left. spend line left (λ left'. next routine rest s' left'))
   step next routine line (Stmt.Do kind args) rest s units =
-      or_fault line (and_then (values source.names world s args) (λ vs. command world kind (first_of vs) (second_of vs) s)) (λ s'. next routine rest s' units)
+      or_fault line (and_then (values source.names world s args) (λ vs. command world kind (first_of vs) (second_of vs) s))
+      (λ s'. next routine rest s' units)
   step next routine line (Stmt.Timer kind name) rest s units =
       next routine rest (set_timer s kind (timer_number (meaning_in source.names name))) units
   step next routine line Stmt.Trace rest s units = next routine rest s units
@@ -82,7 +85,8 @@ module _ (source : Source) (world : World) where
   abbrev pub mean_within : ℕ → Items → Items → Store → ℕ → Outcome
   mean_within zero routine todo s units = at_step todo (Done s units) (λ line what rest. Faulted Budget line)
   mean_within (suc depth) routine todo s units =
-      at_step todo (Done s units) (λ line what rest. spend line units (λ left. step (mean_within depth) routine line what rest s left))
+      at_step todo (Done s units)
+      (λ line what rest. spend line units (λ left. step (mean_within depth) routine line what rest s left))
 
   -- the meaning of the items still to do
   abbrev pub mean : Items → Items → Store → ℕ → Outcome

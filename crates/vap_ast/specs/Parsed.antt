@@ -40,7 +40,8 @@ module _ (most : ℕ) where
     pub ParsedStmt : ℕ → Stmt → Type 0
     ParsedStmt ifs (Stmt.Assign target value) = Fits value
     ParsedStmt ifs (Stmt.Cell array index value) = Fits index × Fits value
-    ParsedStmt ifs (Stmt.If test first second) = Fits test × (0 < ifs) × ParsedItems (ifs - 1) first × ParsedItems (ifs - 1) second
+    ParsedStmt ifs (Stmt.If test first second) =
+        Fits test × (0 < ifs) × ParsedItems (ifs - 1) first × ParsedItems (ifs - 1) second
     ParsedStmt ifs (Stmt.Goto label) = Unit {0}
     ParsedStmt ifs (Stmt.Gosub sub) = Unit {0}
     ParsedStmt ifs (Stmt.Do kind args) = FitAll args
