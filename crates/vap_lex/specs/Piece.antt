@@ -86,7 +86,8 @@ number_piece len None = Err NumberRange
 unfoldable pub digits : List ℕ → Result (Piece × ℕ) LexWhy
 digits bytes =
     let len = run_len is_digit (drop 1 bytes) + 1 in
-    if byte_at bytes len == 46 && is_digit (byte_at bytes (len + 1)) then Err Decimal else number_piece len (number (take len bytes))
+    if byte_at bytes len == 46 && is_digit (byte_at bytes (len + 1)) then Err Decimal
+    else number_piece len (number (take len bytes))
 
 -- a comment with its length, where it is closed
 abbrev pub comment_gap : Option ℕ → Result (Piece × ℕ) LexWhy

@@ -38,7 +38,8 @@ pub data End : Type 0 where
 pub data Scans (text : List ℕ) : ℕ → List Token → End → Type 0 where
   ends : (p : ℕ) → length text ≤ p → Scans text p [] done
   refuses : (p : ℕ) (why : LexWhy) → p < length text → front (drop p text) ≡ Err why → Scans text p [] (stuck p why)
-  step : (p n : ℕ) (piece : Piece) (ts : List Token) (e : End) → p < length text → front (drop p text) ≡ Ok (piece, n) → Scans text (p + n) ts e
+  step : (p n : ℕ) (piece : Piece) (ts : List Token) (e : End)
+      → p < length text → front (drop p text) ≡ Ok (piece, n) → Scans text (p + n) ts e
       → Scans text p (found p (line_at text p) (kind_at piece (take n (drop p text))) ++ ts) e
 
 -- the text has these tokens and no place that is refused
