@@ -34,7 +34,8 @@ abbrev pub IsPairOf : ℕ → GroupNo × GroupNo → Type 0
 IsPairOf n pair = (pair.0.0 < n) × (pair.1.0 < n)
 
 -- a cell for each pair of groups, with its seconds where these records have them, and the pairs in the order of the records
-pub record HoldsPairs (plan : PlanOf) (rows : List Row) (cells : List (Option ℕ)) (pairs : List (GroupNo × GroupNo)) : Type 0 where
+pub record HoldsPairs (plan : PlanOf) (rows : List Row) (cells : List (Option ℕ))
+    (pairs : List (GroupNo × GroupNo)) : Type 0 where
   pub size : length cells ≡ 4096
   pub seconds : (i g : ℕ) → cell_of cells i g ≡ listed_seconds plan rows i g
   pub count : length pairs ≡ length rows

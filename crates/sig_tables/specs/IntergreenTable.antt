@@ -33,7 +33,8 @@ is_pair (Some p) i g = (p.0 == i) && (p.1 == g)
 -- the seconds of an ordered pair among these records
 unfoldable pub listed_seconds : PlanOf → List Row → ℕ → ℕ → Option ℕ
 listed_seconds plan [] i g = None
-listed_seconds plan (row ∷ rows) i g = if is_pair (pair_in plan row) i g then Some (unwrap_or (seconds_in row) 0) else listed_seconds plan rows i g
+listed_seconds plan (row ∷ rows) i g =
+    if is_pair (pair_in plan row) i g then Some (unwrap_or (seconds_in row) 0) else listed_seconds plan rows i g
 
 -- the reason to refuse a record whatever stands before it, but for a group with itself
 unfoldable pub intergreen_form : PlanOf → Row → Option TableWhy
@@ -64,7 +65,8 @@ intergreen_reason plan rows row = first_reason (
 -- a pair that is not listed the other way among all records
 abbrev pub one_way : PlanOf → List Row → Option (ℕ × ℕ) → Option TableWhy
 one_way plan all None = None
-one_way plan all (Some p) = when (is_none (listed_seconds plan all p.1 p.0)) (why.OneWay (record { 0 = p.0 }) (record { 0 = p.1 }))
+one_way plan all (Some p) =
+    when (is_none (listed_seconds plan all p.1 p.0)) (why.OneWay (record { 0 = p.0 }) (record { 0 = p.1 }))
 
 -- why a record is refused after all were read: its pair is not listed the other way
 unfoldable pub one_way_reason : PlanOf → List Row → List Row → Row → Option TableWhy

@@ -44,7 +44,9 @@ times_with (Some min) (Some red_amber) (Some amber) = Some (record { min = min; 
 
 -- the numbers of a record, where each is one in its range
 unfoldable pub times_in : Row → Option TimesRow
-times_in row = times_with (within 1 255 (number_of (field row 1))) (within 0 9 (number_of (field row 2))) (within 0 9 (number_of (field row 3)))
+times_in row =
+    times_with (within 1 255 (number_of (field row 1))) (within 0 9 (number_of (field row 2)))
+    (within 0 9 (number_of (field row 3)))
 
 -- times that are there, or those that stand for none
 abbrev pub times_or : Option TimesRow → TimesRow
@@ -54,7 +56,8 @@ times_or (Some row) = row
 -- the times of a group among these records
 unfoldable pub listed_times : PlanOf → List Row → ℕ → Option TimesRow
 listed_times plan [] g = None
-listed_times plan (row ∷ rows) g = if is_group (group_at plan row 0) g then Some (times_or (times_in row)) else listed_times plan rows g
+listed_times plan (row ∷ rows) g =
+    if is_group (group_at plan row 0) g then Some (times_or (times_in row)) else listed_times plan rows g
 
 -- the reason to refuse a record whatever stands before it
 unfoldable pub times_form : PlanOf → Row → Option TableWhy

@@ -118,7 +118,8 @@ impl Listed {
         requires size { length self.old.cells.items ≡ 4096 }
         requires from { entry.from.0 < 64 }
         requires to { entry.to.0 < 64 }
-        ensures cells { IfOk result (λ _. self.new.cells.items ≡ slice_set self.old.cells.items (64 * entry.from.0 + entry.to.0) (Some entry.seconds)) }
+        ensures cells { IfOk result (λ _. self.new.cells.items ≡
+            slice_set self.old.cells.items (64 * entry.from.0 + entry.to.0) (Some entry.seconds)) }
         ensures pairs { IfOk result (λ _. self.new.pairs.items ≡ self.old.pairs.items ++ (entry.from, entry.to) ∷ []) }
         ensures memory { IfErr result (λ e. e ≡ TableRefusal.Memory) }
     {
@@ -133,7 +134,8 @@ impl Listed {
     fn both_ways(&self) -> Result<(), TableRefusal>
         requires size { length self.now.cells.items ≡ 4096 }
         requires at_most { length self.now.pairs.items ≤ 4096 }
-        requires inside { (k : ℕ) → k < length self.now.pairs.items → IsPairOf 64 (slice_index_or self.now.pairs.items k no_pair) }
+        requires inside { (k : ℕ) → k < length self.now.pairs.items →
+            IsPairOf 64 (slice_index_or self.now.pairs.items k no_pair) }
         ensures refused { IfErr result (λ e. (plan : PlanOf) (rows : List Row) →
             HoldsPairs plan rows self.now.cells.items self.now.pairs.items →
             IsRefusal (first_refused (numbered (one_way_reason plan rows)) rows []) e) }

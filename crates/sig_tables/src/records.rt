@@ -38,7 +38,8 @@ impl<'a> Records<'a> {
         requires read { (text : List ℕ) × (rows : List Row) × HasRead self.old text rows }
         ensures more { IfOk result (λ found. found ≡ true → (text : List ℕ) (rows : List Row) →
             HasRead self.old text rows → HasRead self.new text (rows ++ fields_of self.new.row ∷ [])) }
-        ensures end { IfOk result (λ found. found ≡ false → (text : List ℕ) (rows : List Row) → HasRead self.old text rows → table_rows text ≡ rows) }
+        ensures end { IfOk result (λ found. found ≡ false → (text : List ℕ) (rows : List Row) → HasRead self.old text rows →
+            table_rows text ≡ rows) }
         ensures memory { IfErr result (λ e. e ≡ TableRefusal.Memory) }
     {
         match self.reader.read_byte_record(&mut self.row) {

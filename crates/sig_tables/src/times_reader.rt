@@ -60,9 +60,12 @@ fn times_record(row: &ByteRecord, plan: &Plan) -> Result<(GroupNo, TimesRow), Ta
 // Takes the record's times into the place of its group.
 fn add_times(held: &mut [Option<TimesRow>], row: &ByteRecord, plan: &Plan) -> Result<(), TableWhy>
     requires { length held.old ≡ groups_in plan.now }
-    ensures refused { IfErr result (λ why. (rows : List Row) → HoldsTimes plan.now rows held.old → times_reason plan.now rows (fields_of row.now) ≡ Some why) }
-    ensures accepted { IfOk result (λ _. (rows : List Row) → HoldsTimes plan.now rows held.old → times_reason plan.now rows (fields_of row.now) ≡ None) }
-    ensures held { IfOk result (λ _. (rows : List Row) → HoldsTimes plan.now rows held.old → HoldsTimes plan.now (rows ++ fields_of row.now ∷ []) held.new) }
+    ensures refused { IfErr result (λ why. (rows : List Row) → HoldsTimes plan.now rows held.old →
+        times_reason plan.now rows (fields_of row.now) ≡ Some why) }
+    ensures accepted { IfOk result
+        (λ _. (rows : List Row) → HoldsTimes plan.now rows held.old → times_reason plan.now rows (fields_of row.now) ≡ None) }
+    ensures held { IfOk result (λ _. (rows : List Row) → HoldsTimes plan.now rows held.old →
+        HoldsTimes plan.now (rows ++ fields_of row.now ∷ []) held.new) }
     ensures fills { IfOk result (λ _. empties held.new + 1 ≡ empties held.old) }
 {
     let (group, times) = times_record(row, plan)?;
@@ -91,9 +94,12 @@ fn complete(alloc: Global, held: &[Option<TimesRow>]) -> Result<Times, TableRefu
     requires at_least { 1 ≤ length held.now }
     requires at_most { length held.now ≤ 64 }
     requires range { (g : ℕ) → g < length held.now → IsRowOrNone (slice_index_or held.now g None) }
-    ensures missing { IfErr result (λ e. (plan : PlanOf) (rows : List Row) → HoldsTimes plan rows held.now → IsRefusal (missing_times plan rows) e) }
-    ensures complete { IfOk result (λ _. (plan : PlanOf) (rows : List Row) → HoldsTimes plan rows held.now → missing_times plan rows ≡ None) }
-    ensures times { IfOk result (λ t. (plan : PlanOf) (rows : List Row) → HoldsTimes plan rows held.now → t ≡ times_below plan rows (groups_in plan)) }
+    ensures missing { IfErr result
+        (λ e. (plan : PlanOf) (rows : List Row) → HoldsTimes plan rows held.now → IsRefusal (missing_times plan rows) e) }
+    ensures complete { IfOk result
+        (λ _. (plan : PlanOf) (rows : List Row) → HoldsTimes plan rows held.now → missing_times plan rows ≡ None) }
+    ensures times { IfOk result (λ t. (plan : PlanOf) (rows : List Row) → HoldsTimes plan rows held.now →
+        t ≡ times_below plan rows (groups_in plan)) }
 {
     let mut times = Vec::new(alloc);
     for (g, row) in held.iter().enumerate() {
