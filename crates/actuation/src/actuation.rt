@@ -36,7 +36,8 @@ impl Actuation {
     /// 2,147,483,647, and its rears so far within its fronts so far.
     #[tactic(auto, unfolding(crate::specs::Stands::StandsFor))]
     pub fn takes(&self, frame: &Frame) -> bool
-        ensures { (frames : List Counts) (clears : List Clear) → StandsFor self.now frames clears → (IsTrue result ↔ Takes frames frame.now) }
+        ensures { (frames : List Counts) (clears : List Clear) → StandsFor self.now frames clears →
+            (IsTrue result ↔ Takes frames frame.now) }
     {
         self.seconds < MOST_SECONDS && holds(&self.detectors, frame)
     }
@@ -45,7 +46,8 @@ impl Actuation {
     #[tactic(auto, unfolding(crate::specs::Stands::StandsFor))]
     pub fn take(&mut self, frame: &Frame)
         requires { (frames : List Counts) × (clears : List Clear) × StandsFor self.old frames clears × Takes frames frame.now }
-        ensures { (frames : List Counts) (clears : List Clear) → StandsFor self.old frames clears → StandsFor self.new (frames ++ frame.now ∷ []) clears }
+        ensures { (frames : List Counts) (clears : List Clear) → StandsFor self.old frames clears →
+            StandsFor self.new (frames ++ frame.now ∷ []) clears }
     {
         let second = self.seconds + 1;
         advance_all(&mut self.detectors, frame, second);
@@ -57,7 +59,8 @@ impl Actuation {
     #[tactic(auto, unfolding(crate::specs::Stands::StandsFor))]
     pub fn reading(&self, kind: ReadingKind, d: i32) -> Option<i32>
         requires { is_detector kind ≡ true }
-        ensures { (frames : List Counts) (clears : List Clear) → StandsFor self.now frames clears → 0 < length frames → ClearsUntil clears (length frames - 1) →
+        ensures { (frames : List Counts) (clears : List Clear) → StandsFor self.now frames clears → 0 < length frames →
+            ClearsUntil clears (length frames - 1) →
             result ≡ detector_reading frames clears kind d }
     {
         match DetNo::named(d) {

@@ -63,7 +63,8 @@ pub fn advance_all(detectors: &mut [Detector; 64], frame: &Frame, second: u32)
     requires size { length detectors.old ≡ 64 }
     requires holds { (p : ℕ) → p < 64 → HoldsAt detectors.old frame.now p }
     requires second { 1 ≤ second }
-    ensures each { (p : ℕ) → p < 64 → at detectors.new p ≡ advanced (at detectors.old p) (slice_index_or frame.now p (0, 0)) second }
+    ensures each { (p : ℕ) → p < 64 →
+        at detectors.new p ≡ advanced (at detectors.old p) (slice_index_or frame.now p (0, 0)) second }
     ensures size { length detectors.new ≡ 64 }
 {
     let (low, high) = frame.span();
