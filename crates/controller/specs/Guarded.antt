@@ -34,7 +34,8 @@ WouldBreak rules h wishes turn =
     BreaksRule rules (h ++ obeyed rules h wishes turn.group.0 ∷ []) turn.group.0 turn.rule (place_of turn.other)
 
 -- a stage command of second k was refused: its rule refuses it in the place where the commands before it left the junction
-pub record IsRefusedStage (plan : PlanOf) (k : ℕ) (orders : List Order) (commands : List Command) (r : StageRefusal) : Type 0 where
+pub record IsRefusedStage (plan : PlanOf) (k : ℕ) (orders : List Order) (commands : List Command)
+    (r : StageRefusal) : Type 0 where
   pub before : List Command
   pub later : List Command
   pub given : commands ≡ before ++ Interstage r.from r.to ∷ later
@@ -68,5 +69,6 @@ pub record IsGuardedRun (logic : Logic) (site : Site) (store : Store) (frames : 
 -- whatever decides its passes, whatever its store and its frames
 abbrev pub RunsAreGuarded : Type 0
 RunsAreGuarded =
-    (logic : Logic) (site : Site) (store : Store) (frames : List Counts) → IsTwoWay site.rules → site.rules.count ≡ groups_in site.plan →
+    (logic : Logic) (site : Site) (store : Store) (frames : List Counts) → IsTwoWay site.rules →
+    site.rules.count ≡ groups_in site.plan →
     IsGuardedRun logic site store frames

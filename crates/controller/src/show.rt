@@ -39,7 +39,8 @@ fn settled_in(
     wishes: &Wishes,
 ) -> Option<StageNo>
     requires { length wishes.now ≡ (rules guard.now).count }
-    ensures { ForSome result (λ stage. (1 ≤ stage.0) × (place ≡ StagePlace.Stage stage) × (commands.now ≡ []) × ShowsWishes guard.now wishes.now) }
+    ensures { ForSome result
+        (λ stage. (1 ≤ stage.0) × (place ≡ StagePlace.Stage stage) × (commands.now ≡ []) × ShowsWishes guard.now wishes.now) }
 {
     match place {
         StagePlace::Stage(stage) if 1 <= stage.0 && commands.is_empty() && guard.shows(wishes) => {
@@ -53,7 +54,8 @@ fn settled_in(
 fn is_settled(commands: &[Command], settled: Option<StageNo>, stages: &StageState) -> bool
     requires { ForSome settled (λ stage. 1 ≤ stage.0) }
     ensures { result ≡ true → (stage : StageNo) × (settled ≡ Some stage) × (commands.now ≡ [])
-        × ((plan : PlanOf) (orders : List Order) (k : ℕ) → StagesStand stages.now plan orders k → place_at plan orders k ≡ StagePlace.Stage stage) }
+        × ((plan : PlanOf) (orders : List Order) (k : ℕ) → StagesStand stages.now plan orders k →
+        place_at plan orders k ≡ StagePlace.Stage stage) }
 {
     match settled {
         None => false,
@@ -82,10 +84,12 @@ pub fn show(
     ensures groups { length wishes.new ≡ groups_in plan.now }
     ensures wishes { (orders : List Order) (k : ℕ) → StagesStand stages.now plan.now orders k →
         wishes.new ≡ wishes_of plan.now (place_at plan.now orders k) commands.now }
-    ensures place { (orders : List Order) (k : ℕ) → StagesStand stages.now plan.now orders k → last.new.place ≡ place_at plan.now orders k }
+    ensures place { (orders : List Order) (k : ℕ) → StagesStand stages.now plan.now orders k →
+        last.new.place ≡ place_at plan.now orders k }
     ensures rules { rules guard.new ≡ rules guard.old }
     ensures seconds { seconds_made guard.new ≡ seconds_made guard.old + 1 }
-    ensures history { (h : History) → GuardStands guard.old h → GuardStands guard.new (h ++ guard_picture (rules guard.old) h wishes.new ∷ []) }
+    ensures history { (h : History) → GuardStands guard.old h →
+        GuardStands guard.new (h ++ guard_picture (rules guard.old) h wishes.new ∷ []) }
     ensures picture { last.new.picture ≡ picture_of guard.new }
     ensures size { length last.new.picture ≡ groups_in plan.now }
     ensures refused { (h : History) → GuardStands guard.old h → last.new.turns ≡ guard_refused (rules guard.old) h wishes.new }

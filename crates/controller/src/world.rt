@@ -46,22 +46,21 @@ impl SecondWorld<'_> {
     ghost use Rattle.controller.specs.Past.{Past, next};
     ghost use Rattle.sig_types.specs.Counts.{Counts};
     ghost use Rattle.controller.specs.Standing.{Standing};
-    ghost use Rattle.controller.specs.World.{reading_in, shown_in, of_named, of_both, place_before};
-    ghost use Rattle.stage_machine.specs.Orders.{is_stage, since_at};
-    ghost use Rattle.pua_model.specs.Plan.{group_of, stage_of};
-    ghost use Rattle.sig_types.specs.Turns.{trace, is_green, is_red};
-    ghost use Rattle.sig_types.specs.Words.{run_to};
+    ghost use Rattle.controller.specs.World.{shown_in, green_for, red_for, is_in_stage, stage_for, is_in_interstage};
+    ghost use Rattle.sig_types.specs.Turns.{trace};
 
     fn last_aspect(&self, group: GroupNo) -> Aspect
         requires { group.0 < groups_in self.now.plan.now }
-        ensures { (past : Past) (frames : List Counts) → Standing self.now.plan.now self.now.guard.now self.now.stages.now self.now.actuation.now past frames →
+        ensures { (past : Past) (frames : List Counts) →
+            Standing self.now.plan.now self.now.guard.now self.now.stages.now self.now.actuation.now past frames →
             result ≡ trace past.history group.0 (next past - 1) }
     {
         self.guard.picture().get(group.0)
     }
 
     fn shows(&self, number: i32, aspect: Aspect) -> Option<i32>
-        ensures { (past : Past) (frames : List Counts) → Standing self.now.plan.now self.now.guard.now self.now.stages.now self.now.actuation.now past frames →
+        ensures { (past : Past) (frames : List Counts) →
+            Standing self.now.plan.now self.now.guard.now self.now.stages.now self.now.actuation.now past frames →
             result ≡ shown_in self.now.plan.now past number aspect }
     {
         match self.plan.find_group(number) {
@@ -71,8 +70,9 @@ impl SecondWorld<'_> {
     }
 
     fn green_seconds(&self, number: i32) -> Option<i32>
-        ensures { (past : Past) (frames : List Counts) → Standing self.now.plan.now self.now.guard.now self.now.stages.now self.now.actuation.now past frames →
-            result ≡ of_named (group_of self.now.plan.now number) (λ g. pos (run_to (λ t. is_green (trace past.history g t)) (next past - 1))) }
+        ensures { (past : Past) (frames : List Counts) →
+            Standing self.now.plan.now self.now.guard.now self.now.stages.now self.now.actuation.now past frames →
+            result ≡ green_for self.now.plan.now past number }
     {
         match self.plan.find_group(number) {
             None => None,
@@ -81,8 +81,9 @@ impl SecondWorld<'_> {
     }
 
     fn red_seconds(&self, number: i32) -> Option<i32>
-        ensures { (past : Past) (frames : List Counts) → Standing self.now.plan.now self.now.guard.now self.now.stages.now self.now.actuation.now past frames →
-            result ≡ of_named (group_of self.now.plan.now number) (λ g. pos (run_to (λ t. is_red (trace past.history g t)) (next past - 1))) }
+        ensures { (past : Past) (frames : List Counts) →
+            Standing self.now.plan.now self.now.guard.now self.now.stages.now self.now.actuation.now past frames →
+            result ≡ red_for self.now.plan.now past number }
     {
         match self.plan.find_group(number) {
             None => None,
@@ -91,8 +92,9 @@ impl SecondWorld<'_> {
     }
 
     fn stage_active(&self, number: i32) -> Option<i32>
-        ensures { (past : Past) (frames : List Counts) → Standing self.now.plan.now self.now.guard.now self.now.stages.now self.now.actuation.now past frames →
-            result ≡ of_named (stage_of self.now.plan.now number) (λ s. truth (is_stage (place_before self.now.plan.now past) s)) }
+        ensures { (past : Past) (frames : List Counts) →
+            Standing self.now.plan.now self.now.guard.now self.now.stages.now self.now.actuation.now past frames →
+            result ≡ is_in_stage self.now.plan.now past number }
     {
         match self.plan.find_stage(number) {
             None => None,
@@ -101,9 +103,10 @@ impl SecondWorld<'_> {
     }
 
     fn stage_duration(&self, number: i32) -> Option<i32>
-        ensures { (past : Past) (frames : List Counts) → Standing self.now.plan.now self.now.guard.now self.now.stages.now self.now.actuation.now past frames →
+        ensures { (past : Past) (frames : List Counts) →
+            Standing self.now.plan.now self.now.guard.now self.now.stages.now self.now.actuation.now past frames →
             self.now.second ≡ next past →
-            result ≡ of_named (stage_of self.now.plan.now number) (λ s. if is_stage (place_before self.now.plan.now past) s then pos (next past - since_at self.now.plan.now past.orders (next past)) else pos 0) }
+            result ≡ stage_for self.now.plan.now past number }
     {
         match self.plan.find_stage(number) {
             None => None,
@@ -118,8 +121,9 @@ impl SecondWorld<'_> {
     }
 
     fn interstage_active(&self, a: i32, b: i32) -> Option<i32>
-        ensures { (past : Past) (frames : List Counts) → Standing self.now.plan.now self.now.guard.now self.now.stages.now self.now.actuation.now past frames →
-            result ≡ of_both (stage_of self.now.plan.now a) (stage_of self.now.plan.now b) (λ m n. truth (is_between (place_before self.now.plan.now past) m n)) }
+        ensures { (past : Past) (frames : List Counts) →
+            Standing self.now.plan.now self.now.guard.now self.now.stages.now self.now.actuation.now past frames →
+            result ≡ is_in_interstage self.now.plan.now past a b }
     {
         match (self.plan.find_stage(a), self.plan.find_stage(b)) {
             (Some(from), Some(to)) => Some(truth(is_between(self.stages.place(), from, to))),
@@ -137,7 +141,8 @@ impl SecondWorld<'_> {
     #[tactic(auto, unfolding(crate::specs::World::reading_in))]
     #[inline(always)]
     fn read_in(&self, kind: ReadingKind, a: i32, b: i32) -> Option<i32>
-        ensures { (past : Past) (frames : List Counts) → Standing self.now.plan.now self.now.guard.now self.now.stages.now self.now.actuation.now past frames →
+        ensures { (past : Past) (frames : List Counts) →
+            Standing self.now.plan.now self.now.guard.now self.now.stages.now self.now.actuation.now past frames →
             self.now.second ≡ next past →
             result ≡ reading_in self.now.plan.now past frames kind a b }
     {
