@@ -473,7 +473,8 @@ declared_arrays d = arrays d.1 >>= (λ arrays_. pure (d.0, arrays_))
 
 -- one line of declarations
 unfoldable pub one_declaration : Declared → Parser Declared
-one_declaration d = either (is k.VapFrequency) (declared_frequency d) (either (is k.Const) (declared_constants d) (declared_arrays d))
+one_declaration d =
+    either (is k.VapFrequency) (declared_frequency d) (either (is k.Const) (declared_constants d) (declared_arrays d))
 
 -- one line of declarations, and semicolons
 unfoldable pub declaration : Declared → Parser Declared

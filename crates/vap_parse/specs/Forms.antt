@@ -25,7 +25,8 @@ abbrev pub Form : Type 0 → Type 1
 Form A = ℕ → List Marked → A → ℕ → Type 0
 
 -- one token of those that `pick` picks, with its mark
-pub data Picks {A : Type 0} (pick : Token → Option A) (mark : ℕ → Token → Mark) (left : ℕ → ℕ) : ℕ → List Marked → A → ℕ → Type 0 where
+pub data Picks {A : Type 0} (pick : Token → Option A) (mark : ℕ → Token → Mark) (left : ℕ → ℕ) : ℕ → List Marked → A → ℕ →
+    Type 0 where
   picks : (o : ℕ) (t : Token) (x : A) → pick t ≡ Some x → Picks pick mark left o ((t, mark o t) ∷ []) x (left o)
 
 -- no token
@@ -53,8 +54,10 @@ pub data Anew {A : Type 0} (P : Form A) : ℕ → List Marked → A → ℕ → 
 -- Any tokens up to the one that closes a round bracket, where `depth` more round brackets are open.
 pub data Inside : ℕ → List Marked → Type 0 where
   last : (t : Token) → kind_of t.kind ≡ k.Close → Inside zero ((t, fine) ∷ [])
-  shut : (depth : ℕ) (t : Token) (ms : List Marked) → kind_of t.kind ≡ k.Close → Inside depth ms → Inside (suc depth) ((t, fine) ∷ ms)
-  opened : (depth : ℕ) (t : Token) (ms : List Marked) → kind_of t.kind ≡ k.Open → Inside (depth + 1) ms → Inside depth ((t, fine) ∷ ms)
+  shut : (depth : ℕ) (t : Token) (ms : List Marked) → kind_of t.kind ≡ k.Close → Inside depth ms →
+      Inside (suc depth) ((t, fine) ∷ ms)
+  opened : (depth : ℕ) (t : Token) (ms : List Marked) → kind_of t.kind ≡ k.Open → Inside (depth + 1) ms →
+      Inside depth ((t, fine) ∷ ms)
   other : (depth : ℕ) (t : Token) (ms : List Marked) → (kind_of t.kind ≡ k.Open → ⊥) → (kind_of t.kind ≡ k.Close → ⊥) →
       Inside depth ms → Inside depth ((t, fine) ∷ ms)
 

@@ -37,4 +37,5 @@ refusal_of all rest reason = refusal.At (line_of all rest) (why_of all rest reas
 -- the tokens are refused so
 abbrev pub IsRefused : List Token → ParseRefusal → Type 0
 IsRefused ts refusal.Memory = Unit {0}
-IsRefused ts (refusal.At line reason) = (rest : List Token) × (why : Reason) × Refuses ts why rest × (refusal.At line reason ≡ refusal_of ts rest why)
+IsRefused ts (refusal.At line reason) =
+    (rest : List Token) × (why : Reason) × Refuses ts why rest × (refusal.At line reason ≡ refusal_of ts rest why)

@@ -67,7 +67,8 @@ fn constants(
     tokens: &mut Cursor<'_>,
     consts: &mut Vec<ConstDecl>,
 ) -> Result<(), Stop>
-    ensures { Leaves (rule.constants (map constant_of consts.old.items) tokens.old) result (map constant_of consts.new.items) tokens.new }
+    ensures { Leaves (rule.constants (map constant_of consts.old.items) tokens.old)
+        result (map constant_of consts.new.items) tokens.new }
 {
     tokens.expect(Kind::Const)?;
     let first = constant(alloc, tokens)?;
@@ -77,7 +78,8 @@ fn constants(
 
 #[tactic(auto, unfolding(crate::specs::Descent::next_value))]
 fn more_values(tokens: &mut Cursor<'_>, values: &mut Vec<i32>) -> Result<(), Stop>
-    ensures { Leaves (spec.many (rule.is kind.Comma) rule.next_value values.old.items tokens.old) result values.new.items tokens.new }
+    ensures { Leaves (spec.many (rule.is kind.Comma) rule.next_value values.old.items tokens.old)
+        result values.new.items tokens.new }
 {
     while tokens.sees(Kind::Comma) {
         tokens.expect(Kind::Comma)?;
@@ -203,7 +205,8 @@ pub fn declarations(
     consts: &mut Vec<ConstDecl>,
     arrays: &mut Vec<ArrayDecl>,
 ) -> Result<(), Stop>
-    ensures { Leaves (spec.many rule.declares rule.declaration (map constant_of consts.old.items, map array_of arrays.old.items) tokens.old)
+    ensures { Leaves
+        (spec.many rule.declares rule.declaration (map constant_of consts.old.items, map array_of arrays.old.items) tokens.old)
         result (map constant_of consts.new.items, map array_of arrays.new.items) tokens.new }
 {
     while declares(tokens.peek()) {
