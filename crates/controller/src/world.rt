@@ -2,7 +2,6 @@
 ghost use Rattle.std.specs.Prelude.{◌≡◌, ◌-◌, ◌<◌, ◌^◌, List, Option, Some, None, IfSome};
 ghost use Rattle.controller.specs.Commanded.{IsCommand};
 ghost use Rattle.sig_types.specs.Number.{truth};
-ghost use Rattle.std.specs.Prelude.{pos, if◌then◌else◌};
 ghost use Rattle.controller.specs.World.{is_between, is_inter, command_in};
 ghost use Rattle.controller.specs.Standing.{MeansWorld};
 ghost use Rattle.sig_guard.specs.Stands.{rules};
