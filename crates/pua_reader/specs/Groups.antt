@@ -1,8 +1,8 @@
 -- Rows of signal groups.
-use Rattle.std.specs.Prelude.{ℕ, ◌+◌, ◌==◌, Bool, not, ◌&&◌, ◌||◌, List, [], ◌∷◌, length, Option, Some, None, if◌then◌else◌, nat_lt, nat_le}
+use Rattle.std.specs.Prelude.{ℕ, ◌≡◌, ◌+◌, ◌==◌, Bool, true, not, ◌&&◌, ◌||◌, List, [], ◌∷◌, length, Option, Some, None, if◌then◌else◌, nat_lt, nat_le}
 use Rattle.std.specs.List.{list_any, position}
 use Rattle.sig_types.specs.FirstRefused.{first_reason}
-use Rattle.sig_types.specs.Text.{same_name, number_of, is_name}
+use Rattle.sig_types.specs.Text.{same_name, number_of, is_name, within}
 use Rattle.pua_model.specs.declared.parts.Group.{Group}
 use Rattle.pua_reader.specs.declared.refusal.PuaWhy.{PuaWhy}
 use Rattle.pua_reader.specs.declared.refusal.PuaWhy.TheVariants as why
@@ -20,6 +20,11 @@ group_row place [] = None
 group_row place (name ∷ []) = if is_name name then Some (record { name = name; number = place }) else None
 group_row place (name ∷ number ∷ []) = if is_name name then numbered name (number_of number) else None
 group_row place (a ∷ b ∷ c ∷ more) = None
+
+-- the row has this name, and this number where it is 1 to 255
+abbrev pub HasParts : ℕ → List Text → Text → Option ℕ → Type 0
+HasParts place ws name number = (n : ℕ) × (group_row place ws ≡ Some (record { name = name; number = n }))
+    × (number ≡ within 1 255 (Some n)) × (is_name name ≡ true)
 
 -- one of the groups has this name, in any case
 abbrev pub has_name : List Group → Text → Bool

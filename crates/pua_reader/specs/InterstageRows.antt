@@ -10,10 +10,10 @@ use Rattle.pua_reader.specs.declared.section.Section.{Section}
 use Rattle.pua_reader.specs.declared.section.Section.TheVariants as section
 use Rattle.pua_reader.specs.declared.section.Kind.{Kind}
 use Rattle.pua_reader.specs.declared.section.Kind.TheVariants.{Passed, Begins, Row}
-use Rattle.pua_reader.specs.Words.{Text, words, kind_of, signed_of}
+use Rattle.pua_reader.specs.Words.{Text, words, kind_of}
 use Rattle.pua_reader.specs.Groups.{place_of}
 use Rattle.pua_reader.specs.Stages.{stage_of}
-use Rattle.pua_reader.specs.Interstages.{form_of, word, last_word, end_or_none}
+use Rattle.pua_reader.specs.Interstages.{form_of, word, last_word, spelled_end}
 use Rattle.pua_reader.specs.PlanDraft.{is_interstage}
 use Rattle.pua_reader.specs.Accepted.{lines_in, refusal_of, plan_of_text}
 use Rattle.pua_reader.specs.SectionRows.{section_with, file_groups, file_stages}
@@ -71,11 +71,12 @@ unfoldable pub ends_in : List Group → List (List Text) → ℕ → Option (ℤ
 ends_in groups [] g = None
 ends_in groups (row ∷ rows) g =
     if same_form form.Ends (form_of row) && names_place (place_of groups (word row 0)) g
-    then Some (end_or_none (signed_of (word row 1)), end_or_none (signed_of (word row 2)))
+    then Some (spelled_end (word row 1), spelled_end (word row 2))
     else ends_in groups rows g
 
 -- The rows of a section give this interstage: its length is the value of the only row of a length, its stages are those that the
--- only rows of the from-stage and of the to-stage name, and each group has the red end and the green end of the row that names it.
+-- only rows of the from-stage and of the to-stage name, and each group has the red end and the green end of the row that names
+-- it.
 pub record GivesInterstage (groups : List Group) (stages : List Stage) (rows : List (List Text)) (w : InterstageOf) : Type 0 where
   pub seconds : (value : Text) × (values form.Length rows ≡ value ∷ []) × (number_of value ≡ Some w.length)
   pub from : (value : Text) × (values form.From rows ≡ value ∷ []) × (stage_of stages value ≡ Some (record { 0 = w.from }))
@@ -87,9 +88,11 @@ abbrev pub GiveInterstages : List Group → List Stage → List (List (List Text
 GiveInterstages groups stages [] [] = Unit {0}
 GiveInterstages groups stages [] (w ∷ ws) = ⊥
 GiveInterstages groups stages (rows ∷ more) [] = ⊥
-GiveInterstages groups stages (rows ∷ more) (w ∷ ws) = GivesInterstage groups stages rows w × GiveInterstages groups stages more ws
+GiveInterstages groups stages (rows ∷ more) (w ∷ ws) =
+    GivesInterstage groups stages rows w × GiveInterstages groups stages more ws
 
 -- an accepted file's interstages are those of its sections of interstages
 abbrev pub InterstagesAreTheirSections : Type 0
 InterstagesAreTheirSections = (bytes : Text) → refusal_of bytes ≡ None →
-    GiveInterstages (file_groups (lines_in bytes)) (file_stages (lines_in bytes)) (interstage_sections (lines_in bytes)) (plan_of_text bytes).interstages
+    GiveInterstages (file_groups (lines_in bytes)) (file_stages (lines_in bytes)) (interstage_sections (lines_in bytes))
+    (plan_of_text bytes).interstages

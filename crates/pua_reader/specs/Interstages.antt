@@ -78,6 +78,10 @@ abbrev pub end_or_none : Option ℤ → ℤ
 end_or_none None = pos 0
 end_or_none (Some e) = e
 
+-- the end that a word spells, or 0
+abbrev pub spelled_end : Text → ℤ
+spelled_end w = end_or_none (signed_of w)
+
 -- the word at a place of a row
 abbrev pub word : List Text → ℕ → Text
 word ws i = slice_index_or ws i []
@@ -115,7 +119,7 @@ form_why form.Length groups stages current ws = length_reasons current.length (o
 form_why form.From groups stages current ws = stage_reasons current.from (stage_of stages (last_word ws))
 form_why form.To groups stages current ws = stage_reasons current.to (stage_of stages (last_word ws))
 form_why form.Ends groups stages current ws =
-    ends_reasons current.rows (place_of groups (word ws 0)) (end_or_none (signed_of (word ws 1))) (end_or_none (signed_of (word ws 2)))
+    ends_reasons current.rows (place_of groups (word ws 0)) (spelled_end (word ws 1)) (spelled_end (word ws 2))
 
 -- why a row is refused in the section of the current interstage
 abbrev pub interstage_row_why : List Group → List Stage → OpenInterstageOf → List Text → Option PuaWhy
@@ -134,7 +138,9 @@ open_after_form form.Length groups stages current ws = record current { length =
 open_after_form form.From groups stages current ws = record current { from = stage_of stages (last_word ws) }
 open_after_form form.To groups stages current ws = record current { to = stage_of stages (last_word ws) }
 open_after_form form.Ends groups stages current ws =
-    record current { rows = set_row current.rows (place_of groups (word ws 0)) (end_or_none (signed_of (word ws 1))) (end_or_none (signed_of (word ws 2))) }
+    record current {
+      rows = set_row current.rows (place_of groups (word ws 0)) (spelled_end (word ws 1)) (spelled_end (word ws 2));
+    }
 
 -- the current interstage with what a row gives it
 abbrev pub open_after : List Group → List Stage → OpenInterstageOf → List Text → OpenInterstageOf
@@ -158,7 +164,9 @@ greens_in stages s g = slice_index_or (slice_index_or stages (s - 1) (record { n
 -- the lowest group that an interstage does not lead from its place in the one stage to that in the other
 abbrev pub first_inconsistent : ℕ → List Stage → InterstageOf → Option ℕ
 first_inconsistent groups stages w =
-    least_below (λ g. not (leads (slice_index_or w.rows g None) (greens_in stages w.from g) (greens_in stages w.to g) w.length)) groups
+    least_below
+    (λ g. not (leads (slice_index_or w.rows g None) (greens_in stages w.from g) (greens_in stages w.to g) w.length))
+    groups
 
 -- the reason to refuse an interstage by its number and the first group that it leads wrongly, if there is one
 abbrev pub inconsistent_why : ℕ → List Group → Option ℕ → Option PuaWhy

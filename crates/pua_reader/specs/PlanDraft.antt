@@ -78,12 +78,15 @@ is_interstage _ = false
 -- where an interstage's section ends, it is judged as a whole, with the line of its section line
 unfoldable pub interstage_end_why : PlanDraftOf → Option (ℕ × PuaWhy)
 interstage_end_why g =
-    if is_interstage g.section then at_line g.current.line (interstage_reasons g.groups g.stages g.interstages (interstage_of g.current)) else None
+    if is_interstage g.section
+    then at_line g.current.line (interstage_reasons g.groups g.stages g.interstages (interstage_of g.current))
+    else None
 
 -- the draft after the end of its section: that of an interstage adds it
 unfoldable pub after_section_end : PlanDraftOf → PlanDraftOf
 after_section_end g =
-    if is_interstage g.section then record g { interstages = interstages_with g.interstages (interstage_of g.current); current = open_at 0 0 }
+    if is_interstage g.section
+    then record g { interstages = interstages_with g.interstages (interstage_of g.current); current = open_at 0 0 }
     else g
 
 -- why the section line that begins section s is refused
@@ -96,7 +99,9 @@ section_why g s line = first_reason (
 
 -- the draft after the section line that begins section s
 unfoldable pub after_section_line : PlanDraftOf → Section → PlanDraftOf
-after_section_line g s = if is_interstage s then record g { section = s; current = open_at g.lines (length g.groups) } else record g { section = s }
+after_section_line g s =
+    if is_interstage s then record g { section = s; current = open_at g.lines (length g.groups) }
+    else record g { section = s }
 
 -- one more line is counted
 abbrev pub at_next_line : PlanDraftOf → PlanDraftOf

@@ -80,7 +80,8 @@ unfoldable pub stages_from : List Group → List (List Text) → List Stage
 stages_from groups [] = []
 stages_from groups ([] ∷ rows) = stages_from groups rows
 stages_from groups ((name ∷ named) ∷ rows) =
-    if is_red_word name then stages_from groups rows else record { name = name; greens = greens_of groups named } ∷ stages_from groups rows
+    if is_red_word name then stages_from groups rows
+    else record { name = name; greens = greens_of groups named } ∷ stages_from groups rows
 
 -- the stages of a file: those of the rows of its section of stages, in their order
 unfoldable pub file_stages : List Text → List Stage
@@ -94,7 +95,8 @@ pub record SaysItsRows (plan : PlanOf) (lines : List Text) : Type 0 where
   pub numbers : plan.numbers ≡ map (λ g. g.number) (file_groups lines)
   pub stage_names : plan.stage_names ≡ map (λ s. s.name) (file_stages lines)
   pub stages : plan.stages ≡ map (λ s. s.greens) (file_stages lines)
-  pub start : (word : Text) × (rows_in section.Start lines ≡ (word ∷ []) ∷ []) × (stage_of (file_stages lines) word ≡ Some (record { 0 = plan.start }))
+  pub start : (word : Text) × (rows_in section.Start lines ≡ (word ∷ []) ∷ [])
+      × (stage_of (file_stages lines) word ≡ Some (record { 0 = plan.start }))
 
 -- an accepted file's plan says what its rows say
 abbrev pub PlanSaysItsRows : Type 0

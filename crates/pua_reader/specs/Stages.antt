@@ -46,7 +46,8 @@ is_green_in groups greens w = green_at greens (place_of groups w)
 -- why a row `red GROUP GROUP ..` is refused; it stands right after a stage row and names groups that are red in that stage
 unfoldable pub red_reasons : List Group → List Stage → Bool → List Text → Option PuaWhy
 red_reasons groups stages after_stage named = first_reason (
-    when (not after_stage || (length named == 0) || not (list_all is_name named) || list_any (is_green_in groups (last_greens stages)) named) why.Row
+    when (not after_stage || (length named == 0) || not (list_all is_name named)
+    || list_any (is_green_in groups (last_greens stages)) named) why.Row
     ∷ when (not (are_apart named)) why.NameTwice
     ∷ when (not (list_all (has_name groups) named)) why.UnknownName
     ∷ [])

@@ -154,7 +154,8 @@ impl PlanDraft {
     // Begins a section.
     #[tactic(auto, unfolding(crate::specs::PlanDraft::after_section_line))]
     fn begin(&mut self, alloc: Global, section: Section) -> Result<(), PuaRefusal>
-        ensures { MatchResult result (λ _. draft_value self.new ≡ after_section_line (draft_value self.old) section) (λ refusal. refusal ≡ PuaRefusal.Memory) }
+        ensures { MatchResult result (λ _. draft_value self.new ≡ after_section_line (draft_value self.old) section)
+            (λ refusal. refusal ≡ PuaRefusal.Memory) }
     {
         self.section = section;
         if section == Section::Interstage {
@@ -175,7 +176,8 @@ impl PlanDraft {
     ) -> Result<(), PuaRefusal>
         requires { Legal (draft_value self.old) }
         ensures { MatchResult result
-            (λ _. (kind_why (Kind.Begins section) (draft_value self.old) line.now ≡ None) × (draft_value self.new ≡ after_kind (Kind.Begins section) (draft_value self.old) line.now))
+            (λ _. (kind_why (Kind.Begins section) (draft_value self.old) line.now ≡ None)
+            × (draft_value self.new ≡ after_kind (Kind.Begins section) (draft_value self.old) line.now))
             (λ refusal. RefusedAs refusal (kind_why (Kind.Begins section) (draft_value self.old) line.now)) }
     {
         self.close(alloc)?;

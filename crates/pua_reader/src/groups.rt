@@ -3,7 +3,7 @@ ghost use Rattle.std.specs.Prelude.{nat_lt, ◌≡◌, ◌==◌, ◌≤◌, ◌<
 ghost use Rattle.std.specs.List.{position, position_or_len};
 ghost use Rattle.sig_types.specs.Text.{is_name, within, number_of};
 ghost use Rattle.pua_model.specs.Plan.{is_above};
-ghost use Rattle.pua_reader.specs.Groups.{has_name, has_number, group_reasons, group_why, group_row, put, groups_with};
+ghost use Rattle.pua_reader.specs.Groups.{HasParts, has_name, has_number, group_reasons, group_why, group_row, put, groups_with};
 ghost use Rattle.pua_reader.specs.Rules.{RowStopIs};
 
 use crate::refusal::{PuaWhy, RowStop};
@@ -41,7 +41,7 @@ fn number_in_range(word: &[u8]) -> Option<u8>
 fn row_parts<'a>(place: u8, words: &[&'a [u8]]) -> Option<(&'a [u8], Option<u8>)>
     requires at_least { 1 ≤ place }
     ensures { MatchOption result (group_row place (map (λ w. w.now) words.now) ≡ None)
-        (λ p. (n : ℕ) × ((group_row place (map (λ w. w.now) words.now) ≡ Some (record { name = p.0.now; number = n })) × (p.1 ≡ within 1 255 (Some n)) × (is_name p.0.now ≡ true))) }
+        (λ p. HasParts place (map (λ w. w.now) words.now) p.0.now p.1) }
 {
     match words {
         [name] if is_name(name) => Some((name, Some(place))),

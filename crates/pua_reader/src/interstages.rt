@@ -5,7 +5,7 @@ ghost use Rattle.sig_types.specs.Text.{number_of};
 ghost use Rattle.pua_model.specs.Wish.{leads};
 ghost use Rattle.pua_model.specs.Plan.{joins};
 ghost use Rattle.pua_reader.specs.Words.{signed_of};
-ghost use Rattle.pua_reader.specs.Interstages.{open_at, form_of, interstage_row_why, open_after, length_reasons, stage_reasons, ends_reasons, or_none, end_or_none, word, last_word, form_why, open_after_form, interstage_by_keys, first_inconsistent, greens_in, interstage_reasons};
+ghost use Rattle.pua_reader.specs.Interstages.{open_at, form_of, interstage_row_why, open_after, length_reasons, stage_reasons, ends_reasons, or_none, spelled_end, word, last_word, form_why, open_after_form, interstage_by_keys, first_inconsistent, greens_in, interstage_reasons};
 ghost use Rattle.pua_reader.specs.Stages.{stage_of};
 ghost use Rattle.pua_reader.specs.Groups.{place_of};
 
@@ -31,7 +31,8 @@ pub(crate) struct OpenInterstage {
 #[tactic(auto, unfolding(crate::specs::Interstages::length_reasons))]
 fn length_of(given: Option<u8>, word: &[u8]) -> Result<u8, PuaWhy>
     requires { is_some (number_of word.now) ≡ true }
-    ensures { MatchResult result (λ n. (length_reasons given (or_none (number_of word.now)) ≡ None) × (number_of word.now ≡ Some n))
+    ensures { MatchResult result
+        (λ n. (length_reasons given (or_none (number_of word.now)) ≡ None) × (number_of word.now ≡ Some n))
         (λ why. length_reasons given (or_none (number_of word.now)) ≡ Some why) }
 {
     if given.is_some() {
@@ -46,7 +47,8 @@ fn length_of(given: Option<u8>, word: &[u8]) -> Result<u8, PuaWhy>
 #[tactic(auto, unfolding(crate::specs::Interstages::stage_reasons))]
 fn stage_key(given: Option<StageNo>, stages: &[Stage], word: &[u8]) -> Result<StageNo, PuaWhy>
     requires { length stages.now ≤ 32 }
-    ensures { MatchResult result (λ s. (stage_reasons given (stage_of stages.now word.now) ≡ None) × (stage_of stages.now word.now ≡ Some s))
+    ensures { MatchResult result
+        (λ s. (stage_reasons given (stage_of stages.now word.now) ≡ None) × (stage_of stages.now word.now ≡ Some s))
         (λ why. stage_reasons given (stage_of stages.now word.now) ≡ Some why) }
 {
     if given.is_some() {
@@ -71,9 +73,11 @@ fn ends_of(
     requires red_end { is_some (signed_of red_end.now) ≡ true }
     requires green_end { is_some (signed_of green_end.now) ≡ true }
     ensures { MatchResult result
-        (λ p. (ends_reasons rows.now (place_of groups.now name.now) (end_or_none (signed_of red_end.now)) (end_or_none (signed_of green_end.now)) ≡ None)
-        × (place_of groups.now name.now ≡ Some p.0) × (signed_of red_end.now ≡ Some p.1.0) × (signed_of green_end.now ≡ Some p.1.1))
-        (λ why. ends_reasons rows.now (place_of groups.now name.now) (end_or_none (signed_of red_end.now)) (end_or_none (signed_of green_end.now)) ≡ Some why) }
+        (λ p. (ends_reasons rows.now (place_of groups.now name.now) (spelled_end red_end.now) (spelled_end green_end.now) ≡ None)
+        × (place_of groups.now name.now ≡ Some p.0)
+        × (signed_of red_end.now ≡ Some p.1.0) × (signed_of green_end.now ≡ Some p.1.1))
+        (λ why. ends_reasons rows.now (place_of groups.now name.now) (spelled_end red_end.now) (spelled_end green_end.now)
+        ≡ Some why) }
 {
     let Some(place) = place_named(groups, name) else {
         return Err(PuaWhy::UnknownName);
@@ -133,7 +137,8 @@ impl OpenInterstage {
         requires stages { length stages.now ≤ 32 }
         ensures { MatchResult result
             (λ _. (form_why form groups.now stages.now (open_value self.old) (map (λ w. w.now) words.now) ≡ None)
-            × (open_value self.new ≡ open_after_form form groups.now stages.now (open_value self.old) (map (λ w. w.now) words.now)))
+            × (open_value self.new
+            ≡ open_after_form form groups.now stages.now (open_value self.old) (map (λ w. w.now) words.now)))
             (λ why. form_why form groups.now stages.now (open_value self.old) (map (λ w. w.now) words.now) ≡ Some why) }
     {
         match form {
@@ -211,7 +216,8 @@ fn has_pair(from: StageNo, to: StageNo, interstages: &[Interstage]) -> bool
 // Whether the group is green in the stage.
 fn is_green(stages: &[Stage], stage: StageNo, group: u8) -> bool
     requires stage { (1 ≤ stage.0) × (stage.0 ≤ length stages.now) }
-    requires greens { (s : ℕ) → s < length stages.now → group < length (slice_index_or stages.now s (record { name = []; greens = [] })).greens }
+    requires greens { (s : ℕ) → s < length stages.now →
+        group < length (slice_index_or stages.now s (record { name = []; greens = [] })).greens }
     ensures { result ≡ greens_in stages.now stage.0 group }
 {
     let stage = &stages[usize::from(stage.0) - 1];
@@ -223,7 +229,8 @@ fn leads_group(stages: &[Stage], interstage: &Interstage, group: u8) -> bool
     requires rows { group < length interstage.now.rows }
     requires from { (1 ≤ interstage.now.from) × (interstage.now.from ≤ length stages.now) }
     requires to { (1 ≤ interstage.now.to) × (interstage.now.to ≤ length stages.now) }
-    requires greens { (s : ℕ) → s < length stages.now → group < length (slice_index_or stages.now s (record { name = []; greens = [] })).greens }
+    requires greens { (s : ℕ) → s < length stages.now →
+        group < length (slice_index_or stages.now s (record { name = []; greens = [] })).greens }
     ensures { result ≡ leads (slice_index_or interstage.now.rows group None)
         (greens_in stages.now interstage.now.from group) (greens_in stages.now interstage.now.to group) interstage.now.length }
 {
@@ -243,7 +250,8 @@ fn first_inconsistent(groups: usize, stages: &[Stage], interstage: &Interstage) 
     requires rows { length interstage.now.rows ≡ groups }
     requires from { (1 ≤ interstage.now.from) × (interstage.now.from ≤ length stages.now) }
     requires to { (1 ≤ interstage.now.to) × (interstage.now.to ≤ length stages.now) }
-    requires greens { (s : ℕ) → s < length stages.now → length (slice_index_or stages.now s (record { name = []; greens = [] })).greens ≡ groups }
+    requires greens { (s : ℕ) → s < length stages.now →
+        length (slice_index_or stages.now s (record { name = []; greens = [] })).greens ≡ groups }
     ensures found { result ≡ first_inconsistent groups stages.now interstage.now }
     ensures below { IfSome result (λ g. g < groups) }
 {
@@ -268,7 +276,8 @@ pub(crate) fn interstage_why(
     requires rows { length interstage.now.rows ≡ length groups.now }
     requires from { (1 ≤ interstage.now.from) × (interstage.now.from ≤ length stages.now) }
     requires to { (1 ≤ interstage.now.to) × (interstage.now.to ≤ length stages.now) }
-    requires greens { (s : ℕ) → s < length stages.now → length (slice_index_or stages.now s (record { name = []; greens = [] })).greens ≡ length groups.now }
+    requires greens { (s : ℕ) → s < length stages.now →
+        length (slice_index_or stages.now s (record { name = []; greens = [] })).greens ≡ length groups.now }
     ensures { result ≡ interstage_reasons groups.now stages.now interstages.now (Some interstage.now) }
 {
     let from = interstage.from_stage();

@@ -186,7 +186,8 @@ pub(crate) fn read_stage(
     requires at_most { length groups.now ≤ 64 }
     ensures { MatchResult result
         (λ _. (stage_row_why groups.now stages.old.items after_stage.old (map (λ w. w.now) words.now) ≡ None)
-        × (stages.new.items ≡ stages_with groups.now stages.old.items (map (λ w. w.now) words.now)) × (after_stage.new ≡ is_stage_row (map (λ w. w.now) words.now)))
+        × (stages.new.items ≡ stages_with groups.now stages.old.items (map (λ w. w.now) words.now))
+        × (after_stage.new ≡ is_stage_row (map (λ w. w.now) words.now)))
         (λ stop. RowStopIs stop (stage_row_why groups.now stages.old.items after_stage.old (map (λ w. w.now) words.now))) }
 {
     let Some((name, named)) = words.split_first() else {
@@ -260,7 +261,8 @@ pub(crate) fn read_start(
 ) -> Result<StageNo, PuaWhy>
     requires { length stages.now ≤ 32 }
     ensures { MatchResult result
-        (λ s. (start_why stages.now start (map (λ w. w.now) words.now) ≡ None) × (start_with stages.now (map (λ w. w.now) words.now) ≡ Some s))
+        (λ s. (start_why stages.now start (map (λ w. w.now) words.now) ≡ None)
+        × (start_with stages.now (map (λ w. w.now) words.now) ≡ Some s))
         (λ why. start_why stages.now start (map (λ w. w.now) words.now) ≡ Some why) }
 {
     match words {

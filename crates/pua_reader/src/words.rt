@@ -48,7 +48,8 @@ pub(crate) fn is_signed(word: &[u8]) -> bool
 /// The red end or green end that a signed number is; None where it is out of its range, -127 to 127.
 pub(crate) fn end_of(word: &[u8]) -> Option<i8>
     requires { is_some (signed_of word.now) ≡ true }
-    ensures { MatchOption result ((z : ℤ) → signed_of word.now ≡ Some z → is_end z ≡ false) (λ e. (signed_of word.now ≡ Some e) × (is_end e ≡ true)) }
+    ensures { MatchOption result ((z : ℤ) → signed_of word.now ≡ Some z → is_end z ≡ false)
+        (λ e. (signed_of word.now ≡ Some e) × (is_end e ≡ true)) }
 {
     match word.split_first() {
         Some((b'-', rest)) => match number(rest, 1, 127) {

@@ -14,4 +14,4 @@ pub returns-in-len1 : goal.returns-in-len1
 returns-in-len1 c =
     let named = sym c.is_name.ensures.name ∙ c.if-is_name.true in
     let row = name_alone c.args.words.now c.args.place (record { ref_ptr = (0, 0); now = [] }) c.in-len1.len_at_least c.in-len1.len_below named in
-    (c.args.place, (row, in_range c.args.place c.requires.at_least (omega (arith, c.ranges.place)), named))
+    (c.args.place, row, in_range c.args.place c.requires.at_least (omega (arith, c.ranges.place)), named)
