@@ -85,8 +85,10 @@ impl Files for MemFiles {
         ensures bytes { IfOk result (λ n. IsRead (contents_of (files_in self.old) name.now) place n buf.new) }
         ensures contents_stay { files_in self.new ≡ files_in self.old }
         ensures cause { HasCause (failed_reads self.old) (failed_reads self.new) result }
-        ensures fails { OnErr result (Fails (failing_reads self.old) (reads_called self.old) (file_of (files_in self.old) name.now)) }
-        ensures serves { OnOk result (Fails (failing_reads self.old) (reads_called self.old) (file_of (files_in self.old) name.now) → ⊥) }
+        ensures fails { OnErr result
+            (Fails (failing_reads self.old) (reads_called self.old) (file_of (files_in self.old) name.now)) }
+        ensures serves { OnOk result
+            (Fails (failing_reads self.old) (reads_called self.old) (file_of (files_in self.old) name.now) → ⊥) }
         ensures most { IfOk result (λ n. n ≤ most_given self.old) }
         ensures next { reads_called self.new ≡ min (reads_called self.old + 1) (2 ^ 64 - 1) }
         ensures kept { (failing_reads self.new ≡ failing_reads self.old) × (most_given self.new ≡ most_given self.old) }
@@ -161,7 +163,8 @@ impl Sink for MemSink {
         ensures bytes { IfOk result (λ n. bytes_in self.new ≡ bytes_in self.old ++ take n piece.now) }
         ensures none { OnErr result (bytes_in self.new ≡ bytes_in self.old) }
         ensures cause { HasCause (failed_writes self.old) (failed_writes self.new) result }
-        ensures fails { OnErr result (Contains (failing_writes self.old) (writes_called self.old) ⊎ length (bytes_in self.old) ≡ room_of self.old) }
+        ensures fails { OnErr result
+            (Contains (failing_writes self.old) (writes_called self.old) ⊎ length (bytes_in self.old) ≡ room_of self.old) }
         ensures takes { OnOk result (Contains (failing_writes self.old) (writes_called self.old) → ⊥) }
         ensures next { writes_called self.new ≡ min (writes_called self.old + 1) (2 ^ 64 - 1) }
         ensures kept { (failing_writes self.new ≡ failing_writes self.old) × (room_of self.new ≡ room_of self.old) }

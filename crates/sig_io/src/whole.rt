@@ -43,7 +43,8 @@ impl From<AllocError> for ReadRefusal {
 /// It fails only where a write failed, and then tells how many bytes went out before.
 pub fn put_all<O: Sink>(sink: &mut O, bytes: &[u8]) -> Result<(), PutFault>
     ensures ok { OnOk result (O.taken sink.new ≡ append_known (O.taken sink.old) bytes.now) }
-    ensures fault { IfErr result (λ f. (f.taken < length bytes.now) × (O.taken sink.new ≡ append_known (O.taken sink.old) (take f.taken bytes.now))) }
+    ensures fault { IfErr result
+        (λ f. (f.taken < length bytes.now) × (O.taken sink.new ≡ append_known (O.taken sink.old) (take f.taken bytes.now))) }
     ensures cause { HasCause (O.faults sink.old) (O.faults sink.new) result }
 {
     let mut taken = 0;
@@ -69,7 +70,8 @@ fn read_more<F: Files>(
     requires { 0 < room }
     ensures count { IfOk result (λ n. n ≤ room) }
     ensures len { IfOk result (λ n. vec_len bytes.new ≡ vec_len bytes.old + n) }
-    ensures bytes { ForSome (F.told files.old) (λ file. IfOk result (λ n. ReadsOn (file name.now) bytes.old.items n bytes.new.items)) }
+    ensures bytes { ForSome (F.told files.old)
+        (λ file. IfOk result (λ n. ReadsOn (file name.now) bytes.old.items n bytes.new.items)) }
     ensures contents_stay { F.told files.new ≡ F.told files.old }
     ensures later { F.faults files.old ≤ F.faults files.new }
     ensures cause { result ≡ Err ReadRefusal.Fault → Rose (F.faults files.old) (F.faults files.new) }
@@ -99,7 +101,8 @@ pub fn read_whole<F: Files>(
     requires { limit < usize.MAX }
     ensures bytes { ForSome (F.told files.old) (λ file. IfOk result (λ v. v.items ≡ file name.now)) }
     ensures within { IfOk result (λ v. vec_len v ≤ limit) }
-    ensures too_long { ForSome (F.told files.old) (λ file. (n : ℕ) → result ≡ Err (ReadRefusal.TooLong n) → limit < length (file name.now)) }
+    ensures too_long { ForSome (F.told files.old)
+        (λ file. (n : ℕ) → result ≡ Err (ReadRefusal.TooLong n) → limit < length (file name.now)) }
     ensures seen { (n : ℕ) → result ≡ Err (ReadRefusal.TooLong n) → n ≡ limit + 1 }
     ensures contents_stay { F.told files.new ≡ F.told files.old }
     ensures later { F.faults files.old ≤ F.faults files.new }
