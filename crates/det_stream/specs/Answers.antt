@@ -58,7 +58,8 @@ pub record IsStream (bytes : List ℕ) (frames : List Counts) (refusal : Option 
 
 -- one frame more was given, and it can be taken after those before it
 abbrev pub GaveOneMore : Lines → Lines → Type 0
-GaveOneMore old new = (frames : List Counts) → Gave old frames → Gave new (frames ++ frame_in new ∷ []) × Takes frames (frame_in new)
+GaveOneMore old new = (frames : List Counts) → Gave old frames →
+    Gave new (frames ++ frame_in new ∷ []) × Takes frames (frame_in new)
 
 -- what a call answers where these frames of the file were given before it
 abbrev pub IsNext : List ℕ → List Counts → Lines → Result Bool StreamRefusal → Type 0

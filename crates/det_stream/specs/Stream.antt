@@ -11,7 +11,8 @@ use Rattle.det_stream.specs.Totals.{AreTotals}
 
 -- the least detector, by its place, of which these frames have more rears than fronts
 unfoldable pub least_ahead : List Counts → Option ℕ
-least_ahead frames = least_below (λ p. nat_lt (sum_by (count_in fronts (p + 1)) frames) (sum_by (count_in rears (p + 1)) frames)) 64
+least_ahead frames =
+    least_below (λ p. nat_lt (sum_by (count_in fronts (p + 1)) frames) (sum_by (count_in rears (p + 1)) frames)) 64
 
 -- the reason, by that place
 abbrev pub ahead_reason : Option ℕ → Option StreamWhy
@@ -30,12 +31,14 @@ judge_line before line = first_reason (
 -- a longer line is refused for this reason after that many lines
 abbrev pub IsTooLong : ℕ → StreamWhy → Type 0
 IsTooLong second reason =
-    (before : List (List ℕ)) → length before ≡ second → (line : List ℕ) → 1024 < length line → judge_line before line ≡ Some reason
+    (before : List (List ℕ)) → length before ≡ second → (line : List ℕ) → 1024 < length line →
+    judge_line before line ≡ Some reason
 
 -- a line of at most 1,024 bytes is judged after that many lines, which have these counts so far
 abbrev pub LineIsJudged : {A : Type 0} → ℕ → Counts → List ℕ → Result A StreamWhy → Type 0
 LineIsJudged second totals line result =
-    (before : List (List ℕ)) → length before ≡ second → length line ≤ 1024 → AreTotals totals (map frame_of before) → IsJudged (judge_line before line) result
+    (before : List (List ℕ)) → length before ≡ second → length line ≤ 1024 → AreTotals totals (map frame_of before) →
+    IsJudged (judge_line before line) result
 
 -- the reason with the line's number
 abbrev pub with_line : ℕ → Option StreamWhy → Option (ℕ × StreamWhy)

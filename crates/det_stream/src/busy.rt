@@ -42,7 +42,8 @@ fn keep(lines: &mut Vec<BusyLine>, line: u32, counts: (u32, u32)) -> Result<(), 
 /// `Memory` where one of them has no room.
 pub fn keep_line(detectors: &mut Vec<Vec<BusyLine>>, line: u32, frame: &Frame) -> Result<(), Memory>
     requires { length detectors.old.items ≡ 64 }
-    ensures { OnOk result (KeepsLine line frame.now (map (λ v. v.items) detectors.old.items) (map (λ v. v.items) detectors.new.items)) }
+    ensures { OnOk result
+        (KeepsLine line frame.now (map (λ v. v.items) detectors.old.items) (map (λ v. v.items) detectors.new.items)) }
 {
     let (low, high) = frame.span();
     for place in low..high {

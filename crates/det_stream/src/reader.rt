@@ -73,7 +73,8 @@ fn fill<F: Files>(
     requires order { start ≤ end }
     requires fits { end ≤ length buffer.old }
     requires room { end - start < length buffer.old }
-    ensures bytes { ForSome (F.told files.old) (λ file. FillsBuffer (file name.now) place start end buffer.old buffer.new result) }
+    ensures bytes { ForSome (F.told files.old)
+        (λ file. FillsBuffer (file name.now) place start end buffer.old buffer.new result) }
     ensures front { take (end - start) buffer.new ≡ take (end - start) (drop start buffer.old) }
     ensures count { IfOk result (λ n. end - start + n ≤ length buffer.new) }
     ensures contents_stay { F.told files.new ≡ F.told files.old }
@@ -147,7 +148,8 @@ impl LineReader {
     fn refill<F: Files>(&mut self, files: &mut F) -> Result<usize, Failed>
         requires room { self.old.end - self.old.start < 1026 }
         requires at_most { self.old.place < 2 ^ 63 }
-        ensures rest { ForSome (F.told files.old) (λ file. IfOk result (KeepsUnread self.old self.new (file (name_in self.old)))) }
+        ensures rest { ForSome (F.told files.old)
+            (λ file. IfOk result (KeepsUnread self.old self.new (file (name_in self.old)))) }
         ensures grows { IfOk result (λ n. self.new.end - self.new.start ≡ (self.old.end - self.old.start) + n) }
         ensures none { IfOk result (λ n. n ≡ 0 → buffered_bytes self.new ≡ buffered_bytes self.old) }
         ensures place { IfOk result (λ n. self.new.place ≡ self.old.place + n) }

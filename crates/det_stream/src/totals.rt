@@ -61,7 +61,8 @@ pub fn add_counts(totals: &mut Totals, place: u8, counts: (u32, u32), within: bo
     requires few { (counts.0 ≤ 99) × (counts.1 ≤ 99) }
     ensures added { totals.new ≡ with_counts totals.old place counts }
     ensures size { length totals.old ≡ 64 }
-    ensures fits { result ≡ true → (within ≡ true) × ((counts_at totals.old place).1 + counts.1 ≤ (counts_at totals.old place).0 + counts.0) }
+    ensures fits { result ≡ true →
+        (within ≡ true) × ((counts_at totals.old place).1 + counts.1 ≤ (counts_at totals.old place).0 + counts.0) }
 {
     let (fronts, rears) = totals.get(place);
     let (fronts, rears) = (fronts + counts.0, rears + counts.1);
