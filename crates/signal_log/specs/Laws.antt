@@ -34,9 +34,11 @@ Spells names text frames = (rs : List Record) × (text ≡ log_text names rs) ×
 
 -- no text is a log of two lists of frames
 abbrev pub LogSpells : Type 0
-LogSpells = (names : List (List ℕ)) (text : List ℕ) (fs gs : List Counts) → are_names names ≡ true → ArePrintable fs → ArePrintable gs →
+LogSpells = (names : List (List ℕ)) (text : List ℕ) (fs gs : List Counts) →
+    are_names names ≡ true → ArePrintable fs → ArePrintable gs →
     Spells names text fs → Spells names text gs → fs ≡ gs
 
 -- no text is a log of two numbers of seconds
 abbrev pub LogCounts : Type 0
-LogCounts = (names : List (List ℕ)) (rs qs : List Record) → are_names names ≡ true → log_text names rs ≡ log_text names qs → length rs ≡ length qs
+LogCounts = (names : List (List ℕ)) (rs qs : List Record) → are_names names ≡ true → log_text names rs ≡ log_text names qs →
+    length rs ≡ length qs

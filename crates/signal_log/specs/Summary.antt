@@ -90,8 +90,10 @@ kinds_text count = flat_map (λ kind. tally (fault_name kind) (count kind)) kind
 -- and in how many seconds there was a fault of each kind. The names of the groups stand in the order of the plan.
 unfoldable pub summary_text : (names : List (List ℕ)) (seed seconds : ℕ) → List Record → List ℕ
 summary_text names seed seconds rs =
-    codes "SAMPLE " ++ decimal seed ++ codes " " ++ decimal seconds ++ codes "\nGREENS" ++ groups_text (greens (length names) rs) 0 names
-    ++ codes "\nREFUSED" ++ rules_text (λ rule. refusals_by rule rs) ++ codes "\nFAULTS" ++ kinds_text (λ kind. faulted kind rs) ++ codes "\n"
+    codes "SAMPLE " ++ decimal seed ++ codes " " ++ decimal seconds ++ codes "\nGREENS"
+    ++ groups_text (greens (length names) rs) 0 names
+    ++ codes "\nREFUSED" ++ rules_text (λ rule. refusals_by rule rs)
+    ++ codes "\nFAULTS" ++ kinds_text (λ kind. faulted kind rs) ++ codes "\n"
 
 -- ---- what a summary stands for
 

@@ -123,7 +123,8 @@ impl Summary {
     /// Adds the record of the next second, one of at most 604,801. It takes no memory.
     #[tactic(auto, unfolding(crate::specs::Summary::StandsFor))]
     pub fn add(&mut self, rec: &Record)
-        requires { (groups : ℕ) × (rs : List Record) × StandsFor self.old groups rs × (length rec.now.picture ≡ groups) × (length rs < 604801) }
+        requires { (groups : ℕ) × (rs : List Record) × StandsFor self.old groups rs × (length rec.now.picture ≡ groups)
+            × (length rs < 604801) }
         ensures { (groups : ℕ) (rs : List Record) → StandsFor self.old groups rs → length rec.now.picture ≡ groups →
             StandsFor self.new groups (rs ++ rec.now ∷ []) }
     {
@@ -230,8 +231,10 @@ pub fn put_summary<O: Sink>(
     sink: &mut O,
 )
     requires { draft.old.gone < 2 ^ 55 }
-    ensures text { (rs : List Record) → StandsFor summary.now (groups_in plan.now) rs → (start : Option (List ℕ)) (text : List ℕ) →
-        IsDraft start (O.taken sink.old) draft.old text → IsDraft start (O.taken sink.new) draft.new (text ++ summary_text plan.now.names seed seconds rs) }
+    ensures text { (rs : List Record) → StandsFor summary.now (groups_in plan.now) rs →
+        (start : Option (List ℕ)) (text : List ℕ) →
+        IsDraft start (O.taken sink.old) draft.old text →
+        IsDraft start (O.taken sink.new) draft.new (text ++ summary_text plan.now.names seed seconds rs) }
     ensures gone { draft.new.gone ≤ draft.old.gone + 2 ^ 28 }
     ensures cause { FailsOnly (O.faults sink.old) (O.faults sink.new) draft.old.failed draft.new.failed }
 {
