@@ -21,7 +21,8 @@ pub record IsChecked (c : Meant) : Type 0 where
 abbrev pub view_of : Inside → Meant
 view_of c = record {
   tree = c.program;
-  names = entries (consts_in c.names.known.consts.entries) c.names.known.arrays.keys c.names.known.subs.keys c.names.timers.keys c.names.variables.keys;
+  names = entries (consts_in c.names.known.consts.entries) c.names.known.arrays.keys c.names.known.subs.keys
+      c.names.timers.keys c.names.variables.keys;
   variables = length c.names.variables.keys;
   timers = length c.names.timers.keys;
 }

@@ -116,7 +116,8 @@ pub record Usable (p : Program) : Type 0 where
   pub few : Few p
   pub sized : AllByRecursion (λ a. (1 ≤ length a.values) × (length a.values ≤ 1024)) p.arrays
   pub subs : (k : ℕ) → k < length p.subs →
-      UsableItems (names_of p) (length (variables p)) (length (timers p)) (length p.arrays) k (get_or (map (λ r. r.body) p.subs) k Items.none)
+      UsableItems (names_of p) (length (variables p)) (length (timers p)) (length p.arrays) k
+      (get_or (map (λ r. r.body) p.subs) k Items.none)
   pub main : UsableItems (names_of p) (length (variables p)) (length (timers p)) (length p.arrays) (length p.subs) p.main.body
 
 -- What the meaning of a program asks of it: arguments by the numbers of their words, calls of subroutines that are there,

@@ -95,8 +95,10 @@ fn meaning_among(
     variables: &IndexSet<Name>,
     name: &Name,
 ) -> Option<Meaning>
-    requires { (length arrays.now.keys ≤ 256) × (length subs.now.keys ≤ 256) × (length timers.now.keys ≤ 256) × (length variables.now.keys ≤ 256) }
-    ensures { result ≡ meaning_in (entries (consts_in consts.now.entries) arrays.now.keys subs.now.keys timers.now.keys variables.now.keys) name.now }
+    requires { (length arrays.now.keys ≤ 256) × (length subs.now.keys ≤ 256) × (length timers.now.keys ≤ 256)
+        × (length variables.now.keys ≤ 256) }
+    ensures { result ≡ meaning_in
+        (entries (consts_in consts.now.entries) arrays.now.keys subs.now.keys timers.now.keys variables.now.keys) name.now }
 {
     let used = timer(timers, name).or(variable(variables, name));
     let declared = array(arrays, name).or(sub(subs, name).or(used));

@@ -69,7 +69,8 @@ fn judge_arrays(
     decls: &[ArrayDecl],
     first: &mut Option<Finding>,
 ) -> Result<(), Memory>
-    ensures { OnOk result (first.new ≡ first_of_all first.old (wrong.array_findings (line_in consts.now.entries) [] (map array_of decls.now))) }
+    ensures { OnOk result
+        (first.new ≡ first_of_all first.old (wrong.array_findings (line_in consts.now.entries) [] (map array_of decls.now))) }
 {
     let mut before = IndexSet::new(alloc);
     for decl in decls {
@@ -101,7 +102,8 @@ fn judge_body(
     body: &Items,
     first: &mut Option<Finding>,
 ) -> Result<(), Memory>
-    ensures { OnOk result (first.new ≡ first_of_all first.old (wrong.body_findings (kind_in known.now) above.now.keys (body_of body.now))) }
+    ensures { OnOk result
+        (first.new ≡ first_of_all first.old (wrong.body_findings (kind_in known.now) above.now.keys (body_of body.now))) }
 {
     let mut labels = IndexSet::new(alloc);
     note_items_labels(alloc, &body.0, &mut labels, first)?;

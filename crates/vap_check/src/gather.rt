@@ -85,7 +85,8 @@ fn note_expr_uses(
     e: &Expr,
     names: &mut IndexSet<Name>,
 ) -> Result<(), Memory>
-    ensures { OnOk result (names.new.keys ≡ with_names names.old.keys (of_kind known.now wanted (names_of.expr_uses (expr_of e.now)))) }
+    ensures { OnOk result
+        (names.new.keys ≡ with_names names.old.keys (of_kind known.now wanted (names_of.expr_uses (expr_of e.now)))) }
 {
     match e {
         Expr::Literal(_) => Ok(()),
@@ -109,7 +110,8 @@ fn note_exprs_uses(
     args: &[Expr],
     names: &mut IndexSet<Name>,
 ) -> Result<(), Memory>
-    ensures { OnOk result (names.new.keys ≡ with_names names.old.keys (of_kind known.now wanted (names_of.exprs_uses (exprs_of args.now)))) }
+    ensures { OnOk result
+        (names.new.keys ≡ with_names names.old.keys (of_kind known.now wanted (names_of.exprs_uses (exprs_of args.now)))) }
 {
     for arg in args {
         note_expr_uses(alloc, known, wanted, arg, names)?;
@@ -127,7 +129,8 @@ fn note_item_uses(
     item: &Item,
     names: &mut IndexSet<Name>,
 ) -> Result<(), Memory>
-    ensures { OnOk result (names.new.keys ≡ with_names names.old.keys (of_kind known.now wanted (names_of.item_uses (item_of item.now)))) }
+    ensures { OnOk result
+        (names.new.keys ≡ with_names names.old.keys (of_kind known.now wanted (names_of.item_uses (item_of item.now)))) }
 {
     match item {
         Item::Label { .. } => Ok(()),
@@ -144,7 +147,8 @@ fn note_stmt_uses(
     what: &Stmt,
     names: &mut IndexSet<Name>,
 ) -> Result<(), Memory>
-    ensures { OnOk result (names.new.keys ≡ with_names names.old.keys (of_kind known.now wanted (names_of.stmt_uses (stmt_of what.now)))) }
+    ensures { OnOk result
+        (names.new.keys ≡ with_names names.old.keys (of_kind known.now wanted (names_of.stmt_uses (stmt_of what.now)))) }
 {
     match what {
         Stmt::Assign { target, value } => {
@@ -175,7 +179,8 @@ fn note_items_uses(
     items: &[Item],
     names: &mut IndexSet<Name>,
 ) -> Result<(), Memory>
-    ensures { OnOk result (names.new.keys ≡ with_names names.old.keys (of_kind known.now wanted (names_of.items_uses (items_of items.now)))) }
+    ensures { OnOk result
+        (names.new.keys ≡ with_names names.old.keys (of_kind known.now wanted (names_of.items_uses (items_of items.now)))) }
 {
     for item in items {
         note_item_uses(alloc, known, wanted, item, names)?;
@@ -251,7 +256,9 @@ fn note_subs_timers(
     subs: &[Routine],
     names: &mut IndexSet<Name>,
 ) -> Result<(), Memory>
-    ensures { OnOk result (names.new.keys ≡ with_names names.old.keys (flat_map names_of.items_timers (map (λ r. r.body) (map routine_of subs.now)))) }
+    ensures { OnOk result
+        (names.new.keys
+        ≡ with_names names.old.keys (flat_map names_of.items_timers (map (λ r. r.body) (map routine_of subs.now)))) }
 {
     for sub in subs {
         note_items_timers(alloc, &sub.body.0, names)?;

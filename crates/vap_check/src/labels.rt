@@ -38,8 +38,10 @@ fn note_item_labels(
     names: &mut IndexSet<Name>,
     first: &mut Option<Finding>,
 ) -> Result<(), Memory>
-    ensures names { OnOk result (names.new.keys ≡ with_names names.old.keys (map (λ l. l.name) (labels_of_item (item_of item.now)))) }
-    ensures found { OnOk result (first.new ≡ first_of_all first.old (label_findings names.old.keys (labels_of_item (item_of item.now)))) }
+    ensures names { OnOk result
+        (names.new.keys ≡ with_names names.old.keys (map (λ l. l.name) (labels_of_item (item_of item.now)))) }
+    ensures found { OnOk result
+        (first.new ≡ first_of_all first.old (label_findings names.old.keys (labels_of_item (item_of item.now)))) }
 {
     match item {
         Item::Label { name, line } => declare(
@@ -62,8 +64,10 @@ fn note_stmt_labels(
     names: &mut IndexSet<Name>,
     first: &mut Option<Finding>,
 ) -> Result<(), Memory>
-    ensures names { OnOk result (names.new.keys ≡ with_names names.old.keys (map (λ l. l.name) (labels_of_stmt (stmt_of what.now)))) }
-    ensures found { OnOk result (first.new ≡ first_of_all first.old (label_findings names.old.keys (labels_of_stmt (stmt_of what.now)))) }
+    ensures names { OnOk result
+        (names.new.keys ≡ with_names names.old.keys (map (λ l. l.name) (labels_of_stmt (stmt_of what.now)))) }
+    ensures found { OnOk result
+        (first.new ≡ first_of_all first.old (label_findings names.old.keys (labels_of_stmt (stmt_of what.now)))) }
 {
     match what {
         Stmt::If { yes, no, .. } => {
@@ -89,8 +93,10 @@ pub fn note_items_labels(
     names: &mut IndexSet<Name>,
     first: &mut Option<Finding>,
 ) -> Result<(), Memory>
-    ensures names { OnOk result (names.new.keys ≡ with_names names.old.keys (map (λ l. l.name) (labels_of_items (items_of items.now)))) }
-    ensures found { OnOk result (first.new ≡ first_of_all first.old (label_findings names.old.keys (labels_of_items (items_of items.now)))) }
+    ensures names { OnOk result
+        (names.new.keys ≡ with_names names.old.keys (map (λ l. l.name) (labels_of_items (items_of items.now)))) }
+    ensures found { OnOk result
+        (first.new ≡ first_of_all first.old (label_findings names.old.keys (labels_of_items (items_of items.now)))) }
 {
     for item in items {
         note_item_labels(alloc, item, names, first)?;
