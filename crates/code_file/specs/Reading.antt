@@ -202,7 +202,8 @@ judged_at unended judge p = do
   Ok (x, l.1)
 
 -- n lines, each judged after those before it
-unfoldable pub many_at : {S A : Type 0} → (S → List ℕ → Result A CodeWhy) → (S → A → S) → ℕ → S → Place → Result (List A × Place) Refusal
+unfoldable pub many_at : {S A : Type 0} → (S → List ℕ → Result A CodeWhy) → (S → A → S) → ℕ → S → Place →
+    Result (List A × Place) Refusal
 many_at judge after zero s p = Ok ([], p)
 many_at judge after (suc n) s p = do
   first ← judged_at Line (judge s) p

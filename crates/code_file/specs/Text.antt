@@ -104,7 +104,9 @@ instr_line i = line (instr_text i)
 -- the header, and the numbers of variables, timers and arrays
 unfoldable pub counts_text : ℕ → ℕ → ℕ → List ℕ
 counts_text vars timers arrays =
-    line (codes "VAPCODE 1") ++ (line (codes "VARS " ++ decimal vars) ++ (line (codes "TIMERS " ++ decimal timers) ++ line (codes "ARRAYS " ++ decimal arrays)))
+    line (codes "VAPCODE 1")
+    ++ (line (codes "VARS " ++ decimal vars)
+    ++ (line (codes "TIMERS " ++ decimal timers) ++ line (codes "ARRAYS " ++ decimal arrays)))
 
 -- the number of routines and their starts
 unfoldable pub routines_text : List ℕ → List ℕ
@@ -116,7 +118,9 @@ body_text instrs = line (codes "CODE " ++ decimal (length instrs)) ++ (flat_map 
 
 -- the one text of a code
 unfoldable pub code_text : CodeOf → List ℕ
-code_text c = counts_text c.vars c.timers (length c.arrays) ++ (flat_map array_line c.arrays ++ (routines_text c.starts ++ body_text c.instrs))
+code_text c =
+    counts_text c.vars c.timers (length c.arrays)
+    ++ (flat_map array_line c.arrays ++ (routines_text c.starts ++ body_text c.instrs))
 
 -- ---- what has a text
 
