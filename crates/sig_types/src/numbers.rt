@@ -79,6 +79,7 @@ pub enum StagePlace {
 }
 
 /// 1 for true and 0 for false.
+#[inline(always)]
 pub fn truth(value: bool) -> i32
     ensures { result ≡ truth value }
 {
