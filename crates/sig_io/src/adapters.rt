@@ -12,7 +12,7 @@ const LONGEST_NAME: usize = 4096;
 // An open file with its name, and the place at which it stands.
 #[derive(Drop)]
 struct OpenFile<F> {
-    name: [u8; 4096],
+    name: [u8; LONGEST_NAME],
     len: usize,
     file: F,
     place: u64,
@@ -45,7 +45,7 @@ fn open<R: rt::Files>(runtime: &R, name: &str) -> io::Result<OpenFile<R::File>> 
         return Err(io::Error::from(ErrorKind::InvalidInput));
     }
     let file = fs::open(runtime, name)?;
-    let mut kept = [0; 4096];
+    let mut kept = [0; LONGEST_NAME];
     kept[..len].copy_from_slice(name.as_bytes());
     Ok(OpenFile {
         name: kept,
