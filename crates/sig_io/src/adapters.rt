@@ -141,23 +141,29 @@ fn write_piece<R: Print>(to: &R, piece: &[u8]) -> Result<usize, Failed>
     }
 }
 
-/// The standard output. It tells nothing of the bytes that it took.
+/// A handle of the system that takes bytes. It tells nothing of the bytes that it took.
 #[derive(Drop)]
-pub struct OutSink<'a, R> {
-    output: &'a R,
+pub struct PrintSink<'a, R> {
+    handle: &'a R,
     faults: u64,
 }
 
-impl<'a, R: Print> OutSink<'a, R> {
-    /// The standard output, by its handle; no call has failed yet.
-    pub fn new(output: &'a R) -> OutSink<'a, R>
-        ensures faults { ⟦<OutSink<'a, R> as Sink>⟧.faults result ≡ 0 }
+/// The standard output.
+pub type OutSink<'a, R> = PrintSink<'a, R>;
+
+/// The standard error.
+pub type ErrSink<'a, R> = PrintSink<'a, R>;
+
+impl<'a, R: Print> PrintSink<'a, R> {
+    /// A sink by its handle; no call has failed yet.
+    pub fn new(handle: &'a R) -> PrintSink<'a, R>
+        ensures faults { ⟦<PrintSink<'a, R> as Sink>⟧.faults result ≡ 0 }
     {
-        OutSink { output, faults: 0 }
+        PrintSink { handle, faults: 0 }
     }
 }
 
-impl<R: Print> Sink for OutSink<'_, R> {
+impl<R: Print> Sink for PrintSink<'_, R> {
     ghost taken = { λ _. None };
 
     ghost faults = { λ s. s.faults };
@@ -169,45 +175,7 @@ impl<R: Print> Sink for OutSink<'_, R> {
         ensures cause { HasCause self.old.faults self.new.faults result }
         ensures faults { OnOk result (self.new.faults ≡ self.old.faults) }
     {
-        match write_piece(self.output, piece) {
-            Ok(n) => Ok(n),
-            Err(failed) => {
-                self.faults = self.faults.saturating_add(1);
-                Err(failed)
-            }
-        }
-    }
-}
-
-/// The standard error. It tells nothing of the bytes that it took.
-#[derive(Drop)]
-pub struct ErrSink<'a, R> {
-    errors: &'a R,
-    faults: u64,
-}
-
-impl<'a, R: Print> ErrSink<'a, R> {
-    /// The standard error, by its handle; no call has failed yet.
-    pub fn new(errors: &'a R) -> ErrSink<'a, R>
-        ensures faults { ⟦<ErrSink<'a, R> as Sink>⟧.faults result ≡ 0 }
-    {
-        ErrSink { errors, faults: 0 }
-    }
-}
-
-impl<R: Print> Sink for ErrSink<'_, R> {
-    ghost taken = { λ _. None };
-
-    ghost faults = { λ s. s.faults };
-
-    fn write_some(&mut self, piece: &[u8]) -> Result<usize, Failed>
-        requires { 0 < length piece.now }
-        ensures at_least { IfOk result (λ n. 1 ≤ n) }
-        ensures count { IfOk result (λ n. n ≤ length piece.now) }
-        ensures cause { HasCause self.old.faults self.new.faults result }
-        ensures faults { OnOk result (self.new.faults ≡ self.old.faults) }
-    {
-        match write_piece(self.errors, piece) {
+        match write_piece(self.handle, piece) {
             Ok(n) => Ok(n),
             Err(failed) => {
                 self.faults = self.faults.saturating_add(1);

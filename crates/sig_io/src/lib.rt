@@ -9,7 +9,7 @@ mod outside;
 mod sure;
 mod whole;
 
-pub use adapters::{DiskFiles, ErrSink, OutSink};
+pub use adapters::{DiskFiles, ErrSink, OutSink, PrintSink};
 pub use draft::{Draft, Piece};
 pub use gate::{FreeGate, Gate};
 pub use memory::{MemFiles, MemSink};

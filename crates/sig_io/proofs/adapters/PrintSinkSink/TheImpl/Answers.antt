@@ -1,6 +1,6 @@
 use Rattle.std.proofs.Common.{refl, rules}
 use Rattle.sig_io.proofs.Results.{IfOk-all, OnErr-holds}
-use Rattle.sig_io.proofs.adapters.ErrSinkSink.TheImpl.Goals as goal
+use Rattle.sig_io.proofs.adapters.PrintSinkSink.TheImpl.Goals as goal
 
 pub write_some-tells : goal.write_some-tells
 write_some-tells g c = record {
