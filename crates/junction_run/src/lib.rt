@@ -5,6 +5,9 @@
 //! place; `specs/Programs` when a text is a program, `specs/Codes` when it is a code and which text compiling gives,
 //! `specs/Records` which log is written, `specs/Guarded` which rules it keeps, `specs/Drawn` which frames a sample has and
 //! `specs/Sampled` what it writes, and `specs/Notes` and `specs/Reasons` have the notes.
+//!
+//! A function named `judge_` judges a text, one named `take_` reads a file and judges its text, and one named `load_` takes all
+//! files of a command, one after the other.
 #![tactic(auto)]
 
 mod code;

@@ -25,7 +25,7 @@ use vap_compile::compile;
 use vap_lex::{LexRefusal, Tokens, tokens};
 use vap_parse::{ParseRefusal, parse};
 
-fn read_tokens<'a>(alloc: Global, text: &[u8], word: &'a str) -> Result<Tokens, Stop<'a>>
+fn judge_tokens<'a>(alloc: Global, text: &[u8], word: &'a str) -> Result<Tokens, Stop<'a>>
     requires { length text.now ≤ 1048576 }
     ensures tokens { IfOk result (λ ts. HasTokens text.now ts) }
     ensures lines { IfOk result (λ ts. All (λ t. HasLine (length text.now) t) ts) }
@@ -43,7 +43,7 @@ fn read_tokens<'a>(alloc: Global, text: &[u8], word: &'a str) -> Result<Tokens, 
     }
 }
 
-fn read_tree<'a>(alloc: Global, tokens: &Tokens, word: &'a str) -> Result<Program, Stop<'a>>
+fn judge_tree<'a>(alloc: Global, tokens: &Tokens, word: &'a str) -> Result<Program, Stop<'a>>
     ensures tree { IfOk result (λ p. Accepts tokens.now (program_of p)) }
     ensures parsed { (most : ℕ) → All (λ t. IsLine most t.line) tokens.now → IfOk result (λ p. Parsed most (program_of p)) }
     ensures refused { (text : List ℕ) → HasTokens text tokens.now → IfErr result (λ stop. IsRefusedProgram text stop) }
@@ -79,7 +79,7 @@ fn check_tree<'a>(alloc: Global, program: Program, word: &'a str) -> Result<Chec
 }
 
 /// The checked program of a text: its tokens, their tree, and the checks.
-pub(crate) fn read_program<'a>(
+pub(crate) fn judge_source<'a>(
     alloc: Global,
     text: &[u8],
     word: &'a str,
@@ -88,11 +88,11 @@ pub(crate) fn read_program<'a>(
     ensures text { IsCheckedText text.now result }
     ensures word { IfErr result (λ stop. IsAt word.now stop) }
 {
-    let tokens = match read_tokens(alloc, text, word) {
+    let tokens = match judge_tokens(alloc, text, word) {
         Ok(tokens) => tokens,
         Err(stop) => return Err(stop),
     };
-    let program = match read_tree(alloc, &tokens, word) {
+    let program = match judge_tree(alloc, &tokens, word) {
         Ok(program) => program,
         Err(stop) => return Err(stop),
     };
@@ -105,7 +105,7 @@ fn judge_program<'a>(alloc: Global, text: &[u8], word: &'a str) -> Result<Verifi
     ensures text { IsProgramText text.now result }
     ensures word { IfErr result (λ stop. IsAt word.now stop) }
 {
-    let checked = match read_program(alloc, text, word) {
+    let checked = match judge_source(alloc, text, word) {
         Ok(checked) => checked,
         Err(stop) => return Err(stop),
     };
