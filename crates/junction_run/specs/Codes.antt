@@ -10,7 +10,8 @@ use Rattle.vap_code.specs.declared.VerifyWhy.{VerifyWhy}
 use Rattle.junction_run.specs.Programs.{Runs}
 use Rattle.junction_run.specs.Reasons.{code_reason, verify_reason}
 
--- the line of the instruction at a place
+-- the line of the instruction at a place; lines count from 1, and before the first instruction stand those of the header, VARS,
+-- TIMERS, ARRAYS, ROUTINES and CODE, and one for each array and each start
 abbrev pub instr_line : CodeOf → ℕ → ℕ
 instr_line code place = 7 + length code.arrays + length code.starts + place
 

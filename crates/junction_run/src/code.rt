@@ -25,7 +25,8 @@ use sig_io::Files;
 use std::alloc::Global;
 use vap_code::Code;
 
-// The line of the instruction at a place.
+// The line of the instruction at a place. Lines count from 1, and before the first instruction stand those of the header, VARS,
+// TIMERS, ARRAYS, ROUTINES and CODE, and one for each array and each start.
 fn instr_line(code: &Code, place: u32) -> u32
     requires shape { HasShape (code_in code.now) }
     requires place { place < 65536 }

@@ -17,7 +17,7 @@ pub(crate) fn generator_of(seed: u64) -> Lcg64Xsh32
     Lcg64Xsh32::new(seed, 1)
 }
 
-// Whether the next word tells of a vehicle: one front and one rear.
+// Whether the next word tells of a vehicle, as one word in eight does: one front and one rear.
 fn draw_vehicle(generator: &mut Lcg64Xsh32) -> bool
     ensures vehicle { result ≡ ((pcg32 generator.old).0 % 8 == 0) }
     ensures next { generator.new ≡ (pcg32 generator.old).1 }

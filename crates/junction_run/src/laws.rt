@@ -6,7 +6,8 @@ use vap_check::one_answer;
 
 /// Files give one thing; where they are accepted and the answer is Done, nothing else is answered but for want of memory and
 /// faults; a file is refused only where the files give that; and each run of a program or a code that the files give, at the
-/// site that they give, is guarded: its pictures are safe, and each refusal names the very rule that would be broken. A sample never answers that a line is refused.
+/// site that they give, is guarded: its pictures are safe, and each refusal names the very rule that would be broken. A sample
+/// never answers that a line is refused.
 pub fn answers_are_right()
     ensures once { LoadsOnce }
     ensures complete { IsComplete }
