@@ -15,7 +15,8 @@ const EXEC: &str = "exec";
 
 const SAMPLE: &str = "sample";
 
-const MOST_SECONDS: u32 = 604800;
+// The seconds of a week.
+const MOST_SAMPLED: u32 = 604800;
 
 /// The names of the files of a site.
 #[derive(Clone, Copy)]
@@ -93,7 +94,7 @@ fn seconds_of(word: &str) -> Option<SampleSeconds>
     ensures { MatchOption result (within 0 604800 (number_of word.now) ≡ None)
         (λ seconds. within 0 604800 (number_of word.now) ≡ Some seconds.count) }
 {
-    match number(word.as_bytes(), 0, MOST_SECONDS) {
+    match number(word.as_bytes(), 0, MOST_SAMPLED) {
         Some(count) => Some(SampleSeconds { count }),
         None => None,
     }
