@@ -1,11 +1,9 @@
 -- Where no count of faults rises there is no fault.
-use Rattle.std.proofs.Common.{◌≡◌, ◌∙◌, ℕ, List, Option, Some, None, Result, Ok, sym, subst, inl, inr, ◌⊎◌, refl}
+use Rattle.std.proofs.Common.{◌≡◌, ◌∙◌, ℕ, List, Option, Some, None, sym, subst, inl, inr, ◌⊎◌}
 use Rattle.sig_io.specs.Outside.{Contents, Rose}
 use Rattle.junction_run.specs.declared.status.Status.{Status}
 use Rattle.junction_run.specs.declared.status.Status.TheVariants.{Done, Memory, Words, ReadFault, WriteFault}
 use Rattle.junction_run.specs.Form.{Form, form_of}
-use Rattle.junction_run.specs.Loading.{Loaded, Loads}
-use Rattle.junction_run.specs.Answer.{answer_to}
 use Rattle.junction_run.specs.Answers.{AnswersTo, Seen, JunctionAnswers}
 use Rattle.junction_run.specs.Laws.{EndsSurely, IsComplete}
 

@@ -1,5 +1,5 @@
 -- The text of a program, judged stage by stage.
-use Rattle.std.proofs.Common.{◌≡◌, ◌∙◌, ◌≤◌, ◌<◌, max, ℕ, List, length, Result, Ok, Err, refl, sym, ap, subst, arith}
+use Rattle.std.proofs.Common.{◌≡◌, ◌∙◌, ◌≤◌, ℕ, List, length, Result, Ok, Err, refl, sym, ap, subst}
 use Rattle.std.specs.Prelude.{IfOk, IfErr}
 use Rattle.vap_ast.specs.declared.tree.Program.{Program as Tree}
 use Rattle.vap_ast.specs.Tree.{program_of}
@@ -72,10 +72,6 @@ verified_text (Err stop) text code read is wrong = wrong
 pub unsound_text : (text : List ℕ) (code : CodeOf) (why : VerifyWhy) (place line : ℕ) → code_of text ≡ Ok code → FirstBroken code why place → line ≡ instr_line code place →
     CodeIs text (Err (line, verify_reason why))
 unsound_text text code why place line read is at = subst (λ n. CodeIs text (Err (n, verify_reason why))) (sym at) (unsound code why place read is)
-
--- the line of an instruction is small
-pub place_within : (n place : ℕ) → n ≤ 65535 → place < max 1 n → place < 65536
-place_within n place short is = omega arith
 
 -- ---- a file
 
