@@ -37,6 +37,7 @@ use Rattle.controller.specs.Past.{Site, Past}
 use Rattle.controller.specs.Second.{run_from, past_of, past_after, record_of, longer}
 use Rattle.controller.proofs.Runs.{run_from-more, past_of-more}
 use Rattle.det_board.specs.Passes.{Ticking, Takes as TickTakes}
+use Rattle.junction_run.proofs.Logs.{plan_is}
 use Rattle.junction_live.specs.Play.{Loaded}
 use Rattle.junction_live.specs.Outcome.{log_of}
 use Rattle.junction_live.proofs.Loads.{loaded_none, loaded_more, takes_next}
@@ -86,11 +87,6 @@ past_of-frames logic site past (f ∷ fs) = past_of-frames logic site (longer lo
 
 pub frames_are : (logic : Logic) (site : Site) (past : Past) (fs : List Counts) → past.frames ≡ [] → (past_of logic site past fs).frames ≡ fs
 frames_are logic site past fs none = past_of-frames logic site past fs ∙ ap (λ l. l ++ fs) none
-
--- a controller's plan is its site's
-pub plan_is : (c : Controller) → plan_of c ≡ (site_of c).plan
-unfolding plan_of site_of
-plan_is c = refl
 
 -- a text cut in its last piece
 pub cut_later : (start mid new : Option (List ℕ)) (n : ℕ) (front piece whole : List ℕ) → mid ≡ append_known start front →

@@ -4,7 +4,7 @@ ghost use Rattle.sig_io.specs.Outside.{Rose};
 ghost use Rattle.sig_types.specs.Counts.{AreFrames};
 ghost use Rattle.controller.specs.Past.{Past};
 ghost use Rattle.det_board.specs.Passes.{IsOpening};
-ghost use Rattle.junction_live.specs.Outcome.{HasMadeNone, IsLiveLog, is_done as is_done_lem};
+ghost use Rattle.junction_live.specs.Outcome.{HasMadeNone, IsLiveLog, is_done as is_done_spec};
 
 use crate::apart::play_apart;
 use controller::Controller;
@@ -17,7 +17,7 @@ use std::thread::Threads;
 
 /// Whether all seconds were made, and their records written.
 pub(crate) fn is_done(status: Status) -> bool
-    ensures { result ≡ is_done_lem status }
+    ensures { result ≡ is_done_spec status }
 {
     match status {
         Status::Done => true,

@@ -7,7 +7,7 @@ use Rattle.controller.specs.Controls.{site_of}
 use Rattle.controller.specs.Past.{opening}
 use Rattle.junction_live.proofs.ClosingSecond.{opening_all}
 use Rattle.junction_live.proofs.LiveLogs.{wrote, header_cut}
-use Rattle.junction_live.proofs.Running.{plan_is}
+use Rattle.junction_run.proofs.Logs.{plan_is}
 use Rattle.junction_live.proofs.log.write_live.Goals as goal
 
 pub play_out-requires-clause-none_made : goal.play_out-requires-clause-none_made
