@@ -4,23 +4,11 @@ ghost use Rattle.junction_run.specs.Answers.{JunctionAnswers};
 ghost use Rattle.junction_live.specs.Answers.{LiveAnswers};
 ghost use Rattle.junction_live.specs.Form.{begins_live};
 
-use junction_live::live;
+use junction_live::{begins_live, live};
 use junction_run::{Status, junction};
 use sig_io::{Files, Gate, Sink};
 use std::alloc::Global;
 use std::thread::Threads;
-
-const LIVE: &str = "live";
-
-// Whether the first word asks for a live run.
-fn begins_live(words: &[String]) -> bool
-    ensures { result ≡ begins_live (map string_bytes words.now) }
-{
-    match words {
-        [command, ..] => command.as_str() == LIVE,
-        [] => false,
-    }
-}
 
 /// Does what the words say: a live run where the first word is `live`, and else what `junction` does.
 ///

@@ -1,6 +1,6 @@
 // The words of a live run.
 ghost use Rattle.std.specs.Prelude.{◌≡◌, None, Some, MatchOption, IfSome, length, map, string_bytes};
-ghost use Rattle.junction_live.specs.Form.{live_form};
+ghost use Rattle.junction_live.specs.Form.{begins_live, live_form};
 ghost use Rattle.junction_live.specs.FormWords.{form_in};
 
 const LIVE: &str = "live";
@@ -11,6 +11,16 @@ pub(crate) struct LiveWords<'a> {
     /// The names of the program, the PUA file, the times and the intergreens.
     pub(crate) names: &'a [String],
     pub(crate) detectors: &'a str,
+}
+
+/// Whether the first word asks for a live run.
+pub fn begins_live(words: &[String]) -> bool
+    ensures { result ≡ begins_live (map string_bytes words.now) }
+{
+    match words {
+        [command, ..] => command.as_str() == LIVE,
+        [] => false,
+    }
 }
 
 /// What the words ask for; None where they are not the form of a live run.

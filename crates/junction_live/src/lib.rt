@@ -19,3 +19,4 @@ pub use answer::live;
 pub use apart::play_apart;
 pub use beside::play;
 pub use closing::play_out;
+pub use form::begins_live;
