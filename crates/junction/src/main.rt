@@ -1,12 +1,13 @@
 //! A traffic signal controller on the command line: what its words ask for, over the files of the system.
 //!
-//! Its exit status is the number of the `Status` that the top call `program` answers.
+//! Its exit status is the number of the `Status` that the top call `program` answers, or of `Memory` where the words can't be
+//! had.
 #![tactic(auto)]
 
 mod top;
 
-use junction_run::{Status, exit_status};
-use sig_io::{DiskFiles, ErrSink, FreeGate, OutSink, put_all};
+use junction_run::{Status, Stop, exit_status, write_stop};
+use sig_io::{DiskFiles, ErrSink, FreeGate, OutSink};
 use std::alloc::{AllocError, Global};
 use std::env::Args;
 use std::io::ErrorKind;
@@ -35,8 +36,7 @@ fn main(rt: HostRuntime) -> ExitCode {
             &rt, alloc, &words, &mut files, &mut out, &mut notes, &FreeGate,
         ),
         Err(_) => {
-            // A note that fails changes no status.
-            let _ = put_all(&mut notes, b"junction: Memory\n");
+            write_stop(&Stop::Memory, &mut notes);
             Status::Memory
         }
     };
