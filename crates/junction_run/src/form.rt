@@ -26,6 +26,22 @@ pub(crate) struct SiteWords<'a> {
     pub(crate) intergreens: &'a str,
 }
 
+/// The names of the files of a site.
+pub(crate) fn site_words<'a>(
+    plan: &'a String,
+    times: &'a String,
+    intergreens: &'a String,
+) -> SiteWords<'a>
+    ensures { site_in result ≡
+        record { plan = string_bytes plan.now; times = string_bytes times.now; intergreens = string_bytes intergreens.now } }
+{
+    SiteWords {
+        plan: plan.as_str(),
+        times: times.as_str(),
+        intergreens: intergreens.as_str(),
+    }
+}
+
 /// What the words ask for.
 #[derive(Clone, Copy)]
 pub(crate) enum Form<'a> {
@@ -133,19 +149,11 @@ pub(crate) fn form_of(words: &[String]) -> Option<Form<'_>>
     match words {
         [command, program] => form_of_one(command.as_str(), program.as_str()),
         [command, file, plan, times, intergreens, detectors] => {
-            let site = SiteWords {
-                plan: plan.as_str(),
-                times: times.as_str(),
-                intergreens: intergreens.as_str(),
-            };
+            let site = site_words(plan, times, intergreens);
             form_of_play(command.as_str(), file.as_str(), site, detectors.as_str())
         }
         [command, program, plan, times, intergreens, seed, seconds] => {
-            let site = SiteWords {
-                plan: plan.as_str(),
-                times: times.as_str(),
-                intergreens: intergreens.as_str(),
-            };
+            let site = site_words(plan, times, intergreens);
             form_of_sample(
                 command.as_str(),
                 program.as_str(),

@@ -12,7 +12,7 @@ ghost use Rattle.junction_run.specs.Sites.{IsProgramLoad};
 ghost use Rattle.junction_run.specs.Stop.{IsAmong, StopsWith};
 ghost use Rattle.junction_run.specs.declared.status.Status.TheVariants as status;
 
-use crate::form::SiteWords;
+use crate::form::{SiteWords, site_words};
 use crate::notes::write_stop;
 use crate::program::take_program;
 use crate::site::{SiteTables, take_site};
@@ -138,11 +138,7 @@ pub fn load_site<F: Files, N: Sink>(
 {
     match names {
         [program, plan, times, intergreens] => {
-            let words = SiteWords {
-                plan: plan.as_str(),
-                times: times.as_str(),
-                intergreens: intergreens.as_str(),
-            };
+            let words = site_words(plan, times, intergreens);
             load_named(alloc, program.as_str(), &words, files, notes)
         }
         _ => unreachable!(),

@@ -1,5 +1,6 @@
 // The notes.
 ghost use Rattle.std.specs.Prelude.{◌≡◌, ◌++◌, ◌∷◌, [], List, codes};
+ghost use Rattle.std.specs.Fmt.{decimal};
 ghost use Rattle.std.specs.List.{flat_map};
 ghost use Rattle.std.specs.Io.KnownBytes.{append_known};
 ghost use Rattle.sig_io.specs.Outside.{Rose};
@@ -40,21 +41,22 @@ fn write_about<'x, N: Sink>(word: &'x [u8], text: &'x [u8], notes: &mut N)
 }
 
 // Writes a refusal: a file, a line and a reason.
-fn write_refusal<'x, N: Sink>(word: &'x [u8], line: &'x [u8], told: &Told<'x>, notes: &mut N)
+fn write_refusal<N: Sink>(word: &[u8], line: u32, told: &Told<'_>, notes: &mut N)
     ensures { (Rose (N.faults notes.old) (N.faults notes.new) → ⊥) →
         N.taken notes.new ≡ append_known (N.taken notes.old)
-        (codes "junction: " ++ word.now ++ codes ":" ++ line.now ++ codes ": "
+        (codes "junction: " ++ word.now ++ codes ":" ++ decimal line ++ codes ": "
         ++ told.now.name.now ++ told.now.blank.now ++ told.now.first.now ++ told.now.gap.now ++ told.now.second.now ++ codes "\n") }
 {
-    let head: &'x [u8] = b"junction: ";
-    let colon: &'x [u8] = b":";
-    let blank: &'x [u8] = b": ";
-    let end: &'x [u8] = b"\n";
-    let pieces: [&'x [u8]; 11] = [
+    let mut digits = Buffer::new();
+    let head: &[u8] = b"junction: ";
+    let colon: &[u8] = b":";
+    let blank: &[u8] = b": ";
+    let end: &[u8] = b"\n";
+    let pieces: [&[u8]; 11] = [
         head,
         word,
         colon,
-        line,
+        digits.format(line).as_bytes(),
         blank,
         told.name,
         told.blank,
@@ -80,18 +82,14 @@ pub fn write_stop<N: Sink>(stop: &Stop<'_>, notes: &mut N)
             line,
             reason: why,
         } => {
-            let mut line_digits = Buffer::new();
             let mut digits = Buffer::new();
-            let line = line_digits.format(*line).as_bytes();
-            write_refusal(word.as_bytes(), line, &reason(why, &mut digits), notes)
+            write_refusal(word.as_bytes(), *line, &reason(why, &mut digits), notes)
         }
         Stop::RefusedLine { word, line, why } => {
-            let mut line_digits = Buffer::new();
             let mut digits = Buffer::new();
-            let line = line_digits.format(*line).as_bytes();
             write_refusal(
                 word.as_bytes(),
-                line,
+                *line,
                 &stream_reason(*why, &mut digits),
                 notes,
             )

@@ -1,4 +1,5 @@
-use Rattle.std.proofs.Common.{◌∙◌, ap}
+use Rattle.std.proofs.Common.{◌≡◌, ◌∙◌, ◌++◌, rules, List, ℕ, ap}
+use Rattle.std.specs.Fmt.{decimal}
 use Rattle.std.specs.Prelude.{codes}
 use Rattle.std.specs.Io.KnownBytes.{append_known}
 use Rattle.junction_run.proofs.Pieces.{eleven}
@@ -7,5 +8,8 @@ use Rattle.junction_run.proofs.notes.write_refusal.Goals as goal
 pub returns : goal.returns
 returns g c = λ clean.
     let told = c.args.told.now in
+    let line : List ℕ = c.as_bytes.result.now in
+    let digits : line ≡ decimal c.args.line = search rules in
     c.write_pieces.ensures clean ∙ ap (λ l. append_known (g.N.Sink.taken c.args.notes.now) l)
-    (eleven (codes "junction: ") c.args.word.now (codes ":") c.args.line.now (codes ": ") told.name.now told.blank.now told.first.now told.gap.now told.second.now (codes "\n"))
+    (eleven (codes "junction: ") c.args.word.now (codes ":") line (codes ": ") told.name.now told.blank.now told.first.now told.gap.now told.second.now (codes "\n")
+    ∙ ap (λ l. codes "junction: " ++ c.args.word.now ++ codes ":" ++ l ++ codes ": " ++ told.name.now ++ told.blank.now ++ told.first.now ++ told.gap.now ++ told.second.now ++ codes "\n") digits)
