@@ -1,38 +1,5 @@
 -- A controller that makes seconds over drawn frames.
-use Rattle.std.proofs.Common.{
-  ◌≡◌,
-  ◌∙◌,
-  ℕ,
-  zero,
-  suc,
-  ◌+◌,
-  ◌-◌,
-  ◌<◌,
-  ◌≤◌,
-  Bool,
-  true,
-  false,
-  if◌then◌else◌,
-  ◌==◌,
-  ◌%◌,
-  List,
-  [],
-  ◌∷◌,
-  ◌++◌,
-  Option,
-  length,
-  map,
-  replicate,
-  get_or,
-  take,
-  sum_by,
-  refl,
-  sym,
-  ap,
-  subst,
-  arith,
-  length-append,
-}
+use Rattle.std.proofs.Common.{◌≡◌, ◌∙◌, ℕ, zero, suc, ◌+◌, ◌-◌, ◌<◌, ◌≤◌, Bool, true, false, if◌then◌else◌, ◌==◌, ◌%◌, List, [], ◌∷◌, ◌++◌, Option, length, map, replicate, get_or, sum_by, refl, sym, ap, subst, arith, length-append}
 use Rattle.std.proofs.lemmas.List.{length-map, length-replicate, take_all}
 use Rattle.std.proofs.lemmas.List.Sums.{sum_by-cons}
 use Rattle.rand_pcg.specs.Lcg.{Lcg}
@@ -48,7 +15,7 @@ use Rattle.vap_code.specs.Machine.{machine}
 use Rattle.vap_code.specs.Valid.{Valid}
 use Rattle.vap_vm.specs.Passes.{first_store}
 use Rattle.controller.specs.Past.{Site, Past, opening}
-use Rattle.controller.specs.Second.{run_from, past_of, longer, record_of}
+use Rattle.controller.specs.Second.{run_from, longer, record_of}
 use Rattle.controller.specs.declared.controller.Controller.{Controller}
 use Rattle.controller.specs.Controls.{StandsFor, site_of, logic_of, plan_of}
 use Rattle.controller.proofs.Runs.{run_from-more, past_of-more}
