@@ -115,23 +115,27 @@ Gains a k old new = (text : List ℕ) × GainedBy a.Gained k text × (new ≡ ap
 -- ---- what a command may answer, by what its files give and by the answer to that
 
 -- the answer's own: the files give it, its status is this one, and out gained the whole text
-abbrev pub IsAnswered : {A : Type 0} → (Result A Unloaded → Type 0) → (Result A Unloaded → Answer) → Status → Option (List ℕ) → Option (List ℕ) → Type 0
+abbrev pub IsAnswered : {A : Type 0} → (Result A Unloaded → Type 0) → (Result A Unloaded → Answer) → Status →
+    Option (List ℕ) → Option (List ℕ) → Type 0
 IsAnswered {A} Gives answer status old new =
     (r : Result A Unloaded) × Gives r × ((answer r).status ≡ status) × Gains (answer r) (answer r).pieces old new
 
 -- broken off before a read: out gained nothing, or the files give an answer and out gained some of its pieces
-abbrev pub IsBroken : {A : Type 0} → (Result A Unloaded → Type 0) → (Result A Unloaded → Answer) → Option (List ℕ) → Option (List ℕ) → Type 0
+abbrev pub IsBroken : {A : Type 0} → (Result A Unloaded → Type 0) → (Result A Unloaded → Answer) → Option (List ℕ) →
+    Option (List ℕ) → Type 0
 IsBroken {A} Gives answer old new =
     (new ≡ old) ⊎ ((r : Result A Unloaded) × Gives r × (k : ℕ) × (k ≤ (answer r).before_reads) × Gains (answer r) k old new)
 
 -- cut off: out gained a front of the whole text, and not all of it
-abbrev pub IsCutOff : {A : Type 0} → (Result A Unloaded → Type 0) → (Result A Unloaded → Answer) → Option (List ℕ) → Option (List ℕ) → Type 0
+abbrev pub IsCutOff : {A : Type 0} → (Result A Unloaded → Type 0) → (Result A Unloaded → Answer) → Option (List ℕ) →
+    Option (List ℕ) → Type 0
 IsCutOff {A} Gives answer old new =
     (r : Result A Unloaded) × Gives r
     × (text : List ℕ) × GainedBy (answer r).Gained (answer r).pieces text × (n : ℕ) × IsCut old new n text
 
 -- A status, with what out has gained: the answer's own, or want of memory, or a fault on the way.
-abbrev pub MeetsBy : {A : Type 0} → (Result A Unloaded → Type 0) → (Result A Unloaded → Answer) → Status → Option (List ℕ) → Option (List ℕ) → Type 0
+abbrev pub MeetsBy : {A : Type 0} → (Result A Unloaded → Type 0) → (Result A Unloaded → Answer) → Status → Option (List ℕ) →
+    Option (List ℕ) → Type 0
 MeetsBy Gives answer status.Done old new = IsAnswered Gives answer status.Done old new
 MeetsBy Gives answer status.Memory old new = new ≡ old
 MeetsBy Gives answer status.Words old new = ⊥

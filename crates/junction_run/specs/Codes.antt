@@ -15,8 +15,8 @@ use Rattle.junction_run.specs.Reasons.{code_reason, verify_reason}
 abbrev pub instr_line : CodeOf → ℕ → ℕ
 instr_line code place = 7 + length code.arrays + length code.starts + place
 
--- A text is that of a valid code; or it is refused at a line: at the first that is not as it must be, else at the instruction of the
--- least place at which the first broken check is broken.
+-- A text is that of a valid code; or it is refused at a line: at the first that is not as it must be, else at the instruction of
+-- the least place at which the first broken check is broken.
 pub data CodeIs (bytes : List ℕ) : Result CodeOf (ℕ × List ℕ) → Type 0 where
   no_code : (line : ℕ) (why : CodeWhy) → code_of bytes ≡ Err (line, why) → CodeIs bytes (Err (line, code_reason why))
   unsound : (code : CodeOf) (why : VerifyWhy) (place : ℕ) → code_of bytes ≡ Ok code → FirstBroken code why place

@@ -39,7 +39,9 @@ sample_by program site (Some seed) (Some seconds) = Some (Sample program site se
 -- COMMAND PROGRAM PUA TIMES INTERGREENS SEED SECONDS: decimal numbers of 0 to 2^64 - 1 and of 0 to 604,800
 abbrev pub form_of_sample : (command program : List ℕ) (site : SiteWords) (seed seconds : List ℕ) → Option Form
 form_of_sample command program site seed seconds =
-    if is_word command (codes "sample") then sample_by program site (within 0 (2 ^ 64 - 1) (number_of seed)) (within 0 604800 (number_of seconds)) else None
+    if is_word command (codes "sample")
+    then sample_by program site (within 0 (2 ^ 64 - 1) (number_of seed)) (within 0 604800 (number_of seconds))
+    else None
 
 -- compile PROGRAM; run PROGRAM PUA TIMES INTERGREENS DETECTORS; exec CODE PUA TIMES INTERGREENS DETECTORS;
 -- sample PROGRAM PUA TIMES INTERGREENS SEED SECONDS

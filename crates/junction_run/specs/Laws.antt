@@ -31,7 +31,8 @@ EndsSurely words file status =
 abbrev pub RefusedOnlyWhere : Type 0
 RefusedOnlyWhere =
     (form : Form) (file : Contents) (old new : Option (List ℕ)) →
-    (Meets form file RefusedFile old new → (u : Unloaded) × Loads form file (Err u)) × (Meets form file TooLong old new → (u : Unloaded) × Loads form file (Err u))
+    (Meets form file RefusedFile old new → (u : Unloaded) × Loads form file (Err u))
+    × (Meets form file TooLong old new → (u : Unloaded) × Loads form file (Err u))
 
 -- whatever a form plays of what its files give, every run of it is guarded, for all frames
 abbrev pub LoadedRunsAreGuarded : Type 0

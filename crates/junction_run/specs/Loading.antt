@@ -65,7 +65,8 @@ plan_at file word = judged word (file word) (plan_refusal (refusal_of (file word
 
 -- the times of the table, read against the plan
 abbrev pub times_at : Contents → List ℕ → PlanOf → Result (List TimesRow) Unloaded
-times_at file word plan = judged word (file word) (table_refusal plan (times_refusal plan (file word))) (times_of plan (file word))
+times_at file word plan =
+    judged word (file word) (table_refusal plan (times_refusal plan (file word))) (times_of plan (file word))
 
 -- the seconds between two groups that conflict
 abbrev pub intergreens_at : Contents → List ℕ → PlanOf → Result (ℕ → ℕ → Option ℕ) Unloaded
@@ -89,9 +90,11 @@ site_of words file = do
 -- ---- a program or a code
 
 -- a file is measured, and then judged: `Is` tells the value of its bytes, or the line and the reason of a refusal
-pub data IsJudged {V : Type 0} (Is : List ℕ → Result V Refusal → Type 0) (limit : ℕ) (word bytes : List ℕ) : Result V Unloaded → Type 0 where
+pub data IsJudged {V : Type 0} (Is : List ℕ → Result V Refusal → Type 0) (limit : ℕ)
+    (word bytes : List ℕ) : Result V Unloaded → Type 0 where
   long : limit < length bytes → IsJudged Is limit word bytes (Err (TooLong word))
-  refused : (line : ℕ) (reason : List ℕ) → length bytes ≤ limit → Is bytes (Err (line, reason)) → IsJudged Is limit word bytes (Err (Refused word line reason))
+  refused : (line : ℕ) (reason : List ℕ) → length bytes ≤ limit → Is bytes (Err (line, reason)) →
+      IsJudged Is limit word bytes (Err (Refused word line reason))
   accepted : (value : V) → length bytes ≤ limit → Is bytes (Ok value) → IsJudged Is limit word bytes (Ok value)
 
 -- ---- what a command works on
@@ -116,13 +119,15 @@ map_ok f (Ok x) = Ok (f x)
 map_ok f (Err u) = Err u
 
 -- the site first, and then a file that is judged
-abbrev pub AfterSite : {V : Type 0} → (Site → V → Playing) → Result Site Unloaded → (Result V Unloaded → Type 0) → Result Playing Unloaded → Type 0
+abbrev pub AfterSite : {V : Type 0} → (Site → V → Playing) → Result Site Unloaded → (Result V Unloaded → Type 0) →
+    Result Playing Unloaded → Type 0
 AfterSite at (Err u) Judged r = r ≡ Err u
 AfterSite {V} at (Ok site) Judged r = (v : Result V Unloaded) × Judged v × (r ≡ map_ok (at site) v)
 
 -- a program at a site
 abbrev pub LoadsProgram : (program : List ℕ) → SiteWords → Contents → Result Playing Unloaded → Type 0
-LoadsProgram program words file r = AfterSite program_at (site_of words file) (IsJudged ProgramIs text_limit program (file program)) r
+LoadsProgram program words file r =
+    AfterSite program_at (site_of words file) (IsJudged ProgramIs text_limit program (file program)) r
 
 -- a code at a site
 abbrev pub LoadsCode : (code : List ℕ) → SiteWords → Contents → Result Playing Unloaded → Type 0
@@ -156,7 +161,8 @@ Loads (Sample program site seed seconds) file r = LoadsProgram program site file
 pub data ReachedInSite (words : SiteWords) (file : Contents) : List ℕ → Type 0 where
   at_plan : ReachedInSite words file words.plan
   at_times : (plan : PlanOf) → plan_at file words.plan ≡ Ok plan → ReachedInSite words file words.times
-  at_intergreens : (plan : PlanOf) (times : List TimesRow) → plan_at file words.plan ≡ Ok plan → times_at file words.times plan ≡ Ok times → ReachedInSite words file words.intergreens
+  at_intergreens : (plan : PlanOf) (times : List TimesRow) → plan_at file words.plan ≡ Ok plan →
+      times_at file words.times plan ≡ Ok times → ReachedInSite words file words.intergreens
 
 -- a file after those of a site
 pub data ReachedAfterSite (word : List ℕ) (words : SiteWords) (file : Contents) : List ℕ → Type 0 where
@@ -164,7 +170,8 @@ pub data ReachedAfterSite (word : List ℕ) (words : SiteWords) (file : Contents
   at_last : (site : Site) → site_of words file ≡ Ok site → ReachedAfterSite word words file word
 
 -- the detector file is read once all others are accepted
-pub data ReachedInPlay (word : List ℕ) (words : SiteWords) (detectors : List ℕ) (file : Contents) (IsLoaded : Playing → Type 0) : List ℕ → Type 0 where
+pub data ReachedInPlay (word : List ℕ) (words : SiteWords) (detectors : List ℕ) (file : Contents)
+    (IsLoaded : Playing → Type 0) : List ℕ → Type 0 where
   at_load : (w : List ℕ) → ReachedAfterSite word words file w → ReachedInPlay word words detectors file IsLoaded w
   at_detectors : (playing : Playing) → IsLoaded playing → ReachedInPlay word words detectors file IsLoaded detectors
 

@@ -25,7 +25,8 @@ NamesFile files text note = (word : List ℕ) × Contains files word × (note �
 
 -- a note that names one of these files, a line of it and a reason
 abbrev pub NamesLine : List (List ℕ) → List ℕ → Type 0
-NamesLine files note = (word : List ℕ) × (line : ℕ) × (reason : List ℕ) × Contains files word × (note ≡ line_note word line reason)
+NamesLine files note =
+    (word : List ℕ) × (line : ℕ) × (reason : List ℕ) × Contains files word × (note ≡ line_note word line reason)
 
 -- The note of a status, whatever the files hold; these are named.
 abbrev pub IsNote : List (List ℕ) → Status → List ℕ → Type 0
@@ -40,15 +41,18 @@ IsNote files status.TooLong note = NamesFile files (codes ": TooLong") note
 
 -- the note is that of the answer
 abbrev pub IsAnswersNote : {A : Type 0} → (Result A Unloaded → Type 0) → (Result A Unloaded → Answer) → Status → List ℕ → Type 0
-IsAnswersNote {A} Gives answer status note = (r : Result A Unloaded) × Gives r × ((answer r).status ≡ status) × (note ≡ (answer r).note)
+IsAnswersNote {A} Gives answer status note =
+    (r : Result A Unloaded) × Gives r × ((answer r).status ≡ status) × (note ≡ (answer r).note)
 
 -- The note of a status that tells of what the files hold: the answer's, and a file that can't be read is one that the command
 -- comes to read.
-abbrev pub NoteMeetsBy : {A : Type 0} → (Result A Unloaded → Type 0) → (Result A Unloaded → Answer) → (List ℕ → Type 0) → Status → List ℕ → Type 0
+abbrev pub NoteMeetsBy : {A : Type 0} → (Result A Unloaded → Type 0) → (Result A Unloaded → Answer) → (List ℕ → Type 0) →
+    Status → List ℕ → Type 0
 NoteMeetsBy Gives answer Reached status.Done note = ⊤
 NoteMeetsBy Gives answer Reached status.Memory note = ⊤
 NoteMeetsBy Gives answer Reached status.Words note = ⊤
-NoteMeetsBy Gives answer Reached status.ReadFault note = (word : List ℕ) × Reached word × (note ≡ note_of (word ++ codes ": ReadFault"))
+NoteMeetsBy Gives answer Reached status.ReadFault note =
+    (word : List ℕ) × Reached word × (note ≡ note_of (word ++ codes ": ReadFault"))
 NoteMeetsBy Gives answer Reached status.WriteFault note = ⊤
 NoteMeetsBy Gives answer Reached status.RefusedFile note = IsAnswersNote Gives answer status.RefusedFile note
 NoteMeetsBy Gives answer Reached status.RefusedLine note = IsAnswersNote Gives answer status.RefusedLine note

@@ -16,6 +16,8 @@ abbrev pub playing_of : Controller → Store → Playing
 playing_of controller store = record { logic = logic_of controller; store = store; site = site_of controller }
 
 -- A detector file was played so: the log of the frames that were given was written; or memory was wanted, and nothing was.
-pub data IsPlayedAt {A : Type 0} (playing : Playing) (name : List ℕ) (stream : Stream) (r : Result A Stop) (old new : Option (List ℕ)) : Type 0 where
-  played : (frames : List Counts) → IsWritten r (log_of playing frames) old new → IsPlayed name r stream frames → IsPlayedAt playing name stream r old new
+pub data IsPlayedAt {A : Type 0} (playing : Playing) (name : List ℕ) (stream : Stream) (r : Result A Stop)
+    (old new : Option (List ℕ)) : Type 0 where
+  played : (frames : List Counts) → IsWritten r (log_of playing frames) old new → IsPlayed name r stream frames →
+      IsPlayedAt playing name stream r old new
   no_memory : r ≡ Err Memory → new ≡ old → IsPlayedAt playing name stream r old new

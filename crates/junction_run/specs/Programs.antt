@@ -27,7 +27,8 @@ pub data ProgramIs (bytes : List ℕ) : Result Program (ℕ × List ℕ) → Typ
   no_token : (place : ℕ) (why : LexWhy) → IsStuck bytes place why → ProgramIs bytes (Err (line_at bytes place, lex_reason why))
   no_tree : (tokens : List Token) (rest : List Token) (why : Reason) → HasTokens bytes tokens → grammar.Refuses tokens why rest
       → ProgramIs bytes (Err (line_of tokens rest, parse_reason (why_of tokens rest why)))
-  unchecked : (tokens : List Token) (program : Program) (line : ℕ) (why : CheckWhy) → HasTokens bytes tokens → Accepts tokens program
+  unchecked : (tokens : List Token) (program : Program) (line : ℕ) (why : CheckWhy)
+      → HasTokens bytes tokens → Accepts tokens program
       → check.Refuses program line why → ProgramIs bytes (Err (line, check_reason why))
   is_program : (tokens : List Token) (program : Program) → HasTokens bytes tokens → Accepts tokens program → Accepted program
       → ProgramIs bytes (Ok program)

@@ -28,7 +28,8 @@ IsRefusedLoad program words file status =
 
 -- the files give this site and its program, or they are refused, or memory was wanted or a file could not be read
 abbrev pub IsSiteLoad : List ℕ → SiteWords → Contents → Result Loaded Status → Type 0
-IsSiteLoad name words file (Ok s) = (program : Program) × LoadsProgram name words file (Ok (program_at (site_in s) program)) × Runs s.code program
+IsSiteLoad name words file (Ok s) =
+    (program : Program) × LoadsProgram name words file (Ok (program_at (site_in s) program)) × Runs s.code program
 IsSiteLoad name words file (Err status.Done) = ⊥
 IsSiteLoad name words file (Err status.Memory) = Unit {0}
 IsSiteLoad name words file (Err status.Words) = ⊥
@@ -41,14 +42,16 @@ IsSiteLoad name words file (Err status.TooLong) = IsRefusedLoad name words file 
 -- the note of files that are refused so
 abbrev pub IsRefusedNote : List ℕ → SiteWords → Contents → Status → List ℕ → Type 0
 IsRefusedNote program words file status note =
-    (u : Unloaded) × LoadsProgram program words file (Err u) × ((unloaded_answer u).status ≡ status) × (note ≡ (unloaded_answer u).note)
+    (u : Unloaded) × LoadsProgram program words file (Err u) × ((unloaded_answer u).status ≡ status)
+    × (note ≡ (unloaded_answer u).note)
 
 -- the note of a status that tells of what the files hold
 abbrev pub IsSiteNote : List ℕ → SiteWords → Contents → Status → List ℕ → Type 0
 IsSiteNote name words file status.Done note = ⊥
 IsSiteNote name words file status.Memory note = Unit {0}
 IsSiteNote name words file status.Words note = ⊥
-IsSiteNote name words file status.ReadFault note = (word : List ℕ) × ReachedAfterSite name words file word × (note ≡ note_of (word ++ codes ": ReadFault"))
+IsSiteNote name words file status.ReadFault note =
+    (word : List ℕ) × ReachedAfterSite name words file word × (note ≡ note_of (word ++ codes ": ReadFault"))
 IsSiteNote name words file status.WriteFault note = ⊥
 IsSiteNote name words file status.RefusedFile note = IsRefusedNote name words file status.RefusedFile note
 IsSiteNote name words file status.RefusedLine note = ⊥

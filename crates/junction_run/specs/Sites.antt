@@ -46,12 +46,14 @@ IsProgramText bytes (Err stop) = IsRefusedProgram bytes stop
 
 -- a program file was taken so
 abbrev pub IsProgramFile : (name bytes : List ℕ) → Result CodeOf Stop → Type 0
-IsProgramFile name bytes (Ok code) = (program : Program) × IsJudged ProgramIs text_limit name bytes (Ok program) × Runs code program
+IsProgramFile name bytes (Ok code) =
+    (program : Program) × IsJudged ProgramIs text_limit name bytes (Ok program) × Runs code program
 IsProgramFile name bytes (Err stop) = IsUnloadedBy (IsJudged ProgramIs text_limit name bytes) (λ word. word ≡ name) stop
 
 -- a program at a site was loaded so
 abbrev pub IsProgramLoad : (name : List ℕ) → SiteWords → Contents → Result Loaded Stop → Type 0
-IsProgramLoad name words file (Ok s) = (program : Program) × LoadsProgram name words file (Ok (program_at (site_in s) program)) × Runs s.code program
+IsProgramLoad name words file (Ok s) =
+    (program : Program) × LoadsProgram name words file (Ok (program_at (site_in s) program)) × Runs s.code program
 IsProgramLoad name words file (Err stop) = IsUnloadedBy (LoadsProgram name words file) (ReachedAfterSite name words file) stop
 
 -- the text of a code was read and verified so

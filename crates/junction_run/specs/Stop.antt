@@ -127,5 +127,6 @@ IsPlayed name (Err Memory) stream frames = ⊥
 IsPlayed name (Err (ReadFault word)) stream frames = (word.now ≡ name) × BeginsWith stream frames
 IsPlayed name (Err WriteFault) stream frames = BeginsWith stream frames
 IsPlayed name (Err (Refused word line reason)) stream frames = ⊥
-IsPlayed name (Err (RefusedLine word line why)) stream frames = (word.now ≡ name) × (stream.frames ≡ frames) × (stream.refusal ≡ Some (line, why))
+IsPlayed name (Err (RefusedLine word line why)) stream frames =
+    (word.now ≡ name) × (stream.frames ≡ frames) × (stream.refusal ≡ Some (line, why))
 IsPlayed name (Err (TooLong word)) stream frames = ⊥

@@ -63,7 +63,8 @@ fn play_site<'a, F: Files, O: Sink>(
     requires times { length site.times ≡ groups_in site.plan }
     requires intergreens { site.intergreens.count ≡ groups_in site.plan }
     ensures played { ForSome (F.told files.old) (λ file.
-        IsPlayedAt (sites.playing_in site) detectors.now (stream_of (file detectors.now)) result (O.taken out.old) (O.taken out.new)) }
+        IsPlayedAt (sites.playing_in site) detectors.now (stream_of (file detectors.now))
+        result (O.taken out.old) (O.taken out.new)) }
     ensures valid { Valid site.code }
     ensures guarded { IsGuardedLog (O.taken out.old) (O.taken out.new) }
     ensures word { IfErr result (λ stop. StopsAt detectors.now stop) }

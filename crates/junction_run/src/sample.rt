@@ -37,7 +37,8 @@ fn sample_seconds(controller: &mut Controller, seed: u64, seconds: u32) -> Summa
     requires begun { (store : Store) × StandsFor controller.old (opening (site_of controller.old) store) }
     requires few { seconds ≤ 604800 }
     ensures summed { (store : Store) → StandsFor controller.old (opening (site_of controller.old) store) →
-        SummaryStands result (groups_in (plan_of controller.old)) (records_of (playing_of controller.old store) (drawn seed seconds)) }
+        SummaryStands result
+        (groups_in (plan_of controller.old)) (records_of (playing_of controller.old store) (drawn seed seconds)) }
     ensures plan { plan_of controller.new ≡ plan_of controller.old }
 {
     let mut summary = Summary::new(controller.plan().groups());

@@ -99,7 +99,8 @@ fn judge_intergreens<'a>(
 
 // Reads and judges the plan.
 fn take_plan<'a, F: Files>(alloc: Global, word: &'a str, files: &mut F) -> Result<Plan, Stop<'a>>
-    ensures plan { ForSome (F.told files.old) (λ file. IsLoading (λ w. w ≡ word.now) (λ plan. plan) result (plan_at file word.now)) }
+    ensures plan { ForSome (F.told files.old)
+        (λ file. IsLoading (λ w. w ≡ word.now) (λ plan. plan) result (plan_at file word.now)) }
     ensures word { IfErr result (λ stop. IsAt word.now stop) }
     ensures contents_stay { F.told files.new ≡ F.told files.old }
     ensures later { F.faults files.old ≤ F.faults files.new }
@@ -119,7 +120,8 @@ fn take_times<'a, F: Files>(
     files: &mut F,
     plan: Plan,
 ) -> Result<(Plan, Times), Stop<'a>>
-    ensures times { ForSome (F.told files.old) (λ file. IsLoading (λ w. w ≡ word.now) (λ r. r.1) result (times_at file word.now plan)) }
+    ensures times { ForSome (F.told files.old)
+        (λ file. IsLoading (λ w. w ≡ word.now) (λ r. r.1) result (times_at file word.now plan)) }
     ensures plan { IfOk result (λ r. r.0 ≡ plan) }
     ensures groups { IfOk result (λ r. length r.1 ≡ groups_in plan) }
     ensures word { IfErr result (λ stop. IsAt word.now stop) }
@@ -141,7 +143,8 @@ fn take_intergreens<'a, F: Files>(
     files: &mut F,
     plan: Plan,
 ) -> Result<(Plan, Intergreens), Stop<'a>>
-    ensures intergreens { ForSome (F.told files.old) (λ file. IsLoading (λ w. w ≡ word.now) (λ r. between r.1) result (intergreens_at file word.now plan)) }
+    ensures intergreens { ForSome (F.told files.old)
+        (λ file. IsLoading (λ w. w ≡ word.now) (λ r. between r.1) result (intergreens_at file word.now plan)) }
     ensures plan { IfOk result (λ r. r.0 ≡ plan) }
     ensures groups { IfOk result (λ r. r.1.count ≡ groups_in plan) }
     ensures word { IfErr result (λ stop. IsAt word.now stop) }
@@ -162,7 +165,9 @@ pub(crate) fn take_site<'a, F: Files>(
     words: &SiteWords<'a>,
     files: &mut F,
 ) -> Result<SiteTables, Stop<'a>>
-    ensures site { ForSome (F.told files.old) (λ file. IsLoading (λ w. ReachedInSite (site_in words.now) file w) site_of_tables result (site_of (site_in words.now) file)) }
+    ensures site { ForSome (F.told files.old)
+        (λ file. IsLoading (λ w. ReachedInSite (site_in words.now) file w) site_of_tables result
+        (site_of (site_in words.now) file)) }
     ensures times { IfOk result (λ s. length s.times ≡ groups_in s.plan) }
     ensures intergreens { IfOk result (λ s. s.intergreens.count ≡ groups_in s.plan) }
     ensures word { IfErr result (λ stop. IsAmong (site_files (site_in words.now)) stop) }

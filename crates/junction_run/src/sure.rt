@@ -20,7 +20,8 @@ pub fn junction_surely<N: Sink>(
 ) -> Status
     ensures no_read_fault { result ≡ Status.ReadFault → ⊥ }
     ensures no_write_fault { result ≡ Status.WriteFault → ⊥ }
-    ensures complete { ForSome (⟦<SureFiles as Files>⟧.told files.old) (λ file. EndsSurely (map string_bytes words.now) file result) }
+    ensures complete { ForSome (⟦<SureFiles as Files>⟧.told files.old)
+        (λ file. EndsSurely (map string_bytes words.now) file result) }
 {
     answers_are_right();
     junction(alloc, words, files, out, notes)
