@@ -59,7 +59,8 @@ Loads form file playing = LoadsProgram form.program form.site file (Ok playing)
 -- next one: what a status tells of them, and what out has gained.
 abbrev pub Meets : LiveWords → Contents → Status → Option (List ℕ) → Option (List ℕ) → Type 0
 Meets form file status.Done old new =
-    (playing : Playing) × Loads form file playing × (refusal_in form file ≡ None) × IsWholeLog playing (frames_in form file) old new
+    (playing : Playing) × Loads form file playing × (refusal_in form file ≡ None)
+    × IsWholeLog playing (frames_in form file) old new
 Meets form file status.Memory old new = new ≡ old
 Meets form file status.Words old new = ⊥
 Meets form file status.ReadFault old new = new ≡ old
@@ -90,7 +91,8 @@ abbrev pub NoteMeets : LiveWords → Contents → Status → List ℕ → Type 0
 NoteMeets form file status.Done note = ⊤
 NoteMeets form file status.Memory note = ⊤
 NoteMeets form file status.Words note = ⊤
-NoteMeets form file status.ReadFault note = (word : List ℕ) × Reached form file word × (note ≡ note_of (word ++ codes ": ReadFault"))
+NoteMeets form file status.ReadFault note =
+    (word : List ℕ) × Reached form file word × (note ≡ note_of (word ++ codes ": ReadFault"))
 NoteMeets form file status.WriteFault note = ⊤
 NoteMeets form file status.RefusedFile note = IsRefusedNote form.program form.site file status.RefusedFile note
 NoteMeets form file status.RefusedLine note =

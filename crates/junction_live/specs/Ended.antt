@@ -33,10 +33,13 @@ Wrote status.TooLong frames playing old new = ⊥
 
 -- a detector file with these bytes was played so
 abbrev pub IsPlayed : {A : Type 0} → (name bytes : List ℕ) → Playing → Result A Stop → Option (List ℕ) → Option (List ℕ) → Type 0
-IsPlayed name bytes playing (Ok x) old new = ((stream_of bytes).refusal ≡ None) × IsWholeLog playing (stream_of bytes).frames old new
+IsPlayed name bytes playing (Ok x) old new =
+    ((stream_of bytes).refusal ≡ None) × IsWholeLog playing (stream_of bytes).frames old new
 IsPlayed name bytes playing (Err Memory) old new = Unit {0}
 IsPlayed name bytes playing (Err (ReadFault word)) old new = word.now ≡ name
-IsPlayed name bytes playing (Err WriteFault) old new = ((stream_of bytes).refusal ≡ None) × IsCutLog playing (stream_of bytes).frames old new
+IsPlayed name bytes playing (Err WriteFault) old new =
+    ((stream_of bytes).refusal ≡ None) × IsCutLog playing (stream_of bytes).frames old new
 IsPlayed name bytes playing (Err (Refused word line reason)) old new = ⊥
-IsPlayed name bytes playing (Err (RefusedLine word line why)) old new = (word.now ≡ name) × ((stream_of bytes).refusal ≡ Some (line, why))
+IsPlayed name bytes playing (Err (RefusedLine word line why)) old new =
+    (word.now ≡ name) × ((stream_of bytes).refusal ≡ Some (line, why))
 IsPlayed name bytes playing (Err (TooLong word)) old new = ⊥

@@ -12,7 +12,11 @@ pub record LiveWords : Type 0 where
 abbrev pub form_of_live : (command program plan times intergreens detectors : List ℕ) → Option LiveWords
 form_of_live command program plan times intergreens detectors =
     if is_word command (codes "live")
-    then Some (record { program = program; site = record { plan = plan; times = times; intergreens = intergreens }; detectors = detectors })
+    then Some (record {
+      program = program;
+      site = record { plan = plan; times = times; intergreens = intergreens };
+      detectors = detectors;
+    })
     else None
 
 -- live PROGRAM PUA TIMES INTERGREENS DETECTORS

@@ -13,7 +13,8 @@ use Rattle.junction_live.specs.Answers.{LiveAnswer}
 -- memory was wanted
 abbrev pub IsComplete : Type 0
 IsComplete =
-    (form : LiveWords) (file : Contents) (playing : Playing) (files : Seen Contents) (out notes : Seen (List ℕ)) (status : Status) →
+    (form : LiveWords) (file : Contents) (playing : Playing) →
+    (files : Seen Contents) (out notes : Seen (List ℕ)) (status : Status) →
     files.old ≡ Some file → Loads form file playing → refusal_in form file ≡ None →
     (Rose files.before files.after → ⊥) → (Rose out.before out.after → ⊥) → LiveAnswer form files out notes status →
     (status ≡ Done) ⊎ (status ≡ Memory)

@@ -21,8 +21,10 @@ log_of logic site past made = records_text site.plan.names (run_from logic site 
 
 -- of that many seconds those of these frames were made, and their records written, or cut
 abbrev pub Written : Status → ℕ → Logic → Site → Past → List Counts → Option (List ℕ) → Option (List ℕ) → Type 0
-Written Done seconds logic site past made old new = (length made ≡ seconds) × (new ≡ append_known old (log_of logic site past made))
-Written WriteFault seconds logic site past made old new = (length made ≤ seconds) × ((n : ℕ) × IsCut old new n (log_of logic site past made))
+Written Done seconds logic site past made old new =
+    (length made ≡ seconds) × (new ≡ append_known old (log_of logic site past made))
+Written WriteFault seconds logic site past made old new =
+    (length made ≤ seconds) × ((n : ℕ) × IsCut old new n (log_of logic site past made))
 Written Memory seconds logic site past made old new = ⊥
 Written Words seconds logic site past made old new = ⊥
 Written ReadFault seconds logic site past made old new = ⊥
@@ -59,15 +61,17 @@ SecondsPut seconds start now tick first later old new =
     (made : List Counts) × Loaded tick made × (length made ≤ seconds) × (later.failed ≡ false → length made ≡ seconds)
     × ((past : Past) → StandsFor start past → past.frames ≡ [] →
     StandsFor now (past_of (logic_of start) (site_of start) past made)
-    × ((begin : Option (List ℕ)) → IsDraft begin old first [] → IsDraft begin new later (log_of (logic_of start) (site_of start) past made)))
+    × ((begin : Option (List ℕ)) → IsDraft begin old first [] →
+    IsDraft begin new later (log_of (logic_of start) (site_of start) past made)))
 
 -- a whole live run over these frames: each of their events is in one of the seconds, and none is ahead of its time
 abbrev pub Live : Status → List Counts → Logic → Site → Past → Option (List ℕ) → Option (List ℕ) → Type 0
 Live Done frames logic site past old new =
-    (made : List Counts) × (length made ≡ length frames + 1) × ArePrintable made × (new ≡ append_known old (log_of logic site past made))
-    × NeverAhead made × SameSums frames made
+    (made : List Counts) × (length made ≡ length frames + 1) × ArePrintable made
+    × (new ≡ append_known old (log_of logic site past made)) × NeverAhead made × SameSums frames made
 Live WriteFault frames logic site past old new =
-    (made : List Counts) × (length made ≤ length frames + 1) × ((n : ℕ) × IsCut old new n (log_of logic site past made)) × NeverAhead made × NoMore frames made
+    (made : List Counts) × (length made ≤ length frames + 1) × ((n : ℕ) × IsCut old new n (log_of logic site past made))
+    × NeverAhead made × NoMore frames made
 Live Memory frames logic site past old new = ⊥
 Live Words frames logic site past old new = ⊥
 Live ReadFault frames logic site past old new = ⊥

@@ -22,7 +22,8 @@ all_rears d fs = sum_by (rears_in d) fs
 
 -- the feeder's pass counted what the frames have of its detector
 abbrev pub Played : List Counts → Feeding → Feeding → Type 0
-Played fs old new = new ≡ record { table = old.table; place = old.place; fronts = all_fronts old.place fs; rears = all_rears old.place fs }
+Played fs old new =
+    new ≡ record { table = old.table; place = old.place; fronts = all_fronts old.place fs; rears = all_rears old.place fs }
 
 -- the value loaded before the one at place j, or 0
 abbrev pub before : List ℕ → ℕ → ℕ

@@ -61,7 +61,8 @@ fn play_site<'a, R: Threads + Sync, F: Files, O: Sink + Send, G: Gate>(
     requires times { length site.times ≡ groups_in site.plan }
     requires intergreens { site.intergreens.count ≡ groups_in site.plan }
     ensures played { (program : Program) → Runs site.code program → ForSome (F.told files.old) (λ file.
-        IsPlayed detectors.now (file detectors.now) (program_at (site_in site) program) result (O.taken out.old) (O.taken out.new)) }
+        IsPlayed detectors.now (file detectors.now) (program_at (site_in site) program)
+        result (O.taken out.old) (O.taken out.new)) }
     ensures unwritten { IfErr result (λ stop. may_write (status_of_stop stop) ≡ false → O.taken out.new ≡ O.taken out.old) }
     ensures guarded { IsGuardedLog (O.taken out.old) (O.taken out.new) }
     ensures word { IfErr result (λ stop. StopsAt detectors.now stop) }

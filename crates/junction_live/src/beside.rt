@@ -36,7 +36,8 @@ pub fn play<R: Threads + Sync, O: Sink + Send, G: Gate>(
     ensures feeders { ArePlayed 64 frames.now feeders.old.items feeders.new.items }
     ensures feeders_count { length feeders.new.items ≡ 64 }
     ensures tick { tick.new.table ≡ tick.old.table }
-    ensures made { SecondsMade (length frames.now) result controller.old controller.new tick.new (O.taken out.old) (O.taken out.new) }
+    ensures made { SecondsMade (length frames.now) result controller.old controller.new tick.new
+        (O.taken out.old) (O.taken out.new) }
     ensures site { site_of controller.new ≡ site_of controller.old }
     ensures logic { logic_of controller.new ≡ logic_of controller.old }
     ensures later { O.faults out.old ≤ O.faults out.new }
@@ -47,9 +48,11 @@ pub fn play<R: Threads + Sync, O: Sink + Send, G: Gate>(
     let (status, ()) = join_mut(
         rt,
         &mut || -> Status
-            requires { (tick.now.table ≡ board.now.table) × (board.now.detectors ≡ 64) × HasMadeNone controller.now × ((w : ℕ) → slice_index_or tick.now.loads w [] ≡ []) × (seconds ≤ 604800) }
+            requires { (tick.now.table ≡ board.now.table) × (board.now.detectors ≡ 64) × HasMadeNone controller.now
+                × ((w : ℕ) → slice_index_or tick.now.loads w [] ≡ []) × (seconds ≤ 604800) }
             ensures table { tick.exit.now.table ≡ tick.entry.now.table }
-            ensures made { SecondsMade seconds result controller.entry.now controller.exit.now tick.exit.now (O.taken out.entry.now) (O.taken out.exit.now) }
+            ensures made { SecondsMade seconds result controller.entry.now controller.exit.now tick.exit.now
+                (O.taken out.entry.now) (O.taken out.exit.now) }
             ensures site { site_of controller.exit.now ≡ site_of controller.entry.now }
             ensures logic { logic_of controller.exit.now ≡ logic_of controller.entry.now }
             ensures later { O.faults out.entry.now ≤ O.faults out.exit.now }

@@ -36,7 +36,12 @@ fn play_line<G: Gate>(
     requires within_fronts { pass.old.rears + counts.1 ≤ pass.old.fronts + counts.0 }
     requires at_most { pass.old.fronts + counts.0 ≤ 2147483647 }
     requires steps { first + counts.0 + counts.1 < 2 ^ 32 }
-    ensures pass { pass.new ≡ record { table = pass.old.table; place = pass.old.place; fronts = pass.old.fronts + counts.0; rears = pass.old.rears + counts.1 } }
+    ensures pass { pass.new ≡ record {
+      table = pass.old.table;
+      place = pass.old.place;
+      fronts = pass.old.fronts + counts.0;
+      rears = pass.old.rears + counts.1;
+    } }
     ensures step { result ≡ first + counts.0 + counts.1 }
 {
     let mut step = first;

@@ -40,7 +40,8 @@ fn feed_from<R: Threads + Sync, G: Gate>(
     ensures { ArePlayed (length feeders.old) frames.now feeders.old feeders.new }
 {
     let one = |k: usize, pass: &mut FeederPass|
-        requires { AreFrames frames.now × (first + k < 64) × (pass.now ≡ record { table = board.now.table; place = first + k; fronts = 0; rears = 0 }) }
+        requires { AreFrames frames.now × (first + k < 64)
+            × (pass.now ≡ record { table = board.now.table; place = first + k; fronts = 0; rears = 0 }) }
         ensures { Played frames.entry.now pass.entry.now pass.exit.now }
     { feed(board, frames, (first + k) as u8, pass, gate) };
     thread::for_each_mut(rt, feeders, threads, &one);

@@ -28,7 +28,8 @@ fn put_seconds<O: Sink, G: Gate>(
     requires at_most { seconds ≤ 604800 }
     requires nothing_gone { draft.old.gone ≡ 0 }
     ensures table { tick.new.table ≡ tick.old.table }
-    ensures put { SecondsPut seconds controller.old controller.new tick.new draft.old draft.new (O.taken out.old) (O.taken out.new) }
+    ensures put { SecondsPut seconds controller.old controller.new tick.new draft.old draft.new
+        (O.taken out.old) (O.taken out.new) }
     ensures room { draft.new.gone < 2 ^ 60 }
     ensures site { site_of controller.new ≡ site_of controller.old }
     ensures logic { logic_of controller.new ≡ logic_of controller.old }
