@@ -2,7 +2,7 @@
 ghost use Rattle.std.specs.Prelude.{◌≡◌, [], None, ◌||◌, OnOk, IfOk, map};
 ghost use Rattle.vap_ast.specs.Tree.{body_of, array_of, routine_of, constant_of, program_of};
 ghost use Rattle.vap_check.specs.FirstFinding.{first_of_all};
-ghost use Rattle.vap_check.specs.Names.{among, with_names};
+ghost use Rattle.vap_check.specs.Names.{with_names};
 ghost use Rattle.vap_check.specs.Findings as wrong;
 ghost use Rattle.vap_check.specs.KeptNames.{Knows, kind_in, line_in, taken_in};
 
