@@ -10,7 +10,9 @@ ghost use Rattle.pua_model.specs.Plan.{groups_in};
 use actuation::Actuation;
 use pua_model::Plan;
 use sig_guard::Guard;
-use sig_types::{Aspect, Command, CommandKind, DetNo, GroupNo, ReadingKind, StageNo, StagePlace, truth};
+use sig_types::{
+    Aspect, Command, CommandKind, DetNo, GroupNo, ReadingKind, StageNo, StagePlace, truth,
+};
 use stage_machine::StageState;
 use vap_vm::World;
 
