@@ -45,8 +45,12 @@ pub fn play<R: Threads + Sync, O: Sink + Send, G: Gate>(
 {
     let seconds = frames.len() as u32;
     let passes = feeders.as_mut_slice();
-    let (status, ()) = join_mut(
+    let ((), status) = join_mut(
         rt,
+        &mut ||
+            requires { IsSync R.row × AreFrames frames.now × (length passes.now ≤ 64) × AreFresh board.now passes.now }
+            ensures { ArePlayed (length passes.entry.now) frames.entry.now passes.entry.now passes.exit.now }
+        { feed_all(rt, board, frames, passes, gate) },
         &mut || -> Status
             requires { (tick.now.table ≡ board.now.table) × (board.now.detectors ≡ 64) × HasMadeNone controller.now
                 × ((w : ℕ) → slice_index_or tick.now.loads w [] ≡ []) × (seconds ≤ 604800) }
@@ -58,10 +62,6 @@ pub fn play<R: Threads + Sync, O: Sink + Send, G: Gate>(
             ensures later { O.faults out.entry.now ≤ O.faults out.exit.now }
             ensures cause { result ≡ Status.WriteFault → Rose (O.faults out.entry.now) (O.faults out.exit.now) }
         { run_seconds(controller, tick, board, seconds, out, gate) },
-        &mut ||
-            requires { IsSync R.row × AreFrames frames.now × (length passes.now ≤ 64) × AreFresh board.now passes.now }
-            ensures { ArePlayed (length passes.entry.now) frames.entry.now passes.entry.now passes.exit.now }
-        { feed_all(rt, board, frames, passes, gate) },
     );
     status
 }
