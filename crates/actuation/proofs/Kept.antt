@@ -13,7 +13,9 @@ use Rattle.actuation.specs.Stands.{DetectorStands, cleared}
 use Rattle.actuation.proofs.Cleared.{no_clear, cleared_old, cleared_now, cleared_other, cleared_elsewhere}
 use Rattle.actuation.proofs.GoesOn.{GoesOn}
 use Rattle.actuation.proofs.Frames.{count_more, occupied_old, occupied_new, detected_old, detected_new}
-use Rattle.actuation.proofs.Numbers.{last_below-here, last_below-before, last_below-same, is_now-last, run_more, run_over, run_same}
+use Rattle.sig_types.proofs.LastBelow.{last_below-here, last_below-before, last_below-agree}
+use Rattle.sig_types.proofs.Runs.{run_more, run_over, run_same}
+use Rattle.actuation.proofs.Numbers.{is_now-last}
 
 -- the second after the frames
 pub stands_next : (x y : Detector) (frames : List Counts) (frame : Counts) (clears : List Clear) (d : ℕ) (c : ℕ × ℕ) →
@@ -61,7 +63,7 @@ stands_next x y frames frame clears d c s h g cf cr = record {
         (if b then Some (length frames + 1) else detected_at x (length frames)) ≡ last_below (is_detected (frames ++ frame ∷ []) d) (length frames + 1 + 1)
     detected_by true e = sym (last_below-here (is_detected (frames ++ frame ∷ []) d) (length frames + 1) e)
     detected_by false e =
-        s.detected_is ∙ last_below-same (is_detected frames d) (is_detected (frames ++ frame ∷ []) d) (length frames + 1)
+        s.detected_is ∙ last_below-agree (is_detected frames d) (is_detected (frames ++ frame ∷ []) d) (length frames + 1)
         (λ j lt. sym (detected_old frames frame d j (omega (arith, lt))))
         ∙ sym (last_below-before (is_detected (frames ++ frame ∷ []) d) (length frames + 1) e)
 

@@ -78,10 +78,6 @@ tick_found rest i e =
     let r = range_found Tick 1 1048577 Range rest i (omega arith) e in
     subst (λ (x : Instr). IsText (codes "tick " ++ rest) x) r.3 (ap (λ (ds : List ℕ). codes "tick " ++ ds) r.4, (r.1, r.2))
 
--- the word is this one
-word_is : (w text : List ℕ) → bytes_eq w text ≡ true → w ≡ text
-word_is w text e = (bytes_eq-Decides w text).0 e
-
 at_word : (w text rest : List ℕ) (i : Instr) → w ≡ text → IsText (text ++ 32 ∷ rest) i → IsText (w ++ 32 ∷ rest) i
 at_word w text rest i is t = (ap (λ (x : List ℕ). x ++ 32 ∷ rest) is ∙ t.0, t.1)
 
@@ -112,7 +108,7 @@ operand_found : (w rest : List ℕ) (i : Instr) → with_operand w rest ≡ Ok i
 unfolding with_operand
 operand_found w rest i e =
     tick_or_more w rest i (bytes_eq w (codes "tick")) (bytes_eq w (codes "push")) (bytes_eq w (codes "read")) (bytes_eq w (codes "do"))
-    (word_is w (codes "tick")) (word_is w (codes "push")) (word_is w (codes "read")) (word_is w (codes "do")) e
+    (bytes_eq-Decides w (codes "tick")).0 (bytes_eq-Decides w (codes "push")).0 (bytes_eq-Decides w (codes "read")).0 (bytes_eq-Decides w (codes "do")).0 e
 
 instr_case : (line : List ℕ) (o : Option (List ℕ × List ℕ)) (i : Instr) → cut_at 32 line ≡ o → instr_by line o ≡ Ok i → IsText line i
 instr_case line None i is e = plain_found line (find_word plain_words line) i refl e

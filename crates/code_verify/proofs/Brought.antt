@@ -5,15 +5,12 @@ use Rattle.vap_code.specs.declared.Instr.{Instr}
 use Rattle.vap_code.specs.declared.Instr.TheVariants.{Push}
 use Rattle.vap_code.specs.Valid.{jumped_height, jumps_to, leaves, pushes, begins, goes_on, instr_at, height_after}
 use Rattle.std.specs.Option.{option_or}
+use Rattle.sig_types.proofs.Options.{option_or-none}
 use Rattle.code_verify.specs.Tables.{first_jump, brings}
 
 pub none_yet : (is : List Instr) (p : ℕ) → first_jump is [] p ≡ None
 none_yet [] p = refl
 none_yet (i ∷ is) p = refl
-
-or_none : (a : Option ℕ) → option_or a None ≡ a
-or_none None = refl
-or_none (Some h) = refl
 
 or_assoc : (a b c : Option ℕ) → option_or a (option_or b c) ≡ option_or (option_or a b) c
 or_assoc None b c = refl
@@ -22,7 +19,7 @@ or_assoc (Some h) b c = refl
 -- one more height
 pub first_jump_push : (is : List Instr) (hs : List ℕ) (h p : ℕ) (d : Instr) → length hs < length is → first_jump is (hs ++ h ∷ []) p ≡ option_or (first_jump is hs p) (brings (get_or is (length hs) d) h p)
 first_jump_push [] hs h p d lt = absurd (omega arith)
-first_jump_push (i ∷ is) [] h p d lt = ap (option_or (brings i h p)) (none_yet is p) ∙ or_none (brings i h p)
+first_jump_push (i ∷ is) [] h p d lt = ap (option_or (brings i h p)) (none_yet is p) ∙ option_or-none (brings i h p)
 first_jump_push (i ∷ is) (g ∷ hs) h p d lt =
     ap (option_or (brings i g p)) (first_jump_push is hs h p d (omega arith))
     ∙ or_assoc (brings i g p) (first_jump is hs p) (brings (get_or is (length hs) d) h p)

@@ -2,7 +2,7 @@
 use Rattle.std.proofs.Common.{◌≡◌, ℕ, ◌+◌, ◌-◌, ◌<◌, ◌≤◌, List, [], ◌∷◌, length, get_or, take, drop, map, true, refl, ap, arith, length-drop}
 use Rattle.std.specs.Prelude.{sum}
 use Rattle.std.specs.List.{All}
-use Rattle.std.proofs.lemmas.List.Elements.{All-nil, All-cons, All-head, All-tail}
+use Rattle.std.proofs.lemmas.List.Elements.{All-nil, All-cons, All-head, All-tail, All-map}
 use Rattle.std.proofs.lemmas.List.Sums.{sum-map, sum_by_more_le}
 use Rattle.std.proofs.Math.ListN.{length-map}
 use Rattle.std.specs.Prelude.{ℤ}
@@ -19,11 +19,6 @@ rise_end xs k h = rise_short (drop (k - 1) xs) (omega (arith, length-drop (k - 1
 
 pub sum_with : {A : Type 0} (f : A → ℕ) (xs : List A) (i : ℕ) (d : A) → i < length xs → sum (map f (take i xs)) + f (get_or xs i d) ≤ sum (map f xs)
 sum_with f xs i d h = omega (arith, sum-map f (take i xs), sum-map f xs, sum_by_more_le f xs i d h)
-
--- what holds of each image
-pub images_all : {A B : Type 0} (P : B → Type 0) (f : A → B) (xs : List A) → All (λ a. P (f a)) xs → All P (map f xs)
-images_all P f [] h = All-nil P
-images_all P f (x ∷ xs) h = All-cons P (f x) (map f xs) (All-head (λ a. P (f a)) x xs h) (images_all P f xs (All-tail (λ a. P (f a)) x xs h))
 
 pub all_images : {A B : Type 0} (P : B → Type 0) (f : A → B) (xs : List A) → All P (map f xs) → All (λ a. P (f a)) xs
 all_images P f [] h = All-nil (λ a. P (f a))
@@ -44,7 +39,7 @@ module _ {A : Type 0} (cells : A → List ℤ) (arrays : List A) where
   pub fit_arrays : length arrays ≤ 32 → RowsFit → SumFits → ArraysFit (map cells arrays)
   fit_arrays count rows all = record {
     at_most = omega (arith, length-map arrays cells);
-    cells = images_all (λ c. (1 ≤ length c) × (length c ≤ 1024)) cells arrays rows;
+    cells = All-map (λ c. (1 ≤ length c) × (length c ≤ 1024)) cells arrays rows;
     all_cells = omega (arith, all, ap sum (map_map length cells arrays));
   }
 

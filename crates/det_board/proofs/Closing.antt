@@ -1,6 +1,7 @@
 -- What the rule says of the tick's seat at the end.
 use Rattle.std.proofs.Common.{◌≡◌, ℕ, zero, suc, ◌+◌, ◌<◌, ◌≤◌, List, [], ◌∷◌, ◌++◌, length, set, refl, sym, ap, ◌∙◌, subst, arith, get_or-set_same, get_or-set_other, length-set, length-append, Some, None}
 use Rattle.std.specs.Prelude.{slice_index, slice_index_or, slice_get}
+use Rattle.std.proofs.lemmas.Option.{slice_get_within}
 use mathlib.Core.Logic.{dite}
 use native.Mathlib.Decide.{ℕ_discrete}
 use Rattle.atomic_table.specs.Table.{Seen, Final, Me}
@@ -44,11 +45,6 @@ get_front (x ∷ xs) ys (suc k) p e = get_front xs ys k p e
 some_one : {a b : Feeding} → Some a ≡ Some b → a ≡ b
 some_one e = cc
 
-get_within : (xs : List Feeding) (k : ℕ) (p : Feeding) → slice_get xs k ≡ Some p → k < length xs
-get_within [] k p e = absurd (cc)
-get_within (x ∷ xs) zero p e = omega arith
-get_within (x ∷ xs) (suc k) p e = omega (arith, get_within xs k p e)
-
 pub gathers_one : (board : Boarded) (all rest rest' : List Feeding) (tick : Ticking) (x : Feeding) (place : ℕ) (loads : List (List ℕ)) (me me' : Me (Unit {0}) View) (counts : List (ℕ × ℕ)) → AreAll board all tick → board.detectors ≤ 64
     → Gathering all rest board.detectors loads me counts → rest ≡ rest' ++ x ∷ [] → place ≡ x.place
     → me' ≡ (Tick (dealt_of me.0) (loads_of me.0) (set (owned_of me.0) x.place (Some (x.fronts, x.rears))), [])
@@ -91,7 +87,7 @@ pub closes : (board : Boarded) (all : List Feeding) (tick : Ticking) (me : Me (U
     → Closes board all tick frame
 closes board all tick me totals counts frame are low g within read size sums absent = record {
   size = size;
-  rest = λ d p e. let inside : d < board.detectors = let w = get_within all d p e in let c = are.count in omega arith in
+  rest = λ d p e. let inside : d < board.detectors = let w = slice_get_within all d p e in let c = are.count in omega arith in
       let s = sums d inside in
       let t = read d (omega arith) in
       let k = g.counted d p (omega arith) e in
@@ -101,7 +97,7 @@ closes board all tick me totals counts frame are low g within read size sums abs
       let cr : (slice_index_or counts d (0, 0)).1 ≡ p.rears = ap (λ (q : ℕ × ℕ). q.1) k in
       (omega (arith, s.0), omega (arith, s.1));
   absent = absent;
-  ordered = λ d p e. let inside : d < board.detectors = let w = get_within all d p e in let c = are.count in omega arith in
+  ordered = λ d p e. let inside : d < board.detectors = let w = slice_get_within all d p e in let c = are.count in omega arith in
       let w = within (ticks_of me g) d p.fronts p.rears inside (owns me g d p e) in (w.2, w.3);
 }
   where

@@ -1,19 +1,15 @@
 -- The numbers of an entry of three digits.
 use Rattle.std.proofs.Common.{◌≡◌, ℕ, ◌+◌, ◌-◌, ◌*◌, ◌≤◌, ◌==◌, Bool, true, false, not, ◌||◌, List, [], ◌∷◌, length, get_or, Some, nat_eq, refl, ap, arith, ne_eqb}
-use Rattle.std.proofs.lemmas.Bool.{both_ways}
+use Rattle.std.proofs.lemmas.Bool.{both_ways, or_right}
 use Rattle.std.specs.List.{position_or_len, slice_split}
 use Rattle.sig_types.specs.Text.{is_digit, number_of}
 use Rattle.det_stream.specs.Entries.{BeginsWith, ends_at, numbers_of}
-
-or_true : (b : Bool) → (b || true) ≡ true
-or_true true = refl
-or_true false = refl
 
 no_colon : (d : ℕ) → is_digit d ≡ true → (d == 58) ≡ false
 no_colon d digit = grind (arith, digit)
 
 digit_number : (d : ℕ) → is_digit d ≡ true → number_of (d ∷ []) ≡ Some (d - 48)
-digit_number d digit = rw (digit, or_true (not (nat_eq d 48))) (ap Some (omega arith))
+digit_number d digit = rw (digit, or_right (not (nat_eq d 48)) true refl) (ap Some (omega arith))
 
 split_digits : (d f r : ℕ) → is_digit d ≡ true → is_digit f ≡ true → is_digit r ≡ true →
     slice_split (λ c. c == 58) (d ∷ 58 ∷ f ∷ 58 ∷ r ∷ []) ≡ (d ∷ []) ∷ (f ∷ []) ∷ (r ∷ []) ∷ []
@@ -40,14 +36,14 @@ more_numbers : (t d f r : ℕ) → is_digit t ≡ true → (t == 48) ≡ false �
 unfolding numbers_of
 more_numbers t d f r o first p q s = rw (more_split t d f r o p q s, more_number t d o first p, digit_number f q, digit_number r s) refl
 
-or_right : (a b : Bool) → a ≡ false → (a || b) ≡ true → b ≡ true
-or_right true b fails holds = absurd (both_ways true fails refl)
-or_right false b fails holds = holds
+or_other : (a b : Bool) → a ≡ false → (a || b) ≡ true → b ≡ true
+or_other true b fails holds = absurd (both_ways true fails refl)
+or_other false b fails holds = holds
 
 -- what stands behind an entry begins with a space
 no_more : (front : ℕ) (more : List ℕ) → (front == front + length more || get_or more 0 0 == 32) ≡ true → position_or_len (λ c. c == 32) more ≡ 0
 no_more front [] ends = refl
-no_more front (x ∷ more) ends = rw (or_right _ (x == 32) (ne_eqb front (front + length (x ∷ more)) (λ e. omega arith)) ends) refl
+no_more front (x ∷ more) ends = rw (or_other _ (x == 32) (ne_eqb front (front + length (x ∷ more)) (λ e. omega arith)) ends) refl
 
 -- a text that begins with three digits and colons between
 digits_begin : (d f r : ℕ) (more : List ℕ) → is_digit d ≡ true → is_digit f ≡ true → is_digit r ≡ true → position_or_len (λ c. c == 32) more ≡ 0 →

@@ -11,6 +11,7 @@ use Rattle.std.proofs.Math.ListN.{length-drop}
 use Rattle.sig_types.specs.Counts.{Counts}
 use Rattle.sig_types.specs.FirstRefused.{refused_to}
 use Rattle.sig_types.proofs.Refusals.{accepted_more, refused_here}
+use Rattle.sig_types.proofs.Options.{cond_none}
 use Rattle.det_stream.specs.declared.refusal.StreamWhy.{StreamWhy}
 use Rattle.det_stream.specs.Entries.{Numbers, entries_of, entries_reason, entry_end, first_entry, frame_of, judge_entry, last_detector, numbers_of, numbers_why}
 use Rattle.det_stream.specs.Totals.{counts_at, with_counts, HasAtMost, IsSum, RearsWithinFronts}
@@ -28,15 +29,11 @@ found_is : (b : Bool) (k n : ℕ) → cond b (Some k) None ≡ Some n → n ≡ 
 found_is true k n some = cc
 found_is false k n some = cc
 
-missing_is : (b : Bool) (k : ℕ) → cond b (Some k) None ≡ None → b ≡ false
-missing_is true k none = cc
-missing_is false k none = refl
-
 pub end_found : (text : List ℕ) (n : ℕ) → position at_space text ≡ Some n → n ≡ entry_end text
 end_found text n found = found_is _ (entry_end text) n found
 
 pub end_missing : (text : List ℕ) → position at_space text ≡ None → length text ≡ entry_end text
-end_missing text missing = omega (arith, end_inside text, ltb-false (entry_end text) (length text) (missing_is _ (entry_end text) missing))
+end_missing text missing = omega (arith, end_inside text, ltb-false (entry_end text) (length text) (cond_none _ (entry_end text) missing))
 
 -- the first n entries of a line were read and accepted, and this text is left of it
 pub record HasEntries (line rest : List ℕ) (last : ℕ) (frame : Counts) (n : ℕ) : Type 0 where

@@ -1,7 +1,7 @@
 -- The counts so far, frame by frame.
 use Rattle.std.proofs.Common.{◌≡◌, ℕ, zero, suc, ◌+◌, ◌-◌, ◌*◌, ◌<◌, ◌≤◌, Bool, List, [], ◌∷◌, ◌++◌, length, get_or, sum_by, nat_lt, Some, None, refl, sym, ap, ◌∙◌, arith, length-append, inl, inr}
 use Rattle.std.proofs.lemmas.Bool.{le-ltb, lt-ltb, cases_lt}
-use Rattle.std.proofs.lemmas.List.{take_all, take-append-le, get_or_append_left}
+use Rattle.std.proofs.lemmas.List.{take_all, get_or_append_left}
 use Rattle.std.proofs.lemmas.List.Sums.{sum_by_push}
 use Rattle.std.proofs.Math.Seq.{get_or-append_seam}
 use Rattle.sig_types.specs.Counts.{Counts, Kind, fronts, rears, count_in, count_to, AreFrames, IsZeroOutside, Takes}
@@ -9,6 +9,7 @@ use Rattle.sig_types.specs.Words.{least_below}
 use Rattle.det_stream.specs.Stream.{least_ahead}
 use Rattle.det_stream.specs.Totals.{counts_at, HasAtMost, RearsWithinFronts, SilentWithinFronts, IsSum, AreTotals, least_ahead_in}
 use Rattle.sig_types.proofs.LastBelow.{least_below-never, least_below-at}
+use Rattle.sig_types.proofs.FrameLaws.{count_before}
 
 pub none_ahead : (totals : Counts) → RearsWithinFronts totals → least_ahead_in totals ≡ None
 none_ahead totals behind = least_below-never (λ p. nat_lt (counts_at totals p).0 (counts_at totals p).1) 64 (λ j lt. le-ltb (counts_at totals j).0 (counts_at totals j).1 (behind j lt))
@@ -76,9 +77,6 @@ each_more P frames frame each one n lt = elim (cases_lt n (length frames)) [
   | inr outside ↦ (let last : n ≡ length frames = omega (arith, length-append frames (frame ∷ []), lt, outside) in rw (last, get_or-append_seam frames frame [] []) one)
 ]
 
-count_front : (kind : Kind) (frames : List Counts) (frame : Counts) (d n : ℕ) → n ≤ length frames → count_to kind (frames ++ frame ∷ []) d n ≡ count_to kind frames d n
-count_front kind frames frame d n le = ap (sum_by (count_in kind d)) (take-append-le n frames (frame ∷ []) le)
-
 pub frames_more : (frames : List Counts) (frame totals : Counts) → AreFrames frames → length frames < 604800 → length frame ≡ 64 → HasAtMost 99 frame →
     AreTotals totals (frames ++ frame ∷ []) → RearsWithinFronts totals → AreFrames (frames ++ frame ∷ [])
 frames_more frames frame totals are few size small sums behind = record {
@@ -88,7 +86,7 @@ frames_more frames frame totals are few size small sums behind = record {
   rears_fit = λ n d lt least most. each_more (λ f. count_in rears d f ≤ 99) frames frame (λ i inside. are.rears_fit i d inside least most) (small (d - 1) (omega arith)).1 n lt;
   behind = λ n d le least most. elim (cases_lt n (length frames + 1)) [
     | inl inside ↦ (let within : n ≤ length frames = omega arith in
-        rw (count_front fronts frames frame d n within, count_front rears frames frame d n within) (are.behind n d within least most))
+        rw (count_before fronts frames frame d n within, count_before rears frames frame d n within) (are.behind n d within least most))
     | inr outside ↦ (
         let last : n ≡ length (frames ++ frame ∷ []) = omega (arith, length-append frames (frame ∷ []), le, outside) in
         let place : d - 1 + 1 ≡ d = omega arith in

@@ -4,6 +4,7 @@ use Rattle.std.specs.Prelude.{slice_index_or, slice_get}
 use Rattle.std.specs.List.{sum_by}
 use Rattle.std.proofs.lemmas.List.Sums.{sum_by-append}
 use Rattle.std.proofs.lemmas.List.{take_all, take-append-le}
+use Rattle.std.proofs.lemmas.Option.{slice_get_within}
 use native.Mathlib.Decide.{dec_le}
 use Rattle.det_board.specs.Passes.{Boarded, Feeding, Ticking, IsOpening, AreAll, Closes}
 use Rattle.sig_types.specs.Counts.{Counts, Takes}
@@ -84,17 +85,12 @@ closed_printable board fs old new tick tick' made closing r =
     printable_push made closing (loaded_printable tick' made r.loaded) (printable_frame closing r.closes.size (λ d low.
     let o = own board fs old new tick tick' made closing r d low in (omega (arith, o.0, o.3), omega (arith, o.1, o.2, o.3))))
 
-inside_of : (xs : List Feeding) (k : ℕ) (x : Feeding) → slice_get xs k ≡ Some x → k < length xs
-inside_of [] k x e = absurd (cc)
-inside_of (y ∷ ys) zero x e = omega arith
-inside_of (y ∷ ys) (suc k) x e = let rest = inside_of ys k x e in omega (arith, rest)
-
 -- the passes are still the board's, in order
 pub all_passes : (board : Boarded) (fs : List Counts) (old new : List Feeding) (tick tick' : Ticking) → IsOpening 64 board old tick →
     ((k : ℕ) (d : Feeding) → k < 64 → Played fs (slice_index_or old k d) (slice_index_or new k d)) → length new ≡ 64 → tick'.table ≡ tick.table → AreAll board new tick'
 all_passes board fs old new tick tick' opening played count same = record {
   count = count ∙ sym opening.detectors_are;
-  each = λ k p got. each k p got (inside_of new k p got);
+  each = λ k p got. each k p got (slice_get_within new k p got);
   of_tick = same ∙ opening.of_tick;
 }
   where
@@ -113,7 +109,7 @@ opening_all board feeders tick opening = record {
   count = opening.count ∙ sym opening.detectors_are;
   each = λ k p got.
       let first : Feeding = record { table = board.table; place = k; fronts = 0; rears = 0 } in
-      let low : k < 64 = (let inside = inside_of feeders k p got in omega (arith, inside, opening.count)) in
+      let low : k < 64 = (let inside = slice_get_within feeders k p got in omega (arith, inside, opening.count)) in
       let here : p ≡ first = sym (index_of feeders k p first got) ∙ index_of feeders k first first (opening.each k low) in
       (ap (λ (q : Feeding). q.table) here, ap (λ (q : Feeding). q.place) here);
   of_tick = opening.of_tick;

@@ -35,7 +35,8 @@ use Rattle.junction_live.specs.Ended.{Wrote}
 use Rattle.junction_live.specs.Outcome.{Live, is_done}
 use Rattle.junction_live.specs.Outcome.{log_of as records_in}
 use Rattle.junction_live.specs.Play.{NeverAhead}
-use Rattle.junction_live.proofs.Running.{known-twice, cut_later}
+use Rattle.sig_io.proofs.Reading.{append_known-twice}
+use Rattle.junction_live.proofs.Running.{cut_later}
 
 -- the frames of the records of a run are those that it was made of
 frames_recorded : (logic : Logic) (site : Site) (past : Past) (fs : List Counts) → map (λ r. r.frame) (run_from logic site past fs) ≡ fs
@@ -65,7 +66,7 @@ wrote Done frames c store old mid new named headed is = record {
   count = is.1;
   printable = is.2;
   gained = is.3 ∙ ap (λ o. append_known o (records_in (logic_of c) (site_of c) (opening (site_of c) store) is.0)) headed
-      ∙ known-twice old (header_text (site_of c).plan.names) (records_in (logic_of c) (site_of c) (opening (site_of c) store) is.0)
+      ∙ append_known-twice old (header_text (site_of c).plan.names) (records_in (logic_of c) (site_of c) (opening (site_of c) store) is.0)
       ∙ ap (append_known old) (sym (log_parts c store is.0));
   ahead = is.4;
   sums = is.5;

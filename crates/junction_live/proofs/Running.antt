@@ -1,32 +1,10 @@
 -- The controller's side after some seconds.
-use Rattle.std.proofs.Common.{
-  ◌≡◌,
-  ◌∙◌,
-  ℕ,
-  ◌+◌,
-  ◌<◌,
-  List,
-  [],
-  ◌∷◌,
-  ◌++◌,
-  length,
-  take,
-  Option,
-  Some,
-  None,
-  refl,
-  sym,
-  ap,
-  subst,
-  arith,
-  length-append,
-  append_assoc,
-}
+use Rattle.std.proofs.Common.{◌≡◌, ◌∙◌, ℕ, ◌+◌, ◌<◌, List, [], ◌∷◌, ◌++◌, length, take, Option, refl, sym, ap, subst, arith, length-append}
 use Rattle.std.specs.Prelude.{slice_index_or}
-use Rattle.std.proofs.lemmas.List.{append-nil}
 use Rattle.std.proofs.Math.Seq.{take-append-add}
 use Rattle.std.specs.Io.KnownBytes.{append_known}
 use Rattle.sig_io.specs.Draft.{Held, IsCut, IsDraft}
+use Rattle.sig_io.proofs.Reading.{append_known-twice}
 use Rattle.sig_types.specs.Counts.{Counts, Takes}
 use Rattle.sig_types.specs.Pass.{Logic}
 use Rattle.sig_types.specs.declared.record.Record.{Record}
@@ -34,10 +12,10 @@ use Rattle.signal_log.specs.Log.{record_text, records_text}
 use Rattle.controller.specs.declared.controller.Controller.{Controller}
 use Rattle.controller.specs.Controls.{StandsFor, site_of, logic_of, plan_of, last_record}
 use Rattle.controller.specs.Past.{Site, Past}
-use Rattle.controller.specs.Second.{run_from, past_of, past_after, record_of, longer}
+use Rattle.controller.specs.Second.{run_from, past_of, record_of, longer}
 use Rattle.controller.proofs.Runs.{run_from-more, past_of-more}
 use Rattle.det_board.specs.Passes.{Ticking, Takes as TickTakes}
-use Rattle.junction_run.proofs.Logs.{plan_is}
+use Rattle.junction_run.proofs.Logs.{plan_is, records_text-append, records_text-one, frames_at}
 use Rattle.junction_live.specs.Play.{Loaded}
 use Rattle.junction_live.specs.Outcome.{log_of}
 use Rattle.junction_live.proofs.Loads.{loaded_none, loaded_more, takes_next}
@@ -53,20 +31,6 @@ pub record Running (k : ℕ) (tick : Ticking) (start now : Controller) (old new 
   pub put : (past : Past) (begin : Option (List ℕ)) → StandsFor start past → past.frames ≡ [] → IsDraft begin old first [] →
       IsDraft begin new later (log_of (logic_of start) (site_of start) past made)
 
-pub known-twice : (o : Option (List ℕ)) (a b : List ℕ) → append_known (append_known o a) b ≡ append_known o (a ++ b)
-known-twice None a b = refl
-known-twice (Some xs) a b = ap Some (append_assoc xs a b)
-
-records_text-append : (names : List (List ℕ)) (rs qs : List Record) → records_text names (rs ++ qs) ≡ records_text names rs ++ records_text names qs
-unfolding records_text
-records_text-append names [] qs = refl
-records_text-append names (r ∷ rs) qs =
-    ap (λ l. record_text names r ++ l) (records_text-append names rs qs) ∙ sym (append_assoc (record_text names r) (records_text names rs) (records_text names qs))
-
-records_text-one : (names : List (List ℕ)) (r : Record) → records_text names (r ∷ []) ≡ record_text names r
-unfolding records_text
-records_text-one names r = append-nil (record_text names r)
-
 pub log_none : (logic : Logic) (site : Site) (past : Past) → log_of logic site past [] ≡ []
 unfolding records_text
 log_none logic site past = refl
@@ -80,13 +44,8 @@ log_more logic site past fs f =
     ∙ records_text-append site.plan.names (run_from logic site past fs) (r ∷ [])
     ∙ ap (λ l. records_text site.plan.names (run_from logic site past fs) ++ l) (records_text-one site.plan.names r)
 
-pub past_of-frames : (logic : Logic) (site : Site) (past : Past) (fs : List Counts) → (past_of logic site past fs).frames ≡ past.frames ++ fs
-unfolding past_after
-past_of-frames logic site past [] = sym (append-nil past.frames)
-past_of-frames logic site past (f ∷ fs) = past_of-frames logic site (longer logic site past f) fs ∙ append_assoc past.frames (f ∷ []) fs
-
 pub frames_are : (logic : Logic) (site : Site) (past : Past) (fs : List Counts) → past.frames ≡ [] → (past_of logic site past fs).frames ≡ fs
-frames_are logic site past fs none = past_of-frames logic site past fs ∙ ap (λ l. l ++ fs) none
+frames_are logic site past fs none = frames_at logic site past fs ∙ ap (λ l. l ++ fs) none
 
 -- a text cut in its last piece
 pub cut_later : (start mid new : Option (List ℕ)) (n : ℕ) (front piece whole : List ℕ) → mid ≡ append_known start front →
@@ -96,7 +55,7 @@ cut_later start mid new n front piece whole so_far is cut =
     = ap (λ bs. take (length front + n) bs) is ∙ take-append-add front piece n in
     record {
       some = omega (arith, ap length is, length-append front piece, cut.some);
-      taken = cut.taken ∙ ap (λ o. append_known o (take n piece)) so_far ∙ known-twice start front (take n piece)
+      taken = cut.taken ∙ ap (λ o. append_known o (take n piece)) so_far ∙ append_known-twice start front (take n piece)
           ∙ ap (λ bs. append_known start bs) (sym taken);
     }
 
@@ -143,7 +102,7 @@ written_more start now after past made f rec names old mid new m site logic s is
     let p = past_of (logic_of start) (site_of start) past made in
     let piece = text_is start now after f p rec names m site logic s is named in
     text ∙ (λ i. append_known (so_far i) (piece i))
-    ∙ known-twice old (log_of (logic_of start) (site_of start) past made) (record_text (site_of start).plan.names (record_of (logic_of start) (site_of start) p f))
+    ∙ append_known-twice old (log_of (logic_of start) (site_of start) past made) (record_text (site_of start).plan.names (record_of (logic_of start) (site_of start) p f))
     ∙ ap (append_known old) (sym (log_more (logic_of start) (site_of start) past made f))
 
 -- or cut

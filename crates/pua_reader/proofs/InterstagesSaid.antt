@@ -1,6 +1,6 @@
 -- An accepted file's interstages are those of its sections of interstages.
 use Rattle.std.proofs.Common.{◌≡◌, ℕ, zero, suc, ◌≤◌, ◌<◌, ◌==◌, Bool, true, false, not, ◌&&◌, List, [], ◌∷◌, ◌++◌, length, take, get_or, set, refl, sym, ap, subst, ◌∙◌, arith, Option, Some, None, if◌then◌else◌, is_some, is_none, add-one, inl, inr, eq-eqb, ne_eqb, ℤ, nat_le}
-use Rattle.std.proofs.lemmas.List.{take_more, take_all, append-nil, get_or-set_same, get_or-set_other, get_or-replicate, length-set, length-replicate}
+use Rattle.std.proofs.lemmas.List.{take_more, take_all, append-nil, get_or-set_same, get_or-set_other, get_or-replicate, length-replicate}
 use Rattle.std.proofs.lemmas.Bool.{cases_eq}
 use Rattle.sig_types.specs.FirstRefused.{refused_to, first_refused}
 use Rattle.sig_types.specs.Text.{number_of}
@@ -28,6 +28,7 @@ use Rattle.pua_reader.proofs.Small.{at_none, none_first, none_next}
 use Rattle.pua_reader.proofs.Keeps.{line_legal, next_line_legal, empty_draft_legal}
 use Rattle.pua_reader.proofs.Reading.{draft_of_more}
 use Rattle.pua_reader.proofs.RowsSaid.{so_far_to, section_push, end_says, file_parts, over_is_end}
+use Rattle.pua_reader.proofs.KeepInterstages.{set_size}
 
 -- one row more
 values_push : (f : Form) (rows : List (List Text)) (row : List Text) → values f (rows ++ row ∷ []) ≡ values f rows ++ values f (row ∷ [])
@@ -174,10 +175,6 @@ ends_set groups held rows row (Some p) here place size each none g lt =
           get_or-set_other held p g (Some new) None other ∙ each g lt ∙ sym (ends_push groups rows row g ∙ ends_then_none (ends_in groups rows g) _ none_here))
     ]
 
-row_size : (held : List (Option (ℤ × ℤ))) (o : Option ℕ) (r e : ℤ) → length (set_row held o r e) ≡ length held
-row_size held None r e = refl
-row_size held (Some p) r e = length-set held p (Some (r, e))
-
 -- a row by its form
 form_says : (f : Form) (groups : List Group) (stages : List Stage) (rows : List (List Text)) (now : OpenInterstageOf) (row : List Text) → form_of row ≡ f → OpenSays groups stages rows now →
     form_why f groups stages now row ≡ None → OpenSays groups stages (rows ++ row ∷ []) (open_after_form f groups stages now row)
@@ -214,7 +211,7 @@ form_says form.Ends groups stages rows now row here says none = record {
   seconds = rw (no_value_more form.Length rows row (ap (same_form form.Length) here)) says.seconds;
   from = rw (no_value_more form.From rows row (ap (same_form form.From) here)) says.from;
   to = rw (no_value_more form.To rows row (ap (same_form form.To) here)) says.to;
-  size = row_size now.rows (place_of groups (word row 0)) (end_or_none (signed_of (word row 1))) (end_or_none (signed_of (word row 2))) ∙ says.size;
+  size = set_size now.rows (place_of groups (word row 0)) (end_or_none (signed_of (word row 1))) (end_or_none (signed_of (word row 2))) ∙ says.size;
   ends = ends_set groups now.rows rows row (place_of groups (word row 0)) (ap (same_form form.Ends) here) refl says.size says.ends none;
 }
 

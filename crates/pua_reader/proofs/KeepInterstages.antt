@@ -1,5 +1,5 @@
 -- Rows and ends of interstages that are not refused leave the interstages as a plan wants them.
-use Rattle.std.proofs.Common.{◌≡◌, ℕ, suc, zero, ◌+◌, ◌<◌, ◌≤◌, ◌==◌, Bool, true, false, not, ◌&&◌, List, [], ◌∷◌, ◌++◌, length, get_or, set, refl, ap, subst, ◌∙◌, arith, Option, Some, None, nat_le, is_some, is_none, inl, inr, ℤ}
+use Rattle.std.proofs.Common.{◌≡◌, ℕ, ◌+◌, ◌<◌, ◌≤◌, ◌==◌, true, false, not, ◌&&◌, List, [], ◌∷◌, ◌++◌, length, get_or, set, refl, ap, subst, ◌∙◌, arith, Option, Some, None, nat_le, is_some, is_none, inl, inr, ℤ}
 use Rattle.std.specs.Option.{option_or}
 use Rattle.std.specs.Prelude.{IfSome}
 use Rattle.std.specs.List.{list_any}
@@ -7,8 +7,8 @@ use Rattle.std.proofs.lemmas.Bool.{and_parts, or_parts, leb-true, cases_lt, case
 use Rattle.std.proofs.lemmas.List.{length-set, get_or-set_same, get_or-set_other, get_or_append_left, get_or_push, length_push, length-replicate, get_or-replicate}
 use Rattle.pua_reader.specs.declared.refusal.PuaWhy.{PuaWhy}
 use Rattle.sig_types.specs.Text.{number_of}
-use Rattle.sig_types.specs.Words.{least_below, or_here}
 use Rattle.sig_types.specs.declared.numbers.StageNo.{StageNo}
+use Rattle.sig_types.proofs.LastBelow.{least_below-none}
 use Rattle.pua_model.specs.declared.parts.Group.{Group}
 use Rattle.pua_model.specs.declared.parts.Stage.{Stage}
 use Rattle.pua_model.specs.Plan.{InterstageOf, no_interstage, joins, has_pair, are_pairs_apart, is_row, is_end}
@@ -39,7 +39,7 @@ ends_fit rows place r e none =
     let three = none_first (not (is_end r && is_end e)) _ _ two.1 in
     not-false _ three.0
 
-set_size : (rows : List (Option (ℤ × ℤ))) (place : Option ℕ) (r e : ℤ) → length (set_row rows place r e) ≡ length rows
+pub set_size : (rows : List (Option (ℤ × ℤ))) (place : Option ℕ) (r e : ℤ) → length (set_row rows place r e) ≡ length rows
 set_size rows None r e = refl
 set_size rows (Some g) r e = length-set rows g (Some (r, e))
 
@@ -108,18 +108,6 @@ whole_by n stages (Some k) (Some s) (Some t) rows w hl ha hb size each e =
 pub whole_interstage : (n : ℕ) (stages : List Stage) (now : OpenInterstageOf) (w : InterstageOf) → IsOpen n stages now → interstage_of now ≡ Some w → IsWhole n stages w
 whole_interstage n stages now w is e = whole_by n stages now.length now.from now.to now.rows w is.seconds is.from is.to is.rows is.ends e
 
-here_none : (o : Option ℕ) (b : Bool) (n : ℕ) → or_here o b n ≡ None → (o ≡ None) × (b ≡ false)
-here_none (Some k) b n e = cc
-here_none None true n e = cc
-here_none None false n e = (refl, refl)
-
-least_none : (p : ℕ → Bool) (n : ℕ) → least_below p n ≡ None → (j : ℕ) → j < n → p j ≡ false
-unfolding least_below
-least_none p zero none j lt = absurd (omega arith)
-least_none p (suc n) none j lt =
-    let both = here_none (least_below p n) (p n) n none in
-    elim (cases_lt j n) [ inl less ↦ least_none p n both.0 j less | inr last ↦ (let same : j ≡ n = omega arith in rw same both.1) ]
-
 none_inconsistent : (number : ℕ) (groups : List Group) (o : Option ℕ) → inconsistent_why number groups o ≡ None → o ≡ None
 none_inconsistent number groups None e = refl
 none_inconsistent number groups (Some g) e = cc
@@ -142,7 +130,7 @@ joined groups stages interstages w none =
     record {
       apart = one.0;
       new = two.0;
-      consistent = λ g lt. not-false _ (least_none _ (length groups) all g lt);
+      consistent = λ g lt. not-false _ (least_below-none _ (length groups) all g lt);
     }
 
 joins_turned : (v w : InterstageOf) → joins v.from v.to w ≡ joins w.from w.to v

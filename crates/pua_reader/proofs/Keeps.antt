@@ -4,6 +4,7 @@ use Rattle.std.specs.Prelude.{IfSome}
 use Rattle.std.proofs.lemmas.Bool.{or_parts, leb-false, not-false}
 use Rattle.std.proofs.lemmas.List.{length-map}
 use Rattle.sig_types.specs.declared.numbers.StageNo.{StageNo}
+use Rattle.sig_types.proofs.Options.{some_of}
 use Rattle.pua_model.specs.declared.parts.Group.{Group}
 use Rattle.pua_model.specs.declared.parts.Stage.{Stage}
 use Rattle.pua_model.specs.Plan.{InterstageOf, IsPlan, IsInterstageOf, no_interstage}
@@ -265,17 +266,13 @@ some_length : {A : Type 0} (xs : List A) → (length xs == 0) ≡ false → 1 �
 some_length [] e = cc
 some_length (x ∷ xs) e = omega arith
 
-not_none : {A : Type 0} (o : Option A) → is_none o ≡ false → is_some o ≡ true
-not_none None e = cc
-not_none (Some x) e = refl
-
 pub is_full : (g : PlanDraftOf) → None ≡ lacks g → IsFull g
 unfolding lacks
 is_full g none =
     let one = none_first ((length g.groups == 0) || (length g.stages == 0)) _ _ (sym none) in
     let two = none_first (is_none g.start) _ _ one.1 in
     let both = or_parts (length g.groups == 0) (length g.stages == 0) one.0 in
-    record { groups = some_length g.groups both.0; stages = some_length g.stages both.1; start = not_none g.start two.0 }
+    record { groups = some_length g.groups both.0; stages = some_length g.stages both.1; start = some_of g.start two.0 }
 
 start_there : (stages : List Stage) (o : Option StageNo) → is_some o ≡ true → IfSome o (λ s. IsStage stages s.0) → IsStage stages (start_number o)
 start_there stages None e h = cc

@@ -1,7 +1,6 @@
 pub mod Texts
 pub mod TextLines
 pub mod Puts
-pub mod LeastBelow
 pub mod Named
 pub mod Forms
 pub mod Small

@@ -5,14 +5,11 @@ use Rattle.std.proofs.lemmas.List.{ext_get_or, length-map, get_or-map, get_or_de
 use Rattle.std.proofs.lemmas.Bool.{ltb-false}
 use Rattle.pua_model.specs.Plan.{stands_in}
 use Rattle.sig_types.specs.Text.{same_name, number_of}
+use Rattle.sig_types.proofs.Options.{cond_none, none_of}
 use Rattle.pua_model.specs.declared.parts.Group.{Group}
 use Rattle.pua_model.specs.declared.parts.Stage.{Stage}
 use Rattle.pua_reader.specs.Stages.{greens_of, stage_of, stage_placed, last_greens, is_green_in, green_at}
 use Rattle.pua_reader.specs.Groups.{place_of}
-
-pub none_of : {A : Type 0} (o : Option A) → is_some o ≡ false → o ≡ None
-none_of None h = refl
-none_of (Some x) h = cc
 
 pub stage_named : (stages : List Stage) (w : List ℕ) (o : Option ℕ) → is_some (number_of w) ≡ false → o ≡ position (λ s. same_name s.name w) stages →
     stage_placed o ≡ stage_of stages w
@@ -32,10 +29,6 @@ none_green groups (s ∷ ss) named e = absurd (omega arith)
 cond_some : (b : Bool) (k i : ℕ) → cond b (Some k) None ≡ Some i → k ≡ i
 cond_some true k i e = cc
 cond_some false k i e = cc
-
-cond_none : (b : Bool) (k : ℕ) → cond b (Some k) None ≡ None → b ≡ false
-cond_none true k e = cc
-cond_none false k e = refl
 
 prefix_fits : {A : Type 0} (p : A → Bool) (xs : List A) → prefix_len p xs ≤ length xs
 prefix_fits p [] = omega arith

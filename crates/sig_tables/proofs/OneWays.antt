@@ -1,11 +1,11 @@
 -- The first pair that is not listed the other way.
 use Rattle.std.proofs.Common.{◌≡◌, ◌∙◌, ℕ, zero, suc, ◌+◌, ◌*◌, ◌<◌, ◌≤◌, Bool, true, false, List, [], length, get_or, take, Some, None, Option, refl, sym, ap, arith, subst}
-use Rattle.std.proofs.lemmas.Bool.{false≢true}
 use Rattle.std.specs.Prelude.{is_none, is_some}
 use Rattle.std.proofs.lemmas.List.{length-take-le}
 use Rattle.sig_types.specs.declared.numbers.GroupNo.{GroupNo}
 use Rattle.sig_types.specs.FirstRefused.{refused_to, first_refused}
 use Rattle.sig_types.proofs.Refusals.{refused_here}
+use Rattle.sig_types.proofs.Options.{some_of}
 use Rattle.pua_model.specs.Plan.{PlanOf}
 use Rattle.sig_tables.specs.declared.refusal.TableWhy.TheVariants as why
 use Rattle.sig_tables.specs.Records.{Row}
@@ -57,10 +57,6 @@ one_way_at plan rows cells pairs k from to holds inside lt both is none =
     let here = one_here plan rows (take k rows) (get_or rows k []) from to named (other_way plan rows cells pairs from.0 to.0 holds below.0 below.1 true none) in
     refused_here (numbered (one_way_reason plan rows)) rows [] (k + 2, why.OneWay from to) k (both_below plan rows cells pairs k holds inside (omega arith) both) lr
     (here ∙ ap (λ (n : ℕ). Some (n + 2, why.OneWay from to)) (length-take-le k rows (omega arith)))
-
-some_of : {A : Type 0} (o : Option A) → is_none o ≡ false → is_some o ≡ true
-some_of None is = absurd (false≢true (sym is))
-some_of (Some x) is = refl
 
 pub both_listed : (plan : PlanOf) (rows : List Row) (cells : List (Option ℕ)) (pairs : List (GroupNo × GroupNo)) → HoldsPairs plan rows cells pairs →
     ((k : ℕ) → k < length pairs → IsPairOf 64 (get_or pairs k no_pair)) → BothBelow cells pairs (length pairs) → (i g z : ℕ) → cell_of cells i g ≡ Some z → is_some (cell_of cells g i) ≡ true

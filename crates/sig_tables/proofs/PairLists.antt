@@ -3,7 +3,7 @@ use Rattle.std.proofs.Common.{◌≡◌, ◌≢◌, ◌∙◌, ℕ, ◌+◌, ◌
 use Rattle.std.proofs.lemmas.List.{length-set, get_or_append_left}
 use Rattle.std.proofs.Math.Seq.{get_or-append_seam}
 use Rattle.std.specs.Prelude.{is_some, ◌==◌, unwrap_or}
-use Rattle.std.proofs.lemmas.Bool.{cases_Bool, cases_eq, cases_lt}
+use Rattle.std.proofs.lemmas.Bool.{cases_Bool, cases_eq, cases_lt, and_right}
 use Rattle.std.proofs.lemmas.Bool.Decides.{eqb_tells}
 use Rattle.std.proofs.lemmas.Option.{none-some, same_Some}
 use Rattle.sig_types.specs.declared.numbers.GroupNo.{GroupNo}
@@ -14,7 +14,7 @@ use Rattle.sig_tables.specs.Records.{Row}
 use Rattle.sig_tables.specs.Pairs.{cell_of}
 use Rattle.sig_tables.specs.IntergreenTable.{listed_seconds, pair_in, is_pair, seconds_in, intergreen_form, intergreen_reason}
 use Rattle.sig_tables.specs.Held.{HoldsPairs, no_pair}
-use Rattle.sig_tables.proofs.Cells.{cell_in, cell_here, cell_other, cell_none, and_out}
+use Rattle.sig_tables.proofs.Cells.{cell_in, cell_here, cell_other, cell_none}
 
 listed_other : (plan : PlanOf) (rows : List Row) (row : Row) (i g : ℕ) → is_pair (pair_in plan row) i g ≡ false → listed_seconds plan (rows ++ row ∷ []) i g ≡ listed_seconds plan rows i g
 unfolding listed_seconds
@@ -59,7 +59,7 @@ no_self f t g ne e1 e2 = ne (e1 ∙ sym e2)
 
 apart_pair : (f t i g : ℕ) → (f ≡ i → t ≡ g → ⊥) → is_pair (Some (f, t)) i g ≡ false
 apart_pair f t i g ne = elim (cases_eq f i) [
-  | inl e ↦ (elim (cases_eq t g) [ inl e2 ↦ absurd (ne e e2) | inr n2 ↦ (let h : (t == g) ≡ false = grind (arith, eqb_tells) in rw h (and_out (f == i))) ])
+  | inl e ↦ (elim (cases_eq t g) [ inl e2 ↦ absurd (ne e e2) | inr n2 ↦ (let h : (t == g) ≡ false = grind (arith, eqb_tells) in rw h (and_right (f == i) false refl)) ])
   | inr n ↦ (let h : (f == i) ≡ false = grind (arith, eqb_tells) in rw h refl)
 ]
 

@@ -1,11 +1,12 @@
 -- The times of groups among records, and the places in which a reader holds them.
 use Rattle.std.proofs.Common.{◌≡◌, ◌∙◌, ℕ, ◌<◌, Bool, true, false, List, [], ◌∷◌, ◌++◌, get_or, Some, None, Option, refl, sym, ap, arith, inl, inr, slice_set, get_or-set_other}
 use Rattle.std.specs.Prelude.{is_some}
-use Rattle.std.proofs.lemmas.Bool.{cases_Bool, false≢true, cases_eq}
+use Rattle.std.proofs.lemmas.Bool.{cases_Bool, cases_eq}
 use Rattle.std.proofs.lemmas.Bool.Decides.{eqb_tells}
 use Rattle.std.proofs.lemmas.Option.{none-some}
 use Rattle.std.proofs.lemmas.List.{length-set}
 use Rattle.std.proofs.lemmas.Grind.{get_or-set_at}
+use Rattle.sig_types.proofs.Options.{none_of}
 use Rattle.pua_model.specs.Plan.{PlanOf, groups_in}
 use Rattle.sig_tables.specs.declared.refusal.TableWhy.{TableWhy}
 use Rattle.sig_tables.specs.declared.refusal.TableWhy.TheVariants as why
@@ -43,10 +44,6 @@ pub reason_none : (plan : PlanOf) (rows : List Row) (row : Row) (g : ℕ) → ti
 unfolding times_reason
 reason_none plan rows row g right is once = rw (right, is, once) refl
 
-pub is_none_of : {A : Type 0} (o : Option A) → is_some o ≡ false → o ≡ None
-is_none_of None is = refl
-is_none_of (Some x) is = absurd (false≢true (sym is))
-
 -- a reader holds what is listed
 pub held_listed : (plan : PlanOf) (rows : List Row) (held : List (Option TimesRow)) (g : ℕ) → HoldsTimes plan rows held → g < groups_in plan → (b : Bool) →
     is_some (get_or held g None) ≡ b → is_some (listed_times plan rows g) ≡ b
@@ -60,7 +57,7 @@ held_more plan rows held row g times holds lt named free read fits = record {
   size = length-set held g (Some times) ∙ holds.size;
   times = λ k below. elim (cases_eq k g) [
     | inl same ↦ (let here : is_group (group_at plan row 0) k ≡ true = rw named (grind (arith, eqb_tells)) in
-        let none : listed_times plan rows k ≡ None = rw same (sym (holds.times g lt) ∙ is_none_of _ free) in
+        let none : listed_times plan rows k ≡ None = rw same (sym (holds.times g lt) ∙ none_of _ free) in
         get_or-set_at held g k (Some times) None same (omega (arith, holds.size)) ∙ sym (listed_here plan rows row k none here ∙ ap (λ o. Some (times_or o)) read))
     | inr other ↦ (let apart : is_group (group_at plan row 0) k ≡ false = rw named (grind (arith, eqb_tells)) in
         get_or-set_other held g k (Some times) None other ∙ holds.times k below ∙ sym (listed_other plan rows row k apart))

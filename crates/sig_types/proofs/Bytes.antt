@@ -2,7 +2,7 @@
 use Rattle.std.proofs.Common.{◌≡◌, ◌∙◌, ℕ, ◌+◌, ◌-◌, ◌*◌, ◌<◌, ◌≤◌, Bool, true, false, List, [], ◌∷◌, length, get_or, take, drop, None, Some, refl, sym, ap, arith, nat_eq}
 use Rattle.std.specs.Prelude.{if◌then◌else◌, ◌&&◌, nat_le}
 use Rattle.std.proofs.lemmas.Bool.Decides.{eqb_tells}
-use Rattle.std.proofs.lemmas.Bool.{lt-leb}
+use Rattle.std.proofs.lemmas.Bool.{lt-leb, and_right}
 use Prim.Native.Nat.{suc, zero}
 use Rattle.sig_types.specs.Text.{cut_at, value_from, same_name, lower, within}
 
@@ -28,17 +28,13 @@ pub value_grows : (n : ℕ) (ds : List ℕ) → n ≤ value_from n ds
 value_grows n [] = omega arith
 value_grows n (d ∷ ds) = omega (arith, value_grows (10 * n + (d - 48)) ds)
 
-and_false : (b : Bool) → (b && false) ≡ false
-and_false true = refl
-and_false false = refl
-
 -- a value past the most stays past it
 pub too_great : (digits : Bool) (value n most : ℕ) (ds : List ℕ) → value ≡ value_from n ds → most < n →
     None ≡ (if digits then within 0 most (Some value) else None)
 too_great true value n most ds is above =
     let past : most < value = omega (arith, value_grows n ds) in
     let fails : nat_le value most ≡ false = lt-leb value most past in
-    rw (fails, and_false (nat_le 0 value)) refl
+    rw (fails, and_right (nat_le 0 value) false refl) refl
 too_great false value n most ds is above = refl
 
 -- names of two lengths are not the same
@@ -48,7 +44,7 @@ names_differ [] (y ∷ ys) ne = refl
 names_differ (x ∷ xs) [] ne = refl
 names_differ (x ∷ xs) (y ∷ ys) ne =
     let rest = names_differ xs ys (λ e. ne (ap suc e)) in
-    sym (ap (λ b. nat_eq (lower x) (lower y) && b) (sym rest) ∙ and_false (nat_eq (lower x) (lower y)))
+    sym (ap (λ b. nat_eq (lower x) (lower y) && b) (sym rest) ∙ and_right (nat_eq (lower x) (lower y)) false refl)
 
 -- the two parts, as two cuts of the slice give them
 pub rest_of : (stop : ℕ) (bs : List ℕ) (i : ℕ) (front back rest : List ℕ) → cut_at stop bs ≡ Some (take i bs, drop (suc i) bs) →

@@ -1,9 +1,14 @@
--- What follows from frames being those of a detector file.
+-- Counts as a frame comes, and what follows from frames being those of a detector file.
 use Rattle.std.proofs.Common.{◌≡◌, ℕ, zero, suc, ◌+◌, ◌*◌, ◌<◌, ◌≤◌, List, [], ◌∷◌, ◌++◌, length, take, get_or, sum_by, ap, ◌∙◌, arith, length-append, take-take}
-use Rattle.std.proofs.lemmas.List.{get_or-take, length-take-le}
+use Rattle.std.proofs.lemmas.List.{get_or-take, length-take-le, take-append-le}
 use Rattle.std.proofs.lemmas.List.Sums.{sum_by_push}
 use Rattle.std.proofs.Math.Seq.{get_or-append_seam, take-suc}
 use Rattle.sig_types.specs.Counts.{Counts, Kind, fronts, count_in, count_to, AreFrames, Takes}
+
+-- one more frame leaves the counts of those before it
+pub count_before : (kind : Kind) (frames : List Counts) (frame : Counts) (d n : ℕ) → n ≤ length frames →
+    count_to kind (frames ++ frame ∷ []) d n ≡ count_to kind frames d n
+count_before kind frames frame d n le = ap (λ l. sum_by (count_in kind d) l) (take-append-le n frames (frame ∷ []) le)
 
 -- counts of at most 99 a frame
 count_most : (kind : Kind) (frames : List Counts) (d n : ℕ) → ((i : ℕ) → i < length frames → count_in kind d (get_or frames i []) ≤ 99) → n ≤ length frames → count_to kind frames d n ≤ 99 * n

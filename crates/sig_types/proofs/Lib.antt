@@ -3,6 +3,7 @@ pub mod FrameLaws
 pub mod Fronts
 pub mod LastBelow
 pub mod Lines
+pub mod Options
 pub mod Refusals
 pub mod Runs
 pub mod Zeros

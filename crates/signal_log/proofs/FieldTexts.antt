@@ -1,8 +1,8 @@
 -- The fields of a record have no bar, and the last one has no line feed.
-use Rattle.std.proofs.Common.{◌≡◌, ◌∙◌, ℕ, zero, suc, Bool, true, false, List, [], ◌∷◌, ◌++◌, map, length, codes, ◌&&◌, ◌||◌, nat_le, refl, ap, sym, arith}
+use Rattle.std.proofs.Common.{◌≡◌, ◌∙◌, ℕ, zero, suc, true, List, [], ◌∷◌, ◌++◌, map, length, codes, ◌&&◌, ◌||◌, nat_le, refl, ap, sym, arith}
 use Rattle.std.specs.Prelude.{slice_index_or, Option, None, Some}
 use Rattle.std.specs.Fmt.{decimal}
-use Rattle.std.proofs.lemmas.Bool.{or_left}
+use Rattle.std.proofs.lemmas.Bool.{or_left, and_parts}
 use Rattle.pua_model.specs.Plan.{are_names}
 use Rattle.sig_types.specs.Text.{is_letter, is_digit, is_word, is_name}
 use Rattle.sig_types.specs.declared.aspect.Aspect.{Aspect}
@@ -96,28 +96,20 @@ counts_no_bars (c ∷ cs) = (count_text_without 124 c bar_no_digit colon_bar, co
 word_apart : (b : ℕ) → (is_letter b || is_digit b) ≡ true → b ≡ 124 → ⊥
 word_apart b t e = false_not_true (sym (ap (λ n. is_letter n || is_digit n) e) ∙ t)
 
-and_first : (x y : Bool) → (x && y) ≡ true → x ≡ true
-and_first true y e = refl
-and_first false y e = e
-
-and_second : (x y : Bool) → (x && y) ≡ true → y ≡ true
-and_second true y e = e
-and_second false y e = absurd (false_not_true e)
-
 word_without : (bs : List ℕ) → is_word bs ≡ true → Without 124 bs
 word_without [] t = tt
-word_without (b ∷ bs) t = (word_apart b (and_first (is_letter b || is_digit b) (is_word bs) t), word_without bs (and_second (is_letter b || is_digit b) (is_word bs) t))
+word_without (b ∷ bs) t = (word_apart b (and_parts (is_letter b || is_digit b) (is_word bs) t).0, word_without bs (and_parts (is_letter b || is_digit b) (is_word bs) t).1)
 
 name_without : (bs : List ℕ) → is_name bs ≡ true → Without 124 bs
 name_without [] t = tt
 name_without (b ∷ bs) t =
-    let front = and_first (is_letter b && is_word bs) (nat_le (length bs) 31) t in
-    (word_apart b (or_left (is_letter b) (is_digit b) (and_first (is_letter b) (is_word bs) front)), word_without bs (and_second (is_letter b) (is_word bs) front))
+    let front = (and_parts (is_letter b && is_word bs) (nat_le (length bs) 31) t).0 in
+    (word_apart b (or_left (is_letter b) (is_digit b) (and_parts (is_letter b) (is_word bs) front).0), word_without bs (and_parts (is_letter b) (is_word bs) front).1)
 
 named_without : (names : List (List ℕ)) (g : ℕ) → are_names names ≡ true → Without 124 (slice_index_or names g [])
 named_without [] g t = tt
-named_without (n ∷ ns) zero t = name_without n (and_first (is_name n) (are_names ns) t)
-named_without (n ∷ ns) (suc g) t = named_without ns g (and_second (is_name n) (are_names ns) t)
+named_without (n ∷ ns) zero t = name_without n (and_parts (is_name n) (are_names ns) t).0
+named_without (n ∷ ns) (suc g) t = named_without ns g (and_parts (is_name n) (are_names ns) t).1
 
 pub stages_no_bars : (rs : List StageRefusal) → NoBars (map stage_refusal_text rs)
 stages_no_bars [] = tt

@@ -1,7 +1,7 @@
 -- Texts that don't have a byte, and how such a byte parts a text.
 use Rattle.std.proofs.Common.{◌≡◌, ◌∙◌, ℕ, zero, suc, ◌+◌, ◌<◌, ◌/◌, ◌%◌, Bool, true, false, List, [], ◌∷◌, ◌++◌, if◌then◌else◌, ◌==◌, ◌||◌, refl, ap, sym, subst, arith}
 use Rattle.std.specs.Fmt.{decimal, digits, digits_onto, digit_glyph}
-use Rattle.std.proofs.lemmas.Bool.{eq-eqb, lt-ltb, or_left}
+use Rattle.std.proofs.lemmas.Bool.{eq-eqb, lt-ltb, or_left, or_parts}
 
 -- no item is b
 abbrev pub Without : ℕ → List ℕ → Type 0
@@ -58,10 +58,6 @@ true_not_false e = cc
 pub false_not_true : false ≡ true → ⊥
 false_not_true e = cc
 
-second_false : (x y : Bool) → (x || y) ≡ false → y ≡ false
-second_false true y e = absurd (true_not_false e)
-second_false false y e = e
-
 -- a text without b, seen by computing
 abbrev contains_byte : ℕ → List ℕ → Bool
 contains_byte b [] = false
@@ -69,4 +65,4 @@ contains_byte b (x ∷ xs) = (x == b) || contains_byte b xs
 
 pub without_by_test : (b : ℕ) (xs : List ℕ) → contains_byte b xs ≡ false → Without b xs
 without_by_test b [] e = tt
-without_by_test b (x ∷ xs) e = ((λ is. absurd (true_not_false (sym (or_left (x == b) (contains_byte b xs) (eq-eqb x b is)) ∙ e))), without_by_test b xs (second_false (x == b) (contains_byte b xs) e))
+without_by_test b (x ∷ xs) e = ((λ is. absurd (true_not_false (sym (or_left (x == b) (contains_byte b xs) (eq-eqb x b is)) ∙ e))), without_by_test b xs ((or_parts (x == b) (contains_byte b xs) e).1))

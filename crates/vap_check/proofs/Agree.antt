@@ -6,6 +6,7 @@ use Rattle.std.proofs.lemmas.Slice.Eq.{bytes_eq-Decides}
 use Rattle.std.proofs.lemmas.List.{map-append}
 use Rattle.std.proofs.lemmas.List.Folds.{list_any-append}
 use Rattle.std.specs.Str.{bytes_eq}
+use Rattle.sig_types.proofs.Options.{or-false, option_or-none}
 use Rattle.vap_ast.specs.Syntax.{Items, Constant, Program}
 use Rattle.vap_check.specs.declared.finding.Finding.{Finding}
 use Rattle.vap_check.specs.declared.kinds.First.{First}
@@ -18,10 +19,6 @@ use Rattle.vap_check.specs.KeptNames.{const_keys, with_const, with_consts, line_
 use Rattle.vap_check.specs.Findings.{items_findings, body_findings, label_findings, const_line, is_declared, const_findings, array_findings, subs_findings, findings}
 use Rattle.vap_check.proofs.Flat.{findings_on}
 use Rattle.vap_check.proofs.Entries.{some_found}
-
-or_false : (b : Bool) → (b || false) ≡ b
-or_false true = refl
-or_false false = refl
 
 or_assoc : (a b c : Bool) → (a || (b || c)) ≡ ((a || b) || c)
 or_assoc true b c = refl
@@ -46,7 +43,7 @@ absorbed names x n there = elim (bytes_eq n x) as (λ b. bytes_eq n x ≡ b → 
 with_one : (names : List (List ℕ)) (x n : List ℕ) → among (with_name names x) n ≡ (bytes_eq n x || among names n)
 with_one names x n = elim (among names x) as (λ b. among names x ≡ b → among (if b then names else names ++ x ∷ []) n ≡ (bytes_eq n x || among names n)) [
   | true ↦ λ e. absorbed names x n e
-  | false ↦ λ e. list_any-append (bytes_eq n) names (x ∷ []) ∙ ap (λ c. among names n || c) (or_false (bytes_eq n x)) ∙ or_swap (among names n) (bytes_eq n x)
+  | false ↦ λ e. list_any-append (bytes_eq n) names (x ∷ []) ∙ ap (λ c. among names n || c) (or-false (bytes_eq n x)) ∙ or_swap (among names n) (bytes_eq n x)
 ] refl
 
 with_more : (xs names : List (List ℕ)) (n : List ℕ) → among (with_names names xs) n ≡ (among xs n || among names n)
@@ -57,7 +54,7 @@ with_more (x ∷ xs) names n =
 
 -- among names that are kept once are the same as among all of them
 pub among_distinct : (xs : List (List ℕ)) → among (distinct xs) ≡ among xs
-among_distinct xs = λ i n. (with_more xs [] n ∙ or_false (among xs n)) i
+among_distinct xs = λ i n. (with_more xs [] n ∙ or-false (among xs n)) i
 
 -- ---- constants
 
@@ -79,10 +76,6 @@ line_behind (e ∷ es) k n f =
       | false ↦ line_behind es k n f
     ]
 
-first_none : (a : Option ℕ) → option_or a None ≡ a
-first_none None = refl
-first_none (Some x) = refl
-
 first_kept : (a b : Option ℕ) → is_some a ≡ true → option_or a b ≡ a
 first_kept None b e = absurd (true≢false (sym e))
 first_kept (Some x) b e = refl
@@ -99,7 +92,7 @@ line_with : (es : List (List ℕ × First)) (c : Constant) (n : List ℕ) → li
 line_with es c n = elim (among (const_keys es) c.name) as (λ b. among (const_keys es) c.name ≡ b → line_in (if b then es else es ++ (c.name, record { line = c.line; value = c.value }) ∷ []) n ≡ option_or (line_in es n) (if bytes_eq n c.name then Some c.line else None)) [
   | true ↦ λ there. (elim (bytes_eq n c.name) as (λ b. bytes_eq n c.name ≡ b → line_in es n ≡ option_or (line_in es n) (if b then Some c.line else None)) [
     | true ↦ λ e. sym (first_kept (line_in es n) (Some c.line) (some_line (lookup (bytes_eq n) es) ∙ some_found (bytes_eq n) es ∙ subst (λ m. among (const_keys es) m ≡ true) (sym (same_is n c.name e)) there))
-    | false ↦ λ e. sym (first_none (line_in es n))
+    | false ↦ λ e. sym (option_or-none (line_in es n))
   ]) refl
   | false ↦ λ e. line_behind es c.name n record { line = c.line; value = c.value }
 ] refl
@@ -109,7 +102,7 @@ line_first true l o = refl
 line_first false l o = refl
 
 line_with_all : (cs : List Constant) (es : List (List ℕ × First)) (n : List ℕ) → line_in (with_consts es cs) n ≡ option_or (line_in es n) (const_line cs n)
-line_with_all [] es n = sym (first_none (line_in es n))
+line_with_all [] es n = sym (option_or-none (line_in es n))
 line_with_all (c ∷ cs) es n =
     line_with_all cs (with_const es c) n ∙ ap (λ a. option_or a (const_line cs n)) (line_with es c n)
     ∙ first_assoc (line_in es n) (if bytes_eq n c.name then Some c.line else None) (const_line cs n)

@@ -10,4 +10,4 @@ mod Meanings
 mod Sums
 mod Seen
 mod Usability
-mod Sounding
+pub mod Sounding

@@ -19,7 +19,7 @@ use Rattle.vap_check.specs.Numbers.{names_of}
 use Rattle.vap_check.specs.Usable.{IsSub, UsableExpr, UsableExprs, UsableStmt, UsableItem, UsableItems, Usable}
 use Rattle.vap_ast.proofs.Room.{waiting_within, arguments_within}
 
-few_commands : (kind : CommandKind) → command_arity kind ≤ 2
+pub few_commands : (kind : CommandKind) → command_arity kind ≤ 2
 few_commands command.Interstage = omega arith
 few_commands command.SgGreen = omega arith
 few_commands command.SgRed = omega arith

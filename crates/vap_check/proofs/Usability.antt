@@ -4,7 +4,7 @@ use Rattle.std.specs.Prelude.{position, nat_lt, filter, flat_map, ℤ, pos, negs
 use Rattle.std.specs.List.{AllByRecursion}
 use Rattle.std.specs.Option.{option_map, option_or}
 use Rattle.std.specs.Str.{bytes_eq}
-use Rattle.std.proofs.lemmas.Bool.{ltb-false}
+use Rattle.std.proofs.lemmas.Bool.{ltb-false, or_right, or_parts}
 use Rattle.std.proofs.lemmas.Slice.Eq.{bytes_eq-Decides}
 use Rattle.std.proofs.lemmas.List.{length-map}
 use Rattle.std.proofs.lemmas.Bool.Decides.{nat_tests}
@@ -92,14 +92,6 @@ among_no_filter f (x ∷ xs) n t =
       | false ↦ λ s. among_no_filter f xs n t
     ]) refl
 
-no_or_first : (a b : Bool) → (a || b) ≡ false → a ≡ false
-no_or_first true b e = e
-no_or_first false b e = refl
-
-no_or_second : (a b : Bool) → (a || b) ≡ false → b ≡ false
-no_or_second true b e = absurd (true≢false e)
-no_or_second false b e = e
-
 count_is : (a b : ℕ) → not (a == b) ≡ false → a ≡ b
 count_is a b e = grind (arith, nat_tests)
 
@@ -172,13 +164,9 @@ module _ (p : Program) where
 
 -- ---- trees
 
-right_true : (c : Bool) → (c || true) ≡ true
-right_true true = refl
-right_true false = refl
-
 last_within : (f : Items → List (List ℕ)) (bs : List Items) (b : Items) (n : List ℕ) → among (f b) n ≡ true → among (flat_map f (bs ++ b ∷ [])) n ≡ true
 last_within f [] b n e = list_any-append (bytes_eq n) (f b) [] ∙ ap (λ c. c || false) e
-last_within f (x ∷ bs) b n e = list_any-append (bytes_eq n) (f x) (flat_map f (bs ++ b ∷ [])) ∙ ap (λ c. among (f x) n || c) (last_within f bs b n e) ∙ right_true (among (f x) n)
+last_within f (x ∷ bs) b n e = list_any-append (bytes_eq n) (f x) (flat_map f (bs ++ b ∷ [])) ∙ ap (λ c. among (f x) n || c) (last_within f bs b n e) ∙ or_right (among (f x) n) true refl
 
 -- a name in a timer command that isn't declared is no variable
 never_variable : (a b c : Bool) → (if a then kind.Constant else if b then kind.Array else if c then kind.Sub else kind.Timer) ≡ kind.Variable → ⊥
@@ -200,7 +188,7 @@ module _ (p : Program) where
   left_within a b w n e = w n (list_any-append (bytes_eq n) a b ∙ ap (λ c. c || among b n) e)
 
   right_within : (a b : List (List ℕ)) → Within (a ++ b) → Within b
-  right_within a b w n e = w n (list_any-append (bytes_eq n) a b ∙ ap (λ c. among a n || c) e ∙ right_true (among a n))
+  right_within a b w n e = w n (list_any-append (bytes_eq n) a b ∙ ap (λ c. among a n || c) e ∙ or_right (among a n) true refl)
 
   itself : (n : List ℕ) → Within (n ∷ []) → among (uses p) n ≡ true
   itself n w = w n (ap (λ b. b || false) ((bytes_eq-Decides n n).1 refl))
@@ -260,7 +248,7 @@ module _ (p : Program) where
   left_timers a b w n e = w n (list_any-append (bytes_eq n) a b ∙ ap (λ c. c || among b n) e)
 
   right_timers : (a b : List (List ℕ)) → Timers_within (a ++ b) → Timers_within b
-  right_timers a b w n e = w n (list_any-append (bytes_eq n) a b ∙ ap (λ c. among a n || c) e ∙ right_true (among a n))
+  right_timers a b w n e = w n (list_any-append (bytes_eq n) a b ∙ ap (λ c. among a n || c) e ∙ or_right (among a n) true refl)
 
   abbrev Expr_ok : Expr → Type 0
   Expr_ok = UsableExpr (names_of p) (length (variables p)) (length (timers p)) (length p.arrays)
@@ -405,7 +393,8 @@ module _ (p : Program) (clean : findings p ≡ []) where
       let there : among (sub_names p) n ≡ true = ap (λ ns. among ns n) s ∙ list_any-append (bytes_eq n) before more ∙ ap (λ c. c || among more n) e in
       let no = free n there in
       let at = ap (position (bytes_eq n)) s ∙ r.2 in
-      let is = is_sub p n r.0 (no_or_first (among (const_names p) n) (among (array_names p) n) no) (no_or_second (among (const_names p) n) (among (array_names p) n) no) at in
+      let neither = or_parts (among (const_names p) n) (among (array_names p) n) no in
+      let is = is_sub p n r.0 neither.0 neither.1 at in
       let below : r.0 < q = subst (λ m. r.0 < m) l r.1 in
       subst (IsSub (names_of p) (length (variables p)) (length (timers p)) (length p.arrays) q) (sym is) below
 

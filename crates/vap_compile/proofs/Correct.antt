@@ -4,7 +4,7 @@ use Rattle.std.specs.Prelude.{ℤ, sum, IsTrue, replicate, pos}
 use Rattle.std.specs.List.{All, flat_map, sum_by}
 use Rattle.std.proofs.lemmas.Bool.{cases_lt}
 use Rattle.std.proofs.lemmas.List.{length-map, get_or_append_left}
-use Rattle.std.proofs.lemmas.List.Elements.{All-from_recursion, All-nil, All-cons, All-head, All-tail}
+use Rattle.std.proofs.lemmas.List.Elements.{All-from_recursion, All-head, All-tail, All-map}
 use Rattle.std.proofs.lemmas.List.Sums.{sum-map, sum_by-cons}
 use Rattle.sig_types.specs.Pass.{Store}
 use Rattle.vap_ast.specs.Parsed.{ParsedRoutine, ParsedItems}
@@ -51,13 +51,6 @@ parsed_at most (r ∷ rs) (suc k) all lt =
 lengths : {A B : Type 0} (f : A → List B) (xs : List A) → map (λ a. length (f a)) xs ≡ map length (map f xs)
 lengths f [] = refl
 lengths f (x ∷ xs) = ap (λ ns. length (f x) ∷ ns) (lengths f xs)
-
-all_to_map : {A B : Type 0} (P : B → Type 0) (f : A → B) (xs : List A) → All (λ a. P (f a)) xs
-    → All P (map f xs)
-all_to_map P f [] h = All-nil P
-all_to_map P f (x ∷ xs) h =
-    All-cons P (f x) (map f xs) (All-head (λ a. P (f a)) x xs h)
-    (all_to_map P f xs (All-tail (λ a. P (f a)) x xs h))
 
 flat_length : (xs : List Array) → sum_by (λ a. length a.values) xs ≡ length (flat_map (λ a. a.values) xs)
 flat_length [] = refl
@@ -197,7 +190,7 @@ module _ (m : Meant) (c : CodeOf) (checked : IsChecked m) (is : IsLaidOut m c) w
         );
     cells =
         subst (All Limits) (sym is.numbers.arrays)
-        (all_to_map Limits (λ a. a.values) p.arrays
+        (All-map Limits (λ a. a.values) p.arrays
         (All-from_recursion (λ a. Limits a.values) p.arrays checked.usable.sized));
     all_cells =
         omega (

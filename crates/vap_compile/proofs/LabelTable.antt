@@ -4,11 +4,8 @@ use Rattle.std.proofs.Common.{◌≡◌, ℕ, List, Bool, true, false, cond, Opt
 use Rattle.std.specs.Prelude.{if◌then◌else◌}
 use Rattle.std.specs.Str.{bytes_eq}
 use Rattle.std.proofs.lemmas.Slice.Eq.{bytes_eq-Decides}
+use Rattle.sig_types.proofs.Options.{option_or-none}
 use Rattle.vap_compile.specs.Labels.{Places, place_among, one_place, Notes}
-
-pub option_or_none : (a : Option ℕ) → option_or a None ≡ a
-option_or_none None = refl
-option_or_none (Some x) = refl
 
 -- a label that has no place gets this one
 pub noted : (old new : Places) (name : List ℕ) (place : ℕ)
@@ -29,7 +26,7 @@ noted old new name place absent updated label = updated label ∙ go (bytes_eq n
         let same = (bytes_eq-Decides name label).0 e in
         let gone = ap (place_among old) (sym same) ∙ none (place_among old name) absent in
         sym (ap (λ o. option_or o (Some place)) gone)
-    go false e = sym (option_or_none (place_among old label))
+    go false e = sym (option_or-none (place_among old label))
 
 -- a label that has a place keeps it
 pub kept : (places : Places) (name : List ℕ) (place : ℕ) → is_some (place_among places name) ≡ true
@@ -46,4 +43,4 @@ kept places name place there label = go (bytes_eq name label) refl
         let same = (bytes_eq-Decides name label).0 e in
         first (place_among places label) (Some place)
         (subst (λ n. is_some (place_among places n) ≡ true) same there)
-    go false e = sym (option_or_none (place_among places label))
+    go false e = sym (option_or-none (place_among places label))

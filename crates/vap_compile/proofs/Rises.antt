@@ -1,10 +1,9 @@
 -- How many operands stand along the code of a program.
 use Rattle.std.proofs.Common.{◌≡◌, ℕ, suc, ◌+◌, ◌≤◌, List, [], ◌∷◌, ◌++◌, Option, Some, None, refl, sym, subst, arith}
 use Rattle.std.specs.Prelude.{IsTrue, IfSome, if◌then◌else◌}
+use Rattle.vap_check.proofs.Sounding.{few_commands}
 use Rattle.sig_types.specs.declared.kinds.TimerKind.{TimerKind}
 use Rattle.sig_types.specs.declared.kinds.TimerKind.TheVariants.{Start as Start_timer, Stop as Stop_timer, Reset as Reset_timer}
-use Rattle.sig_types.specs.declared.kinds.CommandKind.{CommandKind}
-use Rattle.sig_types.specs.declared.kinds.CommandKind.TheVariants.{Interstage}
 use Rattle.vap_ast.specs.declared.name.Meaning.{Meaning}
 use Rattle.vap_ast.specs.declared.name.Meaning.TheVariants.{Constant, Array, Sub as Sub_of, Timer as Timer_of, Variable}
 use Rattle.vap_ast.specs.declared.name.Entry.{Entry}
@@ -17,7 +16,6 @@ use Rattle.vap_ast.specs.Value.{array_number}
 use Rattle.vap_ast.specs.Mean.{variable_number, timer_number}
 use Rattle.vap_code.specs.declared.Instr.{Instr}
 use Rattle.vap_code.specs.declared.Instr.TheVariants.{Tick, Store, Cell, SetCell, Read, Do, Jump, JumpZero}
-use Rattle.sig_types.specs.Arity.{command_arity}
 use Rattle.vap_code.specs.Valid.{pops, leaves, target, goes_on, stands_clear}
 use Rattle.vap_ast.specs.Sizes.{expr_size, items_size}
 use Rattle.vap_ast.specs.Sound.{count_arguments, Regular, Regular_all, waiting, waiting_arguments, Low, Low_item, Low_items}
@@ -91,10 +89,6 @@ name_okay (Some (Array a)) h le =
     (record { enough = omega arith; room = omega arith; clear = λ c. cc; jumped = tt }, omega arith)
 name_okay (Some (Sub_of k)) h le =
     (record { enough = omega arith; room = omega arith; clear = λ c. cc; jumped = tt }, omega arith)
-
-arity_small : (k : CommandKind) → command_arity k ≤ 2
-arity_small Interstage = omega arith
-arity_small _ = omega arith
 
 timer_rises : (kind : TimerKind) (t : ℕ) → Rises 0 (timer_instr kind t ∷ []) 0
 timer_rises Start_timer t =
@@ -231,16 +225,13 @@ module _ (names : List Entry) where
             (omega arith) (exprs_rise args 0 low.1.0 (omega (arith, low.1.1)))) (
               record {
                 enough = omega (arith, low.0);
-                room = omega (arith, low.0, small kind);
+                room = omega (arith, low.0, few_commands kind);
                 clear = λ c. cc;
                 jumped = tt;
               },
               omega (arith, low.0),
             ),
       )
-        where
-          small : (k : CommandKind) → command_arity k ≤ 2
-          small k = arity_small k
       stmt_rises (Stmt.Timer kind name) p line low =
           (tick_okay line, timer_rises kind (timer_number (meaning_in names name)))
       stmt_rises Stmt.Trace p line low = (tick_okay line, refl)

@@ -2,15 +2,15 @@ use Rattle.std.proofs.Common.{◌≡◌, true, not, get_or, None, sym, ap, rules
 use Rattle.std.proofs.Common.{below_more}
 use Rattle.pua_model.specs.Wish.{leads}
 use Rattle.pua_reader.specs.Interstages.{greens_in}
-use Rattle.pua_reader.proofs.LeastBelow.{least_at, never_below}
+use Rattle.sig_types.proofs.LastBelow.{least_below-at, least_below-never}
 use Rattle.pua_reader.proofs.interstages.first_inconsistent.Goals as goal
 
 pub returns-then-not-leads_group-clause-found : goal.returns-then-not-leads_group-clause-found
 returns-then-not-leads_group-clause-found c =
-    sym (least_at _ c.args.groups c.loop-g.g (search rules) (search rules) c.loop-g.invariant)
+    sym (least_below-at _ c.args.groups c.loop-g.g (search rules) (search rules) c.loop-g.invariant)
 
 pub returns-clause-found : goal.returns-clause-found
-returns-clause-found c = sym (never_below _ c.args.groups (λ j lt. c.loop-g.invariant j (search rules)))
+returns-clause-found c = sym (least_below-never _ c.args.groups (λ j lt. c.loop-g.invariant j (search rules)))
 
 pub loop-g-preserved : goal.loop-g-preserved
 loop-g-preserved c =

@@ -1,9 +1,10 @@
 use Rattle.std.proofs.Common.{rules, ◌≡◌, ◌<◌, None, true, false, length, get_or, arith}
 use Rattle.std.proofs.lemmas.Result.{err_from_is_err_and}
 use Rattle.std.specs.Prelude.{is_some}
+use Rattle.sig_types.proofs.Options.{none_of}
 use Rattle.csv.specs.Records.{fields_of}
 use Rattle.sig_tables.proofs.Places.{empties_filled}
-use Rattle.sig_tables.proofs.TimesLists.{reason_form, reason_twice, reason_none, held_listed, held_more, is_none_of}
+use Rattle.sig_tables.proofs.TimesLists.{reason_form, reason_twice, reason_none, held_listed, held_more}
 use Rattle.sig_tables.proofs.times_reader.add_times.Goals as goal
 
 pub returns-in_err-group-clause-refused : goal.returns-in_err-group-clause-refused
@@ -33,4 +34,4 @@ pub returns-clause-fills : goal.returns-clause-fills
 returns-clause-fills c =
     let held : is_some (get_or c.args.held.now c.in_ok-group.group.0 None) ≡ false = search rules in
     let inside : c.in_ok-group.group.0 < length c.args.held.now = omega (arith, c.in_ok-group.ensures.inside, c.requires) in
-    empties_filled c.args.held.now c.in_ok-group.group.0 c.in_ok-group.times inside (is_none_of _ held)
+    empties_filled c.args.held.now c.in_ok-group.group.0 c.in_ok-group.times inside (none_of _ held)

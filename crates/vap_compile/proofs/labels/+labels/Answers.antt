@@ -6,7 +6,7 @@ use Rattle.vap_ast.specs.Sizes.{items_size}
 use Rattle.vap_ast.specs.Tree.{items_of}
 use Rattle.vap_compile.specs.Labels.{place_among}
 use Rattle.vap_compile.specs.Layout.{place_in_items}
-use Rattle.vap_compile.proofs.LabelTable.{option_or_none}
+use Rattle.sig_types.proofs.Options.{option_or-none}
 use Rattle.vap_compile.proofs.labels.+labels.Goals as goal
 
 pub note_items-item_size-requires : goal.note_items-item_size-requires
@@ -20,7 +20,7 @@ pub note_items-returns : goal.note_items-returns
 note_items-returns t c = λ label.
     let none = drop_all c.loop-index.index c.args.items.now c.loop-index-test.false in
     let found = place_among c.loop-index.places.entries label in
-    sym (option_or_none found)
+    sym (option_or-none found)
     ∙ ap (λ l. option_or found (place_in_items label c.loop-index.start c.args.after (items_of l)))
     (sym none)
     ∙ c.loop-index.invariant.labels label
