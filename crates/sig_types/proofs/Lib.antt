@@ -1,3 +1,4 @@
+pub mod Arities
 pub mod Bytes
 pub mod FrameLaws
 pub mod Fronts
@@ -6,4 +7,5 @@ pub mod Lines
 pub mod Options
 pub mod Refusals
 pub mod Runs
+pub mod Tabulated
 pub mod Zeros

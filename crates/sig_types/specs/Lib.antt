@@ -3,6 +3,8 @@ pub mod Counts
 pub mod Detectors
 pub mod FirstRefused
 pub mod Laws
+pub mod Limits
+pub mod LogForm
 pub mod Number
 pub mod Pass
 pub mod Recorded

@@ -1,5 +1,6 @@
 -- Cuts, numbers and names in a text.
-use Rattle.std.specs.Prelude.{ℕ, ◌+◌, ◌-◌, ◌*◌, Bool, true, false, ◌&&◌, ◌||◌, not, nat_eq, nat_le, List, [], ◌∷◌, length, Option, None, Some, if◌then◌else◌}
+use Rattle.std.specs.Prelude.{ℕ, ◌+◌, ◌-◌, ◌*◌, Bool, true, false, ◌&&◌, ◌||◌, not, ◌==◌, nat_eq, nat_le, List, [], ◌∷◌, length, Option, None, Some, if◌then◌else◌}
+use Rattle.std.specs.List.{slice_split}
 use Rattle.std.specs.Option.{option_map}
 
 -- what stands before the first stop, and what stands after it
@@ -66,3 +67,13 @@ same_name [] [] = true
 same_name [] (y ∷ ys) = false
 same_name (x ∷ xs) [] = false
 same_name (x ∷ xs) (y ∷ ys) = nat_eq (lower x) (lower y) && same_name xs ys
+
+-- the bytes between line feeds are lines, and those after the last line feed where there are some
+abbrev pub lines_of_parts : List (List ℕ) → List (List ℕ)
+lines_of_parts [] = []
+lines_of_parts (last ∷ []) = if is_empty last then [] else last ∷ []
+lines_of_parts (line ∷ next ∷ more) = line ∷ lines_of_parts (next ∷ more)
+
+-- the lines of a text: each ends at a line feed, or at the end of the text; a carriage return is a byte like any other
+unfoldable pub fed_lines : List ℕ → List (List ℕ)
+fed_lines text = lines_of_parts (slice_split (λ b. b == 10) text)
