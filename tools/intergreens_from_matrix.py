@@ -1,0 +1,107 @@
+#!/usr/bin/env python3
+"""intergreens_from_matrix.py [--transposed] [MATRIX] > intergreens.csv
+
+Turns a matrix of intergreens into the table of pairs that Vantulig reads. The first line names the entering groups, and the
+first field of each further line a clearing group (with --transposed the other way round); a field has the seconds of the pair,
+or is empty or '-' where there is no conflict. Fields are parted by ',' or by ';'. Without MATRIX standard input is read."""
+import csv
+import re
+import sys
+
+NAME = re.compile(r"[A-Za-z_][A-Za-z0-9_]{0,31}")
+SECONDS = re.compile(r"0|[1-9][0-9]?")
+
+
+class Refused(Exception):
+    """A line that can't be read, and why."""
+
+    def __init__(self, line, cause):
+        super().__init__(f"{line}: {cause}")
+
+
+def rows_of(text):
+    """The lines that aren't blank: number and trimmed fields. The sign that stands in the first one parts the fields."""
+    first = next((line for line in text.splitlines() if line.strip()), "")
+    reader = csv.reader(text.splitlines(), delimiter=";" if ";" in first else ",")
+    rows = [(reader.line_num, [field.strip() for field in row]) for row in reader]
+    return [(line, fields) for line, fields in rows if any(fields)]
+
+
+def add_name(names, name, line):
+    """Notes a group's name, which may stand once, whatever its case."""
+    if not NAME.fullmatch(name):
+        raise Refused(line, f"'{name}' is no name of a group: a letter or _, then letters, digits and _, 32 in all at most")
+    if name.lower() in names:
+        raise Refused(line, f"{name} stands twice")
+    names[name.lower()] = name
+
+
+def matrix_of(text):
+    """The groups in order, and of each pair (clearing row, entering column) its line and its field."""
+    rows = rows_of(text)
+    if not rows:
+        raise Refused(1, "there is no line with the names of the groups")
+    (head, header), body = rows[0], rows[1:]
+    columns, lines, fields = {}, {}, {}
+    for name in header[1:]:
+        add_name(columns, name, head)
+    for line, row in body:
+        add_name(lines, row[0], line)
+        if row[0].lower() not in columns:
+            raise Refused(line, f"{row[0]} has no column")
+        if len(row) != len(header):
+            raise Refused(line, f"{len(row)} fields, where the first line has {len(header)}")
+        for entering, field in zip(columns, row[1:]):
+            fields[row[0].lower(), entering] = (line, field)
+    for name in columns:
+        if name not in lines:
+            raise Refused(head, f"{columns[name]} has no line of its own")
+    return columns, fields
+
+
+def seconds_of(line, pair, field):
+    """The seconds in a field; None where it says that there is no conflict."""
+    if field in ("", "-"):
+        return None
+    if not SECONDS.fullmatch(field):
+        raise Refused(line, f"'{field}' ({pair}) is no whole number from 0 to 99")
+    return int(field)
+
+
+def pairs_of(text, transposed=False):
+    """The pairs in conflict, in the order of the matrix: clearing group, entering group, seconds."""
+    names, fields = matrix_of(text)
+    found = {}
+    for (row, column), (line, field) in fields.items():
+        seconds = seconds_of(line, f"{names[row]} to {names[column]}", field)
+        if seconds is not None and row == column:
+            raise Refused(line, f"{names[row]} has an intergreen with itself")
+        if seconds is not None:
+            found[row, column] = (line, seconds)
+    for (row, column), (line, _) in found.items():
+        if (column, row) not in found:
+            raise Refused(line, f"{names[row]} and {names[column]} conflict one way only")
+    turned = [((column, row) if transposed else (row, column), seconds) for (row, column), (_, seconds) in found.items()]
+    return [(names[clearing], names[entering], seconds) for (clearing, entering), seconds in turned]
+
+
+def main(words):
+    transposed = "--transposed" in words
+    files = [word for word in words if word != "--transposed"]
+    if len(files) > 1 or any(word.startswith("--") for word in files):
+        sys.exit(__doc__)
+    name = files[0] if files else "/dev/stdin"
+    try:
+        with open(name, encoding="utf-8-sig", newline="") as file:
+            pairs = pairs_of(file.read(), transposed)
+    except (OSError, UnicodeDecodeError) as fault:
+        sys.exit(f"{name}: {fault}")
+    except Refused as refused:
+        sys.exit(f"{name}:{refused}")
+    print("from,to,seconds")
+    for clearing, entering, seconds in pairs:
+        print(f"{clearing},{entering},{seconds}")
+
+
+if __name__ == "__main__":
+    main(sys.argv[1:])
