@@ -1,5 +1,6 @@
 #!/usr/bin/env python3
 """Tests of the scripts beside this file: python3 tools/test.py"""
+import re
 import subprocess
 import sys
 import tempfile
@@ -102,6 +103,23 @@ class Events(unittest.TestCase):
     def test_the_script(self):
         self.assertEqual(run("detectors_from_events.py", "1,1,on\n", "--seconds", "3"), (0, "\n1:1:0\n\n", ""))
         self.assertEqual(run("detectors_from_events.py", "x,1,on\n"), (1, "", "FILE:1: 'x' is no time, as 12.4 or 07:00:12.4\n"))
+
+
+class Reasons(unittest.TestCase):
+    """Each reason, rule and fault that the sources can write has its row in docs/reasons.md, A to Z in its part."""
+
+    def words_of(self, source):
+        text = (HERE.parent / "crates" / source).read_text(encoding="utf-8")
+        return set(re.findall(r'b"([A-Z][A-Za-z]+)"', text))
+
+    def test_each_has_its_row(self):
+        page = (HERE.parent / "docs" / "reasons.md").read_text(encoding="utf-8")
+        parts = [re.findall(r"^\| `([A-Za-z]+)", part, re.MULTILINE) for part in page.split("\n## ")]
+        _, notes, rules, faults = parts
+        self.assertEqual(parts, [[], sorted(notes), sorted(rules), sorted(faults)])
+        limits = {"Variables", "Timers", "Arrays", "Cells", "Subroutines", "Labels"}
+        self.assertEqual(self.words_of("junction_run/src/reasons.rt") - set(notes) - limits, set())
+        self.assertEqual(self.words_of("signal_log/src/words.rt") - set(rules) - set(faults), set())
 
 
 if __name__ == "__main__":
