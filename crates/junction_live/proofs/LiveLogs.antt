@@ -13,7 +13,7 @@ use Rattle.vap_ast.specs.Syntax.{Program}
 use Rattle.vap_code.specs.Codes.{CodeOf}
 use Rattle.vap_code.specs.Machine.{machine}
 use Rattle.vap_code.specs.Valid.{Valid}
-use Rattle.vap_vm.specs.Passes.{first_store}
+use Rattle.vap_code.specs.Stores.{first_store}
 use Rattle.controller.specs.declared.controller.Controller.{Controller}
 use Rattle.controller.specs.Controls.{site_of, logic_of}
 use Rattle.controller.specs.Past.{Site, Past, opening}

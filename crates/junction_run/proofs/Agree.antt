@@ -7,7 +7,7 @@ use Rattle.controller.specs.Agree.{KeepsFit}
 use Rattle.controller.specs.Past.{Site, opening}
 use Rattle.controller.specs.Second.{run_from}
 use Rattle.controller.proofs.Runs.{runs_agree}
-use Rattle.code_verify.specs.Ends.{StoreFits, IfDone}
+use Rattle.code_verify.specs.Ends.{IfDone}
 use Rattle.code_verify.proofs.Bound.{runs_well}
 use Rattle.signal_log.specs.Log.{log_text}
 use Rattle.vap_ast.specs.Syntax.{Program}
@@ -19,7 +19,7 @@ use Rattle.vap_code.specs.Machine.{machine}
 use Rattle.vap_code.specs.Valid.{Valid}
 use Rattle.vap_compile.specs.Compiled.{HasNumbersOf, MeansProgram}
 use Rattle.vap_ast.specs.Passes.{FitsProgram}
-use Rattle.vap_vm.specs.Passes.{first_store}
+use Rattle.vap_code.specs.Stores.{StoreFits, first_store}
 use Rattle.code_file.specs.Reading.{code_of}
 use Rattle.code_file.specs.Text.{code_text}
 use Rattle.junction_run.specs.Codes.{IsCompiled}

@@ -18,7 +18,7 @@ use Rattle.junction_run.specs.Reasons.{plan_reason, table_reason}
 use Rattle.vap_ast.specs.Syntax.{Program}
 use Rattle.vap_code.specs.Codes.{CodeOf}
 use Rattle.vap_code.specs.Machine.{machine}
-use Rattle.vap_vm.specs.Passes as machines
+use Rattle.vap_code.specs.Stores as machines
 
 -- the first file that is not as it must be, by its word: too long, or refused at a line for a reason
 pub data Unloaded : Type 0 where

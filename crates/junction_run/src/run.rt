@@ -6,7 +6,7 @@ ghost use Rattle.sig_types.specs.Rules.{IsTwoWay};
 ghost use Rattle.pua_model.specs.Plan.{groups_in};
 ghost use Rattle.vap_code.specs.Machine.{machine};
 ghost use Rattle.vap_code.specs.Valid.{Valid};
-ghost use Rattle.vap_vm.specs.Passes.{first_store};
+ghost use Rattle.vap_code.specs.Stores.{first_store};
 ghost use Rattle.controller.specs.Past.{opening};
 ghost use Rattle.controller.specs.Controls.{StandsFor, site_of, logic_of};
 ghost use Rattle.det_stream.specs.Stream.{stream_of};

@@ -22,8 +22,7 @@ use Rattle.code_verify.specs.Ends.{ValidCodeEnds}
 use Rattle.vap_compile.specs.Layout.{routine_starts}
 use Rattle.vap_check.specs.Passes.{first_store_of, source_in}
 use Rattle.vap_compile.specs.Compiled.{IsLaidOut, HasNumbersOf, MeansProgram}
-use Rattle.vap_vm.specs.Passes.{first_store}
-use Rattle.vap_vm.specs.View.{stopped}
+use Rattle.vap_code.specs.Stores.{first_store, stopped}
 use Rattle.vap_compile.proofs.Means.{means_the}
 use Rattle.vap_compile.proofs.Validity.{BodyFits, valid_code, good_at, all_is}
 use Rattle.vap_compile.proofs.Routines.{starts_length, starts_rise, starts_inside}

@@ -19,7 +19,7 @@ use Rattle.vap_ast.specs.Sound.{Sound_items}
 use Rattle.vap_compile.specs.Layout.{routine_code, routines_code, routine_starts, label_place}
 use Rattle.vap_ast.specs.Passes.{ending, program_logic}
 use Rattle.vap_compile.specs.Compiled.{IsCodeOf}
-use Rattle.code_verify.specs.Ends.{StoreFits}
+use Rattle.vap_code.specs.Stores.{StoreFits}
 use Rattle.vap_compile.proofs.Runs.{HasAt, has_front, has_back, has_all, state, Comes_to_end, Free, comes_end, one_end}
 use Rattle.vap_compile.proofs.Follows.{Laid, Follows, simulates}
 use Rattle.vap_compile.proofs.Laid.{routine_at}

@@ -10,7 +10,7 @@ ghost use Rattle.vap_check.specs.Passes.{first_store_of};
 ghost use Rattle.vap_code.specs.Codes.{code_in};
 ghost use Rattle.vap_compile.specs.Layout.{Appends, bodies_in, routine_code, routines_code, routine_starts};
 ghost use Rattle.vap_compile.specs.Compiled.{IsLaidOut, MeansProgram, HasNumbersOf};
-ghost use Rattle.vap_vm.specs.Passes.{first_store};
+ghost use Rattle.vap_code.specs.Stores.{first_store};
 
 use crate::statements::emit_routine;
 use code_verify::{Verified, VerifyRefusal, valid_code_ends, verify};

@@ -5,7 +5,8 @@ ghost use Rattle.std.specs.List.{All};
 ghost use Rattle.sig_types.specs.Pass.{World as WorldOf};
 ghost use Rattle.sig_types.specs.Pass.{counted, unit_limit as unit_limit_of, without_commands};
 ghost use Rattle.vap_code.specs.Machine.{machine as machine_of, machine_steps, last_start as last_start_of};
-ghost use Rattle.vap_vm.specs.Passes.{PassIs, Ready, first_store};
+ghost use Rattle.vap_code.specs.Stores.{first_store};
+ghost use Rattle.vap_vm.specs.Passes.{PassIs, Ready};
 
 use crate::machine::{Machine, Next};
 use crate::run::run;

@@ -4,7 +4,8 @@ ghost use Rattle.std.specs.Prelude.{◌≡◌, ◌<◌, ◌≤◌, length, map, 
 ghost use Rattle.std.specs.List.{All};
 ghost use Rattle.sig_types.specs.Pass.{counted};
 ghost use Rattle.vap_code.specs.Codes.{code_in};
-ghost use Rattle.vap_vm.specs.View.{SameSizes, stopped};
+ghost use Rattle.vap_code.specs.Stores.{stopped};
+ghost use Rattle.vap_vm.specs.View.{SameSizes};
 
 use crate::arrays::Arrays;
 use sig_types::Clock;

@@ -1,7 +1,7 @@
 use Rattle.std.proofs.Common.{◌≡◌, ◌∙◌, List, ap, sym}
 use Rattle.sig_types.specs.Counts.{Counts}
 use Rattle.sig_types.specs.Pass.{Store}
-use Rattle.vap_vm.specs.Passes.{first_store}
+use Rattle.vap_code.specs.Stores.{first_store}
 use Rattle.junction_run.specs.Loading.{program_at}
 use Rattle.junction_run.specs.Played.{playing_of}
 use Rattle.junction_run.specs.Records.{log_of}

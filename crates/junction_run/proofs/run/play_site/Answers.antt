@@ -1,7 +1,7 @@
 use Rattle.std.proofs.Common.{subst, refl}
 use Rattle.sig_types.specs.Pass.{Store}
 use Rattle.det_stream.specs.Stream.{stream_of}
-use Rattle.vap_vm.specs.Passes.{first_store}
+use Rattle.vap_code.specs.Stores.{first_store}
 use Rattle.junction_run.specs.Played.{playing_of, IsPlayedAt}
 use Rattle.junction_run.specs.Sites as sites
 use Rattle.junction_run.specs.Stop.{IsPlayed, IsWritten}

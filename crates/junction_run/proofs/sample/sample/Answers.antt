@@ -3,7 +3,7 @@ use Rattle.std.specs.Io.KnownBytes.{append_known}
 use Rattle.pua_model.specs.Plan.{groups_in}
 use Rattle.controller.specs.Controls.{plan_of}
 use Rattle.signal_log.specs.Summary.{StandsFor as SummaryStands}
-use Rattle.vap_vm.specs.Passes.{first_store}
+use Rattle.vap_code.specs.Stores.{first_store}
 use Rattle.junction_run.specs.Answer.{loaded_answer}
 use Rattle.junction_run.specs.Drawn.{drawn}
 use Rattle.junction_run.specs.Form.{Sample}

@@ -1,7 +1,7 @@
 use Rattle.std.proofs.Common.{ap, ◌∙◌, subst}
 use Rattle.vap_code.specs.Codes.{code_in}
 use Rattle.vap_code.specs.Machine.{machine}
-use Rattle.vap_vm.specs.Passes.{first_store}
+use Rattle.vap_code.specs.Stores.{first_store}
 use Rattle.code_verify.specs.First.{RefusedBy}
 use Rattle.vap_compile.proofs.Correct.{compiled_valid, compiled_means, begins_alike}
 use Rattle.vap_compile.proofs.program.compile.Goals as goal

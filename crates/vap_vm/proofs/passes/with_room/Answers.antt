@@ -1,7 +1,8 @@
 use Rattle.std.proofs.Common.{length, map, replicate, refl, sym, ap, ◌∙◌, subst}
 use Rattle.std.specs.Prelude.{pos}
 use Rattle.vap_code.specs.Valid.{Valid}
-use Rattle.vap_vm.specs.View.{store_of, stopped}
+use Rattle.vap_code.specs.Stores.{stopped}
+use Rattle.vap_vm.specs.View.{store_of}
 use Rattle.vap_vm.proofs.PassFacts.{cells_short, first_ready, store_is}
 use Rattle.vap_vm.proofs.passes.with_room.Goals as goal
 

@@ -1,5 +1,5 @@
 use Rattle.std.proofs.Common.{◌≡◌, replicate}
-use Rattle.vap_vm.specs.View.{stopped}
+use Rattle.vap_code.specs.Stores.{stopped}
 use Rattle.vap_vm.proofs.slots.stopped_timers.Given as goal
 
 abbrev pub invariant-loop-t : goal.invariant-loop-t
