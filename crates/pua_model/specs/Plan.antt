@@ -1,6 +1,6 @@
 -- What a plan holds.
 use Rattle.std.specs.Prelude.{◌≡◌, ℕ, ◌-◌, ◌<◌, ◌≤◌, ◌==◌, Bool, true, false, not, ◌&&◌, ◌||◌, List, [], ◌∷◌, length, slice_index_or, Option, Some, None, if◌then◌else◌, ℤ, pos, negsuc, nat_le, nat_lt, int_le}
-use Rattle.std.specs.List.{position}
+use Rattle.std.specs.List.{list_any, position}
 use Rattle.sig_types.specs.declared.numbers.GroupNo.{GroupNo}
 use Rattle.sig_types.specs.declared.numbers.StageNo.{StageNo}
 use Rattle.sig_types.specs.declared.numbers.InterNo.{InterNo}
@@ -92,6 +92,10 @@ abbrev pub group_number : Option GroupNo → Option ℕ
 group_number None = None
 group_number (Some g) = Some g.0
 
+-- the name of a group among these names
+abbrev pub name_of : List (List ℕ) → GroupNo → List ℕ
+name_of names g = slice_index_or names g.0 []
+
 -- a stage's number as a plain number
 abbrev pub stage_number : Option StageNo → Option ℕ
 stage_number None = None
@@ -133,8 +137,7 @@ is_row (Some row) = is_end row.0 && is_end row.1
 
 -- one of the interstages leads from stage a to stage b
 abbrev pub has_pair : ℕ → ℕ → List InterstageOf → Bool
-has_pair a b [] = false
-has_pair a b (w ∷ ws) = joins a b w || has_pair a b ws
+has_pair a b ws = list_any (joins a b) ws
 
 -- no two interstages are of one pair of stages
 abbrev pub are_pairs_apart : List InterstageOf → Bool

@@ -3,11 +3,11 @@ use Rattle.std.proofs.Common.{◌≡◌, ◌∙◌, ℕ, zero, suc, ◌+◌, ◌
 use Rattle.std.specs.Option.{option_or}
 use Rattle.std.proofs.lemmas.List.{take-append-le, get_or_append_left}
 use Rattle.std.proofs.Math.Seq.{take-append_seam, get_or-append_seam}
-use Rattle.sig_types.specs.FirstRefused.{refused_to, first_refused}
+use Rattle.sig_types.specs.FirstRefused.{refused_to, first_refused, with_line}
 use Rattle.sig_types.proofs.Refusals.{refused_here}
 use Rattle.sig_tables.specs.declared.refusal.TableWhy.{TableWhy}
 use Rattle.sig_tables.specs.Records.{Row}
-use Rattle.sig_tables.specs.Refusals.{at, numbered}
+use Rattle.sig_tables.specs.Refusals.{numbered}
 
 -- a refusal, or else none, is the refusal
 pub or_none : {A : Type 0} (r : Option A) → option_or r None ≡ r
@@ -29,4 +29,4 @@ unfolding numbered
 refused_row judge rows more row why none is =
     let inside : length rows < length (rows ++ row ∷ more) = omega (arith, length-append rows (row ∷ more)) in
     refused_here (numbered judge) (rows ++ row ∷ more) [] (length rows + 2, why) (length rows) (same_before (numbered judge) rows (row ∷ more) [] (length rows) (omega arith) ∙ none) inside
-    (rw (take-append_seam rows (row ∷ more), get_or-append_seam rows row more []) (ap (at (length rows + 2)) is))
+    (rw (take-append_seam rows (row ∷ more), get_or-append_seam rows row more []) (ap (with_line (length rows + 2)) is))

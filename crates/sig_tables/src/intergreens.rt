@@ -51,9 +51,9 @@ impl Intergreens {
         self.groups
     }
 
-    #[tactic(auto, unfolding(crate::specs::Pairs::cell_of))]
     /// The intergreen from an end of the one group to a green of the other, 0 to 99 seconds; None exactly where the table
     /// doesn't list the pair, so that the two don't conflict.
+    #[tactic(auto, unfolding(crate::specs::Pairs::cell_of))]
     pub fn between(&self, from: GroupNo, to: GroupNo) -> Option<u8>
         requires from { from.0 < self.now.count }
         requires to { to.0 < self.now.count }
