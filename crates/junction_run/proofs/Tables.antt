@@ -30,12 +30,12 @@ use Rattle.std.proofs.Common.{
 use Rattle.std.specs.Prelude.{is_none, is_some, ◌==◌, unwrap_or, if◌then◌else◌}
 use Rattle.std.proofs.lemmas.Bool.{cases_lt, true≢false, and_left, and_right}
 use Rattle.std.proofs.lemmas.Bool.Decides.{eqb_tells}
-use Rattle.sig_types.specs.FirstRefused.{or_next, refused_to, first_refused}
+use Rattle.sig_types.specs.FirstRefused.{or_next, refused_to, first_refused, when, with_line}
 use Rattle.pua_model.specs.Plan.{PlanOf}
 use Rattle.sig_tables.specs.declared.refusal.TableWhy.{TableWhy}
 use Rattle.sig_tables.specs.declared.refusal.TableWhy.TheVariants as why
 use Rattle.sig_tables.specs.Records.{Row, table_rows}
-use Rattle.sig_tables.specs.Refusals.{numbered, when}
+use Rattle.sig_tables.specs.Refusals.{numbered}
 use Rattle.sig_tables.specs.IntergreenTable.{
   listed_seconds,
   pair_in,
@@ -96,7 +96,7 @@ none_numbered : (judge : List Row → Row → Option TableWhy) (before : List Ro
 unfolding numbered
 none_numbered judge before row is = unnumbered (judge before row) is
   where
-    unnumbered : (o : Option TableWhy) → Rattle.sig_tables.specs.Refusals.at (length before + 2) o ≡ None → o ≡ None
+    unnumbered : (o : Option TableWhy) → with_line (length before + 2) o ≡ None → o ≡ None
     unnumbered None is = refl
     unnumbered (Some w) is = cc
 
