@@ -8,7 +8,7 @@ use Rattle.sig_types.specs.Text.{is_letter, is_digit, is_word, is_name}
 use Rattle.sig_types.specs.declared.aspect.Aspect.{Aspect}
 use Rattle.sig_types.specs.declared.aspect.Aspect.TheVariants.{Red, RedAmber, Green, Amber}
 use Rattle.sig_types.specs.declared.aspect.Rule.{Rule}
-use Rattle.sig_types.specs.declared.aspect.Rule.TheVariants.{Sequence, MinGreen, Conflict, Intergreen, Running, WrongStage, NoInterstage}
+use Rattle.sig_types.specs.declared.aspect.Rule.TheVariants.{Sequence, MinGreen, MinRed, Conflict, Intergreen, Running, WrongStage, NoInterstage}
 use Rattle.sig_types.specs.declared.kinds.FaultKind.{FaultKind}
 use Rattle.sig_types.specs.declared.kinds.FaultKind.TheVariants.{Budget, Overflow, ZeroDivisor, Index, Number}
 use Rattle.sig_types.specs.declared.refused.TurnRefusal.{TurnRefusal}
@@ -17,7 +17,8 @@ use Rattle.sig_types.specs.declared.numbers.GroupNo.{GroupNo}
 use Rattle.sig_types.specs.declared.refused.Fault.{Fault}
 use Rattle.sig_types.specs.declared.numbers.StagePlace.{StagePlace}
 use Rattle.sig_types.specs.declared.numbers.StagePlace.TheVariants.{NoPlan, Stage, Inter}
-use Rattle.signal_log.specs.Log.{letter, rule_name, fault_name, place_text, name_of, stage_refusal_text, other_text, other_of, turn_text, fault_text, gap, listed, parted, count_text}
+use Rattle.sig_types.specs.LogForm.{letter}
+use Rattle.signal_log.specs.Log.{rule_name, fault_name, place_text, name_of, stage_refusal_text, other_text, other_of, turn_text, fault_text, gap, listed, parted, count_text}
 use Rattle.signal_log.proofs.Without.{Without, NoDigit, without-append, decimal_without, without_by_test, false_not_true}
 use Rattle.signal_log.proofs.CountTexts.{count_text_without}
 
@@ -30,6 +31,7 @@ feed_no_digit d lt e = absurd (omega (arith))
 rule_without : (r : Rule) → Without 124 (rule_name r)
 rule_without Sequence = without_by_test 124 (codes "Sequence") refl
 rule_without MinGreen = without_by_test 124 (codes "MinGreen") refl
+rule_without MinRed = without_by_test 124 (codes "MinRed") refl
 rule_without Conflict = without_by_test 124 (codes "Conflict") refl
 rule_without Intergreen = without_by_test 124 (codes "Intergreen") refl
 rule_without Running = without_by_test 124 (codes "Running") refl

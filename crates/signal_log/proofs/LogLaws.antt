@@ -4,7 +4,8 @@ use Rattle.std.specs.Fmt.{decimal}
 use Rattle.pua_model.specs.Plan.{are_names}
 use Rattle.sig_types.specs.declared.record.Record.{Record}
 use Rattle.signal_log.specs.Laws.{ArePrintable, frames_of, LogCounts, LogSpells}
-use Rattle.signal_log.specs.Log.{letter, place_text, stage_refusal_text, turn_text, refused_texts, fault_text, record_text, records_text, header_text, log_text, parted, counted_from, count_text}
+use Rattle.sig_types.specs.LogForm.{letter}
+use Rattle.signal_log.specs.Log.{place_text, stage_refusal_text, turn_text, refused_texts, fault_text, record_text, records_text, header_text, log_text, parted, counted_from, count_text}
 use Rattle.signal_log.proofs.Without.{Without, tail_of, cut_once, decimal_without}
 use Rattle.signal_log.proofs.CountTexts.{counts_injective}
 use Rattle.signal_log.proofs.FieldTexts.{bar_no_digit, letters_without, place_without, no_bars-append, parted_without, counts_no_bars, stages_no_bars, turns_no_bars, fault_without}

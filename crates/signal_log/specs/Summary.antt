@@ -5,7 +5,7 @@ use Rattle.std.specs.List.{flat_map}
 use Rattle.sig_types.specs.declared.aspect.Aspect.{Aspect}
 use Rattle.sig_types.specs.declared.aspect.Aspect.TheVariants.{Red}
 use Rattle.sig_types.specs.declared.aspect.Rule.{Rule}
-use Rattle.sig_types.specs.declared.aspect.Rule.TheVariants.{Sequence, MinGreen, Conflict, Intergreen, Running, WrongStage, NoInterstage}
+use Rattle.sig_types.specs.declared.aspect.Rule.TheVariants.{Sequence, MinGreen, MinRed, Conflict, Intergreen, Running, WrongStage, NoInterstage}
 use Rattle.sig_types.specs.declared.kinds.FaultKind.{FaultKind}
 use Rattle.sig_types.specs.declared.kinds.FaultKind.TheVariants.{Budget, Overflow, ZeroDivisor, Index, Number}
 use Rattle.sig_types.specs.declared.refused.Fault.{Fault}
@@ -63,7 +63,7 @@ faulted kind rs = count_by (λ r. is_fault kind r.fault) rs
 
 -- the rules, in the order in which the text names them
 abbrev pub rules : List Rule
-rules = Sequence ∷ MinGreen ∷ Conflict ∷ Intergreen ∷ Running ∷ WrongStage ∷ NoInterstage ∷ []
+rules = Sequence ∷ MinGreen ∷ MinRed ∷ Conflict ∷ Intergreen ∷ Running ∷ WrongStage ∷ NoInterstage ∷ []
 
 -- the kinds of faults, in that order
 abbrev pub kinds : List FaultKind

@@ -3,7 +3,8 @@
 // Each piece is written at a place, behind what stands there, and the answer is where it ends.
 ghost use Rattle.std.specs.Prelude.{◌≡◌, ◌+◌, ◌<◌, ◌≤◌, ◌++◌, ◌∷◌, [], codes, length, map, take};
 ghost use Rattle.std.specs.Fmt.{decimal};
-ghost use Rattle.signal_log.specs.Log.{letter, place_text, head_text};
+ghost use Rattle.signal_log.specs.Log.{place_text, head_text};
+ghost use Rattle.sig_types.specs.LogForm.{letter};
 
 use crate::words::letter;
 use itoa::Buffer;

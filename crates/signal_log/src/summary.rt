@@ -16,9 +16,10 @@ use sig_types::{
     Aspect, Fault, FaultKind, GroupNo, Picture, Record, Rule, StageRefusals, TurnRefusals,
 };
 
-const RULES: [Rule; 7] = [
+const RULES: [Rule; 8] = [
     Rule::Sequence,
     Rule::MinGreen,
+    Rule::MinRed,
     Rule::Conflict,
     Rule::Intergreen,
     Rule::Running,
@@ -40,7 +41,7 @@ const KINDS: [FaultKind; 5] = [
 pub struct Summary {
     last: Picture,
     greens: [u32; 64],
-    refused: [u64; 7],
+    refused: [u64; 8],
     faults: [u32; 5],
 }
 
@@ -59,7 +60,7 @@ fn add_greens(greens: &mut [u32; 64], last: &Picture, picture: &Picture)
 }
 
 // Adds one to a rule.
-fn add_refusal(refused: &mut [u64; 7], rule: Rule)
+fn add_refusal(refused: &mut [u64; 8], rule: Rule)
     requires { slice_index refused.old (rule_number rule - 1) < 2 ^ 63 }
     ensures { (other : Rule) → slice_index refused.new (rule_number other - 1)
         ≡ slice_index refused.old (rule_number other - 1) + cond (is_rule other rule) 1 0 }
@@ -68,7 +69,7 @@ fn add_refusal(refused: &mut [u64; 7], rule: Rule)
 }
 
 // Adds the refused stage commands of a second.
-fn add_stages(refused: &mut [u64; 7], stages: &StageRefusals)
+fn add_stages(refused: &mut [u64; 8], stages: &StageRefusals)
     requires { (rule : Rule) → slice_index refused.old (rule_number rule - 1) < 2 ^ 61 }
     ensures more { (rule : Rule) → slice_index refused.new (rule_number rule - 1)
         ≡ slice_index refused.old (rule_number rule - 1) + count_by (λ s. is_rule rule s.rule) stages.now }
@@ -80,7 +81,7 @@ fn add_stages(refused: &mut [u64; 7], stages: &StageRefusals)
 }
 
 // Adds the refused turns of a second.
-fn add_turns(refused: &mut [u64; 7], turns: &TurnRefusals)
+fn add_turns(refused: &mut [u64; 8], turns: &TurnRefusals)
     requires { (rule : Rule) → slice_index refused.old (rule_number rule - 1) < 2 ^ 62 }
     ensures more { (rule : Rule) → slice_index refused.new (rule_number rule - 1)
         ≡ slice_index refused.old (rule_number rule - 1) + count_by (λ t. is_rule rule t.rule) turns.now }
@@ -115,7 +116,7 @@ impl Summary {
         Summary {
             last: Picture::all_red(groups),
             greens: [0; 64],
-            refused: [0; 7],
+            refused: [0; 8],
             faults: [0; 5],
         }
     }
@@ -193,7 +194,7 @@ fn put_rules<O: Sink>(draft: &mut Draft, sink: &mut O, summary: &Summary)
     requires { draft.old.gone < 2 ^ 59 }
     ensures text { (start : Option (List ℕ)) (text : List ℕ) → IsDraft start (O.taken sink.old) draft.old text →
         IsDraft start (O.taken sink.new) draft.new (text ++ rules_text (kept_refusals summary.now)) }
-    ensures gone { draft.new.gone ≤ draft.old.gone + 4096 * 28 }
+    ensures gone { draft.new.gone ≤ draft.old.gone + 4096 * 32 }
     ensures cause { FailsOnly (O.faults sink.old) (O.faults sink.new) draft.old.failed draft.new.failed }
 {
     for rule in RULES {

@@ -2,7 +2,7 @@ use Rattle.std.proofs.Common.{ℕ, List, ◌+◌, ◌*◌, ◌≤◌, ◌++◌, 
 use Rattle.std.specs.Prelude.{Option}
 use Rattle.std.specs.List.{flat_map}
 use Rattle.sig_io.specs.Draft.{IsDraft, FailsOnly}
-use Rattle.signal_log.specs.Log.{spaced}
+use Rattle.sig_types.specs.LogForm.{spaced}
 use Rattle.signal_log.proofs.log.put_header.Given as goal
 
 abbrev pub invariant-loop-g : goal.invariant-loop-g

@@ -1,7 +1,8 @@
 use Rattle.std.proofs.Common.{ℕ, List, ◌++◌, map, codes, subst}
 use Rattle.std.specs.Fmt.{decimal}
 use Rattle.sig_io.specs.Draft.{IsDraft}
-use Rattle.signal_log.specs.Log.{place_text, letter, parted, count_text, counted_from, refused_texts, fault_text, record_text}
+use Rattle.sig_types.specs.LogForm.{letter}
+use Rattle.signal_log.specs.Log.{place_text, parted, count_text, counted_from, refused_texts, fault_text, record_text}
 use Rattle.signal_log.proofs.Fronts.{loud_front, quiet_record}
 use Rattle.signal_log.proofs.Pieces.{twelve}
 use Rattle.signal_log.proofs.log.put_second.Goals as goal

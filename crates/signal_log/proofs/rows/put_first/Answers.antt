@@ -1,6 +1,6 @@
 use Rattle.std.proofs.Common.{◌≡◌, ◌∙◌, ◌+◌, ◌++◌, length, take, ap, sym, arith, length-take-le}
 use Rattle.std.proofs.lemmas.List.{length-map}
-use Rattle.signal_log.specs.Log.{letter}
+use Rattle.sig_types.specs.LogForm.{letter}
 use Rattle.signal_log.proofs.Pieces.{first_of_block}
 use Rattle.signal_log.proofs.rows.put_first.Goals as goal
 

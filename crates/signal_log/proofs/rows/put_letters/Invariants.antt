@@ -1,5 +1,5 @@
 use Rattle.std.proofs.Common.{◌≡◌, ◌+◌, ◌++◌, map, take, length}
-use Rattle.signal_log.specs.Log.{letter}
+use Rattle.sig_types.specs.LogForm.{letter}
 use Rattle.signal_log.proofs.rows.put_letters.Given as goal
 
 abbrev pub invariant-loop-place : goal.invariant-loop-place

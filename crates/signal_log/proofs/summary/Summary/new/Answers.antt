@@ -11,7 +11,7 @@ returns c = record {
   groups_are = ap length c.all_red.ensures ∙ length-replicate c.args.groups _;
   last_is = c.all_red.ensures;
   greens_are = λ g lt. zero_at 64 g;
-  refused_are = λ rule. zero_at 7 (rule_number rule - 1);
+  refused_are = λ rule. zero_at 8 (rule_number rule - 1);
   faults_are = λ kind. zero_at 5 (fault_number kind - 1);
   refused_fit = λ rule. omega arith;
 }
