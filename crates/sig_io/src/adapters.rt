@@ -9,6 +9,23 @@ use std::{fs, io, rt};
 // The system takes no name of more bytes.
 const LONGEST_NAME: usize = 4096;
 
+// The most times that a read or a write is asked for, where signals interrupt it.
+const TURNS: u32 = 1000;
+
+// Reads, and asks again where a signal interrupts the read.
+fn read_again<F: Read>(file: &mut F, buf: &mut [u8]) -> io::Result<usize>
+    ensures { IfOk result (λ n. n ≤ length buf.new) }
+{
+    for _ in 0..TURNS {
+        match file.read(buf) {
+            Ok(n) => return Ok(n),
+            Err(error) if error.kind() == ErrorKind::Interrupted => {}
+            Err(error) => return Err(error),
+        }
+    }
+    Err(io::Error::from(ErrorKind::Interrupted))
+}
+
 // An open file with its name, and the place at which it stands.
 #[derive(Drop)]
 struct OpenFile<F> {
@@ -32,7 +49,7 @@ impl<F: Read + Seek> OpenFile<F> {
         if place != self.place {
             self.file.seek(SeekFrom::Start(place))?;
         }
-        let n = self.file.read(buf)?;
+        let n = read_again(&mut self.file, buf)?;
         self.place = place.saturating_add(n as u64);
         Ok(n)
     }
@@ -130,15 +147,19 @@ impl<R: rt::Files> Files for DiskFiles<'_, R> {
     }
 }
 
-// Gives the system a piece. A write that takes nothing has failed.
+// Gives the system a piece, and asks again where a signal interrupts the write. A write that takes nothing has failed.
 fn write_piece<R: Print>(to: &R, piece: &[u8]) -> Result<usize, Failed>
     ensures at_least { IfOk result (λ n. 1 ≤ n) }
     ensures count { IfOk result (λ n. n ≤ length piece.now) }
 {
-    match to.write_some(piece) {
-        Ok(n) if n > 0 => Ok(n),
-        _ => Err(Failed),
+    for _ in 0..TURNS {
+        match to.write_some(piece) {
+            Ok(n) if n > 0 => return Ok(n),
+            Err(error) if error.kind() == ErrorKind::Interrupted => {}
+            _ => return Err(Failed),
+        }
     }
+    Err(Failed)
 }
 
 /// A handle of the system that takes bytes. It tells nothing of the bytes that it took.

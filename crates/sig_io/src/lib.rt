@@ -4,15 +4,19 @@
 mod adapters;
 mod draft;
 mod gate;
+mod grow;
 mod memory;
 mod outside;
+mod pieces;
 mod sure;
 mod whole;
 
 pub use adapters::{DiskFiles, ErrSink, OutSink, PrintSink};
 pub use draft::{Draft, Piece};
 pub use gate::{FreeGate, Gate};
+pub use grow::GrowSink;
 pub use memory::{MemFiles, MemSink};
 pub use outside::{Failed, Files, Sink};
+pub use pieces::put_each;
 pub use sure::{SureFiles, SureSink};
 pub use whole::{PutFault, ReadRefusal, put_all, read_whole};
