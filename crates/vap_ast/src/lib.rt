@@ -8,7 +8,7 @@ mod tree;
 
 pub use laws::{first_store_fits, one_meaning};
 pub use name::{Entry, Meaning, Name};
-pub use sizes::{add_capped, expr_size, exprs_size, item_size, items_size, own_size, stmt_size};
+pub use sizes::{add_capped, expr_size, item_size, items_size, own_size};
 pub use tree::{
     ArrayDecl, BinaryOp, ConstDecl, Expr, Item, Items, Program, Routine, Stmt, UnaryOp,
 };

@@ -1,17 +1,20 @@
 -- The finding that is kept is the first of all, and a program has one answer.
 use Rattle.std.proofs.Common.{◌≡◌, ℕ, true, false, ◌||◌, ◌&&◌, ◌==◌, List, [], ◌∷◌, None, Some, Contains, inl, inr, refl, sym, ap, ◌∙◌, subst, if◌then◌else◌, arith}
-use Rattle.std.specs.Prelude.{nat_lt, ◌⊎◌}
+use Rattle.std.specs.Prelude.{nat_lt, ◌⊎◌, Option}
+use Rattle.sig_types.specs.Limits.{most_instrs}
 use Rattle.std.specs.List.{AllByRecursion}
+use Rattle.std.proofs.lemmas.Bool.{cases_lt}
 use Rattle.std.proofs.lemmas.Bool.Decides.{nat_tests}
 use Rattle.std.proofs.lemmas.List.Elements.{All-from_recursion, All-contains, Contains-get_or, Contains-append_right}
 use Rattle.vap_ast.specs.Syntax.{Program}
 use Rattle.vap_check.specs.declared.refusal.CheckWhy.{CheckWhy}
 use Rattle.vap_check.specs.declared.refusal.CheckWhy.TheVariants.{ConstTwice, NameKind, LabelTwice, NoLabel, SubTwice, NoSub, ArraySize, AssignConst, Arity, Limit, StatementTooLong, ProgramTooLong}
+use Rattle.vap_check.specs.declared.refusal.Which.{Which}
 use Rattle.vap_check.specs.declared.refusal.Which.TheVariants.{Variables, Timers, Arrays, Cells, Subroutines, Labels}
 use Rattle.vap_check.specs.declared.finding.Finding.{Finding}
 use Rattle.vap_check.specs.FirstFinding.{order, is_sooner, first_of_all, IsFirst}
 use Rattle.vap_check.specs.Findings.{findings}
-use Rattle.vap_check.specs.Accepted.{Accepted, Refuses, wrong, many, long}
+use Rattle.vap_check.specs.Accepted.{Accepted, Refuses, passed, program_size, wrong, many, long}
 
 -- what isn't sooner than something that isn't sooner than a third, isn't sooner than the third
 passes : (al ao bl bo cl co : ℕ) → (nat_lt al bl || (al == bl && nat_lt ao bo)) ≡ false → (nat_lt bl cl || (bl == cl && nat_lt bo co)) ≡ false → (nat_lt al cl || (al == cl && nat_lt ao co)) ≡ false
@@ -163,3 +166,25 @@ pub none_both : (p : Program) (l : ℕ) (v : CheckWhy) → Accepted p → Refuse
 none_both p l v a (wrong _ _ b) = nothing (findings p) _ a.clean b
 none_both p l v a (many which e f) = let g = a.few in cc
 none_both p l v a (long e f g) = omega (arith, a.short)
+
+-- ---- some answer
+
+abbrev Answer : Program → Type 0
+Answer p = Accepted p ⊎ ((l : ℕ) × (w : CheckWhy) × Refuses p l w)
+
+-- nothing is wrong, and this is what there is too many of
+few_answer : (p : Program) (which : Option Which) → findings p ≡ [] → passed p ≡ which → Answer p
+few_answer p (Some which) clean e = inr (0, Limit which, many which clean e)
+few_answer p None clean e =
+    elim (cases_lt most_instrs (program_size p)) [
+      | inl lt ↦ inr (0, ProgramTooLong, long clean e lt)
+      | inr le ↦ inl (record { clean = clean; few = e; short = le })
+    ]
+
+-- this is the first of all that is wrong
+first_answer : (p : Program) (first : Option Finding) → first_of_all None (findings p) ≡ first → Answer p
+first_answer p (Some f) e = inr (f.line, f.why, wrong f.line f.why (first_is (findings p) f e))
+first_answer p None e = few_answer p (passed p) (none_is (findings p) e) refl
+
+pub has_answer : (p : Program) → Answer p
+has_answer p = first_answer p (first_of_all None (findings p)) refl

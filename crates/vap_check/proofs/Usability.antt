@@ -1,6 +1,6 @@
 -- The names of an accepted program can be used as they are.
 use Rattle.std.proofs.Common.{◌≡◌, ℕ, zero, suc, ◌+◌, ◌<◌, ◌≤◌, Bool, true, false, not, ◌||◌, ◌==◌, cond, List, [], ◌∷◌, ◌++◌, map, length, Option, None, Some, refl, sym, ap, ◌∙◌, subst, true≢false, if◌then◌else◌, arith, append_assoc, append-nil, length-append}
-use Rattle.std.specs.Prelude.{position, nat_lt, filter, flat_map, ℤ, pos, negsuc, ◌&&◌, slice_index_or as get_or}
+use Rattle.std.specs.Prelude.{position, nat_lt, nat_le, filter, flat_map, ℤ, pos, negsuc, ◌&&◌, slice_index_or as get_or}
 use Rattle.std.specs.List.{AllByRecursion}
 use Rattle.std.specs.Option.{option_map, option_or}
 use Rattle.std.specs.Str.{bytes_eq}
@@ -10,6 +10,7 @@ use Rattle.std.proofs.lemmas.List.{length-map}
 use Rattle.std.proofs.lemmas.Bool.Decides.{nat_tests}
 use Rattle.std.proofs.lemmas.List.Folds.{list_any-append}
 use Rattle.sig_types.specs.Arity.{reading_arity, command_arity}
+use Rattle.sig_types.specs.Limits.{most_array_cells}
 use Rattle.vap_ast.specs.declared.name.Entry.{Entry}
 use Rattle.vap_ast.specs.declared.name.Meaning.{Meaning}
 use Rattle.vap_ast.specs.declared.name.Meaning.TheVariants.{Constant as Const_is, Array as Array_is, Sub as Sub_is, Timer as Timer_is, Variable as Variable_is}
@@ -360,19 +361,19 @@ free_of (r ∷ rs) kind taken before e n a =
       | false ↦ λ t h. free_of rs kind taken (with_name before r.name) others n h
     ]) refl a
 
--- an array that is no odd one has 1 to 1,024 cells
-sized_low : (n m : ℕ) → not (nat_lt 0 n && nat_lt n 1025 && n == m) ≡ false → 1 ≤ m
+-- an array that is no odd one has a cell, and no more than the most
+sized_low : (n m : ℕ) → not (nat_lt 0 n && nat_le n most_array_cells && n == m) ≡ false → 1 ≤ m
 sized_low n m e = grind (arith, nat_tests)
 
-sized_high : (n m : ℕ) → not (nat_lt 0 n && nat_lt n 1025 && n == m) ≡ false → m ≤ 1024
+sized_high : (n m : ℕ) → not (nat_lt 0 n && nat_le n most_array_cells && n == m) ≡ false → m ≤ most_array_cells
 sized_high n m e = grind (arith, nat_tests)
 
-sized_one : (size : ℤ) (values : List ℤ) → is_odd_size size values ≡ false → (1 ≤ length values) × (length values ≤ 1024)
+sized_one : (size : ℤ) (values : List ℤ) → is_odd_size size values ≡ false → (1 ≤ length values) × (length values ≤ most_array_cells)
 sized_one (pos n) values e =
     (sized_low n (length values) e, sized_high n (length values) e)
 sized_one (negsuc n) values e = absurd (true≢false e)
 
-sized_of : (xs : List Array) (line_of : List ℕ → Option ℕ) (before : List (List ℕ)) → array_findings line_of before xs ≡ [] → AllByRecursion (λ a. (1 ≤ length a.values) × (length a.values ≤ 1024)) xs
+sized_of : (xs : List Array) (line_of : List ℕ → Option ℕ) (before : List (List ℕ)) → array_findings line_of before xs ≡ [] → AllByRecursion (λ a. (1 ≤ length a.values) × (length a.values ≤ most_array_cells)) xs
 sized_of [] line_of before e = tt
 sized_of (a ∷ xs) line_of before e =
     let w = when (among before a.name) a.line NameKind in

@@ -1,5 +1,6 @@
 -- What is known of a checked program.
 use Rattle.std.specs.Prelude.{◌≡◌, length}
+use Rattle.sig_types.specs.Limits.{last_line}
 use Rattle.vap_ast.specs.Parsed.{Parsed}
 use Rattle.vap_ast.specs.Tree.{program_of}
 use Rattle.vap_check.specs.declared.checked.Checked.TheInside.{Inside}
@@ -13,7 +14,7 @@ use Rattle.vap_check.specs.Usable.{Usable, Runs}
 pub record IsChecked (c : Meant) : Type 0 where
   pub value : c ≡ checked_of c.tree
   pub accepted : Accepted (program_of c.tree)
-  pub parsed : Parsed 1048577 (program_of c.tree)
+  pub parsed : Parsed last_line (program_of c.tree)
   pub usable : Usable (program_of c.tree)
   pub runs : Runs (program_of c.tree)
 
@@ -31,7 +32,7 @@ view_of c = record {
 -- the program, each list in the order of its numbers
 pub record Keeps (c : Inside) : Type 0 where
   pub accepted : Accepted (program_of c.program)
-  pub parsed : Parsed 1048577 (program_of c.program)
+  pub parsed : Parsed last_line (program_of c.program)
   pub usable : Usable (program_of c.program)
   pub runs : Runs (program_of c.program)
   pub consts : consts_in c.names.known.consts.entries ≡ consts_of (program_of c.program)

@@ -1,6 +1,7 @@
 -- What is wrong with a program.
-use Rattle.std.specs.Prelude.{ℕ, Bool, true, false, not, ◌||◌, ◌&&◌, ◌==◌, nat_lt, max, ℤ, pos, negsuc, List, [], ◌∷◌, ◌++◌, length, Option, None, Some, if◌then◌else◌, codes}
+use Rattle.std.specs.Prelude.{ℕ, Bool, true, false, not, ◌||◌, ◌&&◌, ◌==◌, nat_lt, nat_le, max, ℤ, pos, negsuc, List, [], ◌∷◌, ◌++◌, length, Option, None, Some, if◌then◌else◌, codes}
 use Rattle.sig_types.specs.Arity.{reading_arity, command_arity}
+use Rattle.sig_types.specs.Limits.{most_array_cells}
 use Rattle.std.specs.Str.{bytes_eq}
 use Rattle.vap_ast.specs.Syntax.{Expr, Exprs, Item, Items, Stmt, Routine, Constant, Array, Program}
 use Rattle.vap_ast.specs.Sizes.{own_size}
@@ -128,9 +129,9 @@ abbrev pub clash_findings : Option ℕ → ℕ → List Finding
 clash_findings None line = []
 clash_findings (Some other) line = when true (max other line) NameKind
 
--- whether an array's size isn't 1 to 1,024, or isn't the number of its values
+-- whether an array's size isn't 1 to the most cells of an array, or isn't the number of its values
 abbrev pub is_odd_size : ℤ → List ℤ → Bool
-is_odd_size (pos n) values = not (nat_lt 0 n && nat_lt n 1025 && n == length values)
+is_odd_size (pos n) values = not (nat_lt 0 n && nat_le n most_array_cells && n == length values)
 is_odd_size (negsuc n) values = true
 
 -- what is wrong with the arrays, where the line of the first constant of a name is known

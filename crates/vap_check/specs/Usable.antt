@@ -2,6 +2,7 @@
 use Rattle.std.specs.Prelude.{◌≡◌, ℕ, ◌<◌, ◌≤◌, List, length, map, Option, None, Some, slice_index_or as get_or}
 use Rattle.std.specs.List.{AllByRecursion}
 use Rattle.sig_types.specs.Arity.{reading_arity, command_arity}
+use Rattle.sig_types.specs.Limits.{most_variables, most_timers, most_arrays, most_array_cells, most_cells, most_subroutines, most_labels}
 use Rattle.vap_ast.specs.declared.name.Entry.{Entry}
 use Rattle.vap_ast.specs.declared.name.Meaning.{Meaning}
 use Rattle.vap_ast.specs.declared.name.Meaning.TheVariants.{Constant, Array, Sub, Timer, Variable}
@@ -103,18 +104,18 @@ module _ (names : List Entry) (variables timers arrays : ℕ) where
 
 -- no limit is passed
 pub record Few (p : Program) : Type 0 where
-  pub variables : length (variables p) ≤ 256
-  pub timers : length (timers p) ≤ 64
-  pub arrays : length p.arrays ≤ 32
-  pub cells : cells p ≤ 4096
-  pub subs : length p.subs ≤ 64
-  pub labels : labels p ≤ 4096
+  pub variables : length (variables p) ≤ most_variables
+  pub timers : length (timers p) ≤ most_timers
+  pub arrays : length p.arrays ≤ most_arrays
+  pub cells : cells p ≤ most_cells
+  pub subs : length p.subs ≤ most_subroutines
+  pub labels : labels p ≤ most_labels
 
 -- No limit is passed, arrays have 1 to 1,024 cells, names can be used as they are, each subroutine calls those above it
 -- alone, and no statement is too long.
 pub record Usable (p : Program) : Type 0 where
   pub few : Few p
-  pub sized : AllByRecursion (λ a. (1 ≤ length a.values) × (length a.values ≤ 1024)) p.arrays
+  pub sized : AllByRecursion (λ a. (1 ≤ length a.values) × (length a.values ≤ most_array_cells)) p.arrays
   pub subs : (k : ℕ) → k < length p.subs →
       UsableItems (names_of p) (length (variables p)) (length (timers p)) (length p.arrays) k
       (get_or (map (λ r. r.body) p.subs) k Items.none)

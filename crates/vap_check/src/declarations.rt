@@ -13,6 +13,7 @@ use crate::refusal::CheckWhy;
 use crate::uses::{Scope, judge_items};
 use indexmap::{IndexMap, IndexSet};
 use sig_types::Memory;
+use sig_types::limits::MOST_ARRAY_CELLS;
 use std::alloc::Global;
 use vap_ast::{ArrayDecl, ConstDecl, Items, Name, Program, Routine};
 
@@ -55,11 +56,11 @@ fn judge_clash(consts: &IndexMap<Name, First>, name: &Name, line: u32, first: &m
     }
 }
 
-// Whether an array has another size than 1 to 1,024, or than the number of its values.
+// Whether an array has another size than 1 to the most cells of an array, or than the number of its values.
 fn is_odd_size(size: i32, values: &[i32]) -> bool
     ensures { result ≡ wrong.is_odd_size size values.now }
 {
-    !(0 < size && size < 1025 && size as usize == values.len())
+    !(0 < size && size <= i32::from(MOST_ARRAY_CELLS) && size as usize == values.len())
 }
 
 #[tactic(auto, using(crate::proofs::Flat::findings_on))]

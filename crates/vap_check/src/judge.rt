@@ -14,6 +14,7 @@ use crate::kinds::{Kind, Names};
 use crate::limits::{first_passed_limit, program_size};
 use crate::refusal::CheckWhy;
 use sig_types::Memory;
+use sig_types::limits::MOST_INSTRS;
 use std::alloc::Global;
 use vap_ast::Program;
 
@@ -60,7 +61,7 @@ fn refusal_of(
             why: CheckWhy::Limit(which),
         });
     }
-    if program_size(program) > 65535 {
+    if program_size(program) > usize::from(MOST_INSTRS) {
         return Some(Finding {
             line: 0,
             why: CheckWhy::ProgramTooLong,

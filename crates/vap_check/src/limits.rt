@@ -5,20 +5,10 @@ ghost use Rattle.vap_check.specs.Accepted as whole;
 ghost use Rattle.vap_check.specs.Names as names;
 
 use crate::refusal::Which;
+use sig_types::limits::{
+    MOST_ARRAYS, MOST_CELLS, MOST_LABELS, MOST_SUBROUTINES, MOST_TIMERS, MOST_VARIABLES,
+};
 use vap_ast::{ArrayDecl, Item, Program, Routine, Stmt, add_capped, items_size};
-
-const MOST_VARIABLES: usize = 256;
-
-const MOST_TIMERS: usize = 64;
-
-const MOST_ARRAYS: usize = 32;
-
-// The cells of all arrays together.
-const MOST_CELLS: usize = 4096;
-
-const MOST_SUBROUTINES: usize = 64;
-
-const MOST_LABELS: usize = 4096;
 
 // The cells of arrays, counted up to 65,536.
 #[tactic(auto, using(crate::proofs::Sums::length_on))]
@@ -76,8 +66,8 @@ fn count_items_labels(items: &[Item]) -> usize
     total
 }
 
-#[tactic(auto, using(crate::proofs::Sums::length_on))]
 // The labels of subroutines, counted up to 65,536.
+#[tactic(auto, using(crate::proofs::Sums::length_on))]
 fn count_subs_labels(subs: &[Routine]) -> usize
     ensures { result ≡ min (length (flat_map names.items_labels (map (λ r. r.body) (map routine_of subs.now)))) 65536 }
 {
@@ -99,6 +89,7 @@ fn count_labels(program: &Program) -> usize
     )
 }
 
+// The size of subroutines, counted up to 65,536.
 fn subs_size(subs: &[Routine]) -> usize
     ensures { result ≡ min (whole.bodies_size (map (λ r. r.body) (map routine_of subs.now))) 65536 }
 {
@@ -127,17 +118,17 @@ pub fn first_passed_limit(program: &Program, variables: usize, timers: usize) ->
     requires timers { timers ≡ length (names.timers (program_of program.now)) }
     ensures { result ≡ whole.passed (program_of program.now) }
 {
-    if variables > MOST_VARIABLES {
+    if variables > usize::from(MOST_VARIABLES) {
         Some(Which::Variables)
-    } else if timers > MOST_TIMERS {
+    } else if timers > usize::from(MOST_TIMERS) {
         Some(Which::Timers)
-    } else if program.arrays.len() > MOST_ARRAYS {
+    } else if program.arrays.len() > usize::from(MOST_ARRAYS) {
         Some(Which::Arrays)
-    } else if count_cells(&program.arrays) > MOST_CELLS {
+    } else if count_cells(&program.arrays) > usize::from(MOST_CELLS) {
         Some(Which::Cells)
-    } else if program.subs.len() > MOST_SUBROUTINES {
+    } else if program.subs.len() > usize::from(MOST_SUBROUTINES) {
         Some(Which::Subroutines)
-    } else if count_labels(program) > MOST_LABELS {
+    } else if count_labels(program) > usize::from(MOST_LABELS) {
         Some(Which::Labels)
     } else {
         None

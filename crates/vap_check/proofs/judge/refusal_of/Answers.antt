@@ -15,8 +15,8 @@ returns-in-Some-first_passed_limit c =
     let clean = none_is (findings (program_of c.args.program.now)) (sym c.requires.first ∙ c.in_default.is) in
     many c.in-Some-first_passed_limit.which clean (sym c.first_passed_limit.ensures ∙ c.in-Some-first_passed_limit.is)
 
-pub returns-then-program_size-gt65535 : goal.returns-then-program_size-gt65535
-returns-then-program_size-gt65535 c =
+pub returns-then-program_size-from : goal.returns-then-program_size-from
+returns-then-program_size-from c =
     let clean = none_is (findings (program_of c.args.program.now)) (sym c.requires.first ∙ c.in_default.is) in
     long clean (sym c.first_passed_limit.ensures ∙ c.in_default-first_passed_limit.is) (omega (arith, c.program_size.ensures))
 
