@@ -148,9 +148,6 @@ module _ (instrs : List Instr) (starts : List ℕ) (kind : Instr → ℕ → ℕ
   abbrev pub LightAt : ℕ → Instr → Type 0
   LightAt q i = number instrs starts kind q ≤ most
 
-  abbrev heavy : ℕ → ℕ
-  heavy q = weight instrs starts kind q
-
   inside : (q : ℕ) → q ≤ end → q < length instrs
   inside q le = omega (arith, slice_get_within instrs end Ret ret)
 

@@ -8,9 +8,9 @@ ghost use Rattle.vap_check.specs.Checked.{IsChecked};
 ghost use Rattle.vap_check.specs.Names.{bodies};
 ghost use Rattle.vap_check.specs.Passes.{first_store_of};
 ghost use Rattle.vap_code.specs.Codes.{code_in};
+ghost use Rattle.vap_code.specs.Stores.{first_store};
 ghost use Rattle.vap_compile.specs.Layout.{Appends, bodies_in, routine_code, routines_code, routine_starts};
 ghost use Rattle.vap_compile.specs.Compiled.{IsLaidOut, MeansProgram, HasNumbersOf};
-ghost use Rattle.vap_code.specs.Stores.{first_store};
 
 use crate::statements::emit_routine;
 use code_verify::{Verified, VerifyRefusal, valid_code_ends, verify};
@@ -110,10 +110,11 @@ fn code_of(alloc: Global, checked: &Checked) -> Result<Code, AllocError>
 }
 
 /// The code of a checked program. For every world and every store that fits the program, a pass of the code ends as the
-/// pass of the program does. The code has the program's numbers of variables and timers, and its arrays hold the declared
+/// pass of the program does. It is laid out as `specs/Layout.antt` tells. The code has the program's numbers of variables and timers, and its arrays hold the declared
 /// values, so a machine begins with the store with which the program begins. A checked program always has valid code: it
 /// is verified and never refused, so `Memory` is the only error.
 pub fn compile(alloc: Global, checked: &Checked) -> Result<Verified, Memory>
+    ensures layout { IfOk result (λ code. IsLaidOut checked.now code) }
     ensures means { IfOk result (λ code. MeansProgram checked.now code) }
     ensures numbers { IfOk result (λ code. HasNumbersOf checked.now code) }
     ensures begins { IfOk result (λ code. first_store code ≡ first_store_of checked.now) }

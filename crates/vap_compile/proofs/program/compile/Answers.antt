@@ -1,10 +1,15 @@
-use Rattle.std.proofs.Common.{ap, ◌∙◌, subst}
+use Rattle.std.proofs.Common.{ap, ◌∙◌, subst, sym}
 use Rattle.vap_code.specs.Codes.{code_in}
 use Rattle.vap_code.specs.Machine.{machine}
 use Rattle.vap_code.specs.Stores.{first_store}
 use Rattle.code_verify.specs.First.{RefusedBy}
+use Rattle.vap_compile.specs.Compiled.{IsLaidOut}
 use Rattle.vap_compile.proofs.Correct.{compiled_valid, compiled_means, begins_alike}
 use Rattle.vap_compile.proofs.program.compile.Goals as goal
+
+pub returns-in-Ok-verify-clause-layout : goal.returns-in-Ok-verify-clause-layout
+returns-in-Ok-verify-clause-layout c =
+    subst (IsLaidOut c.args.checked.now) (sym c.in-Ok-verify.ensures.accepted) c.in-Ok.ensures.code
 
 pub returns-in-Ok-verify-clause-means : goal.returns-in-Ok-verify-clause-means
 returns-in-Ok-verify-clause-means c = λ world s f.
