@@ -1,7 +1,6 @@
 -- What the rule says of the tick's seat at the end.
-use Rattle.std.proofs.Common.{◌≡◌, ℕ, zero, suc, ◌+◌, ◌<◌, ◌≤◌, List, [], ◌∷◌, ◌++◌, length, set, refl, sym, ap, ◌∙◌, subst, arith, get_or-set_same, get_or-set_other, length-set, length-append, Some, None}
+use Rattle.std.proofs.Common.{◌≡◌, ◌≢◌, ℕ, zero, suc, ◌+◌, ◌<◌, ◌≤◌, List, [], ◌∷◌, ◌++◌, length, set, refl, sym, ap, ◌∙◌, subst, arith, get_or-set_same, get_or-set_other, length-set, length-append, Option, Some, None}
 use Rattle.std.specs.Prelude.{slice_index, slice_index_or, slice_get}
-use Rattle.std.proofs.lemmas.Option.{slice_get_within}
 use mathlib.Core.Logic.{dite}
 use native.Mathlib.Decide.{ℕ_discrete}
 use Rattle.atomic_table.specs.Table.{Seen, Final, Me}
@@ -28,10 +27,9 @@ within_counts detectors id Spent ws xs end ticks d f r inside owns = absurd tick
 -- the passes that are still to be given back are the first ones
 pub record Gathering (all rest : List Feeding) (detectors : ℕ) (loads : List (List ℕ)) (me : Me (Unit {0}) View) (counts : List (ℕ × ℕ)) : Type 0 where
   pub part : (k : ℕ) (p : Feeding) → slice_get rest k ≡ Some p → slice_get all k ≡ Some p
-  pub few : length rest ≤ detectors
   pub back : GivenBack (length rest) detectors all loads me
   pub size : length counts ≡ 64
-  pub counted : (k : ℕ) (p : Feeding) → length rest ≤ k → slice_get all k ≡ Some p → slice_index_or counts k (0, 0) ≡ (p.fronts, p.rears)
+  pub counted : (k : ℕ) (p : Feeding) → length rest ≤ k → slice_get all k ≡ Some p → slice_index_or counts p.place (0, 0) ≡ (p.fronts, p.rears)
 
 get_last : (xs : List Feeding) (x : Feeding) → slice_get (xs ++ x ∷ []) (length xs) ≡ Some x
 get_last [] x = refl
@@ -46,36 +44,37 @@ some_one : {a b : Feeding} → Some a ≡ Some b → a ≡ b
 some_one e = cc
 
 pub gathers_one : (board : Boarded) (all rest rest' : List Feeding) (tick : Ticking) (x : Feeding) (place : ℕ) (loads : List (List ℕ)) (me me' : Me (Unit {0}) View) (counts : List (ℕ × ℕ)) → AreAll board all tick → board.detectors ≤ 64
-    → Gathering all rest board.detectors loads me counts → rest ≡ rest' ++ x ∷ [] → place ≡ x.place
+    → Gathering all rest board.detectors loads me counts → rest ≡ rest' ++ x ∷ [] → place ≡ x.place → x.place < board.detectors
     → me' ≡ (Tick (dealt_of me.0) (loads_of me.0) (set (owned_of me.0) x.place (Some (x.fronts, x.rears))), [])
     → Gathering all rest' board.detectors loads me' (set counts place (x.fronts, x.rears))
-gathers_one board all rest rest' tick x place loads me me' counts are low g cut at is =
+gathers_one board all rest rest' tick x place loads me me' counts are low g cut at inside is =
     let n : ℕ = length rest' in
     let long : length rest ≡ n + 1 = ap length cut ∙ length-append rest' (x ∷ []) in
     let mine : slice_get all n ≡ Some x = g.part n x (subst (λ l. slice_get l n ≡ Some x) (sym cut) (get_last rest' x)) in
-    let here : x.place ≡ n = (are.each n x mine).1 in
     let L' : loads_of me.0 ≡ loads = ap (λ (m : Me (Unit {0}) View). loads_of m.0) g.back.view in
-    let O = set (owned_of me.0) n (Some (x.fronts, x.rears)) in
-    let now : me' ≡ (Tick (dealt_of me.0) loads O, []) = is ∙ (λ i. (Tick (dealt_of me.0) (L' i) (set (owned_of me.0) (here i) (Some (x.fronts, x.rears))), [])) in
-    subst (λ (j : ℕ). Gathering all rest' board.detectors loads me' (set counts j (x.fronts, x.rears))) (sym (at ∙ here)) (record {
+    let c : Option (ℕ × ℕ) = Some (x.fronts, x.rears) in
+    let O = set (owned_of me.0) x.place c in
+    let now : me' ≡ (Tick (dealt_of me.0) loads O, []) = is ∙ (λ i. (Tick (dealt_of me.0) (L' i) O, [])) in
+    let which : (k : ℕ) (p : Feeding) → slice_get all k ≡ Some p → k ≡ n → x ≡ p = λ k p e same. some_one (sym mine ∙ subst (λ j. slice_get all j ≡ Some p) same e) in
+    let apart : (k : ℕ) (p : Feeding) → slice_get all k ≡ Some p → k ≢ n → p.place ≢ x.place = λ k p e ne same. ne (are.once k n p x e mine same) in
+    subst (λ (j : ℕ). Gathering all rest' board.detectors loads me' (set counts j (x.fronts, x.rears))) (sym at) (record {
       part = λ k p e. g.part k p (subst (λ l. slice_get l k ≡ Some p) (sym cut) (get_front rest' (x ∷ []) k p e));
-      few = let f = g.few in omega arith;
       back = subst (GivenBack n board.detectors all loads) (sym now) (record {
         view = refl;
-        owned_count = length-set (owned_of me.0) n (Some (x.fronts, x.rears)) ∙ g.back.owned_count;
+        owned_count = length-set (owned_of me.0) x.place c ∙ g.back.owned_count;
+        inside = λ k p h e. dite (ℕ_discrete k n)
+            (λ same. subst (λ (q : Feeding). q.place < board.detectors) (which k p e same) inside)
+            (λ ne. g.back.inside k p (omega arith) e);
         back = λ k p h e. dite (ℕ_discrete k n)
-            (λ same. let which : x ≡ p = some_one (sym mine ∙ subst (λ j. slice_get all j ≡ Some p) same e) in
-            subst (λ j. slice_index_or O j None ≡ Some (p.fronts, p.rears)) (sym same)
-            (subst (λ (q : Feeding). slice_index_or (set (owned_of me.0) n (Some (x.fronts, x.rears))) n None ≡ Some (q.fronts, q.rears)) which
-            (get_or-set_same (owned_of me.0) n (Some (x.fronts, x.rears)) None (let c = g.back.owned_count in let f = g.few in omega arith))))
-            (λ ne. get_or-set_other (owned_of me.0) n k (Some (x.fronts, x.rears)) None ne ∙ g.back.back k p (omega arith) e);
+            (λ same. subst (λ (q : Feeding). slice_index_or O q.place None ≡ Some (q.fronts, q.rears)) (which k p e same)
+            (get_or-set_same (owned_of me.0) x.place c None (let o = g.back.owned_count in omega arith)))
+            (λ ne. get_or-set_other (owned_of me.0) x.place p.place c None (apart k p e ne) ∙ g.back.back k p (omega arith) e);
       });
-      size = length-set counts n (x.fronts, x.rears) ∙ g.size;
+      size = length-set counts x.place (x.fronts, x.rears) ∙ g.size;
       counted = λ k p h e. dite (ℕ_discrete k n)
-          (λ same. let which : x ≡ p = some_one (sym mine ∙ subst (λ j. slice_get all j ≡ Some p) same e) in
-          subst (λ j. slice_index_or (set counts n (x.fronts, x.rears)) j (0, 0) ≡ (p.fronts, p.rears)) (sym same)
-          (get_or-set_same counts n (x.fronts, x.rears) (0, 0) (let z = g.size in let f = g.few in omega arith) ∙ ap (λ (q : Feeding). (q.fronts, q.rears)) which))
-          (λ ne. get_or-set_other counts n k (x.fronts, x.rears) (0, 0) ne ∙ g.counted k p (omega arith) e);
+          (λ same. subst (λ (q : Feeding). slice_index_or (set counts x.place (x.fronts, x.rears)) q.place (0, 0) ≡ (q.fronts, q.rears)) (which k p e same)
+          (get_or-set_same counts x.place (x.fronts, x.rears) (0, 0) (let z = g.size in omega arith)))
+          (λ ne. get_or-set_other counts x.place p.place (x.fronts, x.rears) (0, 0) (apart k p e ne) ∙ g.counted k p (omega arith) e);
     })
 
 -- the frame that is left
@@ -87,52 +86,49 @@ pub closes : (board : Boarded) (all : List Feeding) (tick : Ticking) (me : Me (U
     → Closes board all tick frame
 closes board all tick me totals counts frame are low g within read size sums absent = record {
   size = size;
-  rest = λ d p e. let inside : d < board.detectors = let w = slice_get_within all d p e in let c = are.count in omega arith in
-      let s = sums d inside in
-      let t = read d (omega arith) in
-      let k = g.counted d p (omega arith) e in
-      let tf : (slice_index_or totals d (0, 0)).0 ≡ fronts_read tick d = ap (λ (q : ℕ × ℕ). q.0) t in
-      let tr : (slice_index_or totals d (0, 0)).1 ≡ rears_read tick d = ap (λ (q : ℕ × ℕ). q.1) t in
-      let cf : (slice_index_or counts d (0, 0)).0 ≡ p.fronts = ap (λ (q : ℕ × ℕ). q.0) k in
-      let cr : (slice_index_or counts d (0, 0)).1 ≡ p.rears = ap (λ (q : ℕ × ℕ). q.1) k in
+  rest = λ k p e. let inside : p.place < board.detectors = g.back.inside k p (omega arith) e in
+      let s = sums p.place inside in
+      let t = read p.place (omega arith) in
+      let c = g.counted k p (omega arith) e in
+      let tf : (slice_index_or totals p.place (0, 0)).0 ≡ fronts_read tick p.place = ap (λ (q : ℕ × ℕ). q.0) t in
+      let tr : (slice_index_or totals p.place (0, 0)).1 ≡ rears_read tick p.place = ap (λ (q : ℕ × ℕ). q.1) t in
+      let cf : (slice_index_or counts p.place (0, 0)).0 ≡ p.fronts = ap (λ (q : ℕ × ℕ). q.0) c in
+      let cr : (slice_index_or counts p.place (0, 0)).1 ≡ p.rears = ap (λ (q : ℕ × ℕ). q.1) c in
       (omega (arith, s.0), omega (arith, s.1));
   absent = absent;
-  ordered = λ d p e. let inside : d < board.detectors = let w = slice_get_within all d p e in let c = are.count in omega arith in
-      let w = within (ticks_of me g) d p.fronts p.rears inside (owns me g d p e) in (w.2, w.3);
+  ordered = λ k p e. let w = within (ticks_of me g) p.place p.fronts p.rears (g.back.inside k p (omega arith) e) (owns me g k p e) in (w.2, w.3);
 }
   where
     ticks_of : (me : Me (Unit {0}) View) → Gathering all [] board.detectors tick.loads me counts → IsTick me.0
     ticks_of me g = subst (λ (m : Me (Unit {0}) View). IsTick m.0) (sym g.back.view) tt
 
-    owns : (me : Me (Unit {0}) View) → Gathering all [] board.detectors tick.loads me counts → (d : ℕ) (p : Feeding) → slice_get all d ≡ Some p → owned_by me.0 d ≡ Some (p.fronts, p.rears)
-    owns me g d p e = ap (λ (m : Me (Unit {0}) View). owned_by m.0 d) g.back.view ∙ g.back.back d p (omega arith) e
+    owns : (me : Me (Unit {0}) View) → Gathering all [] board.detectors tick.loads me counts → (k : ℕ) (p : Feeding) → slice_get all k ≡ Some p → owned_by me.0 p.place ≡ Some (p.fronts, p.rears)
+    owns me g k p e = ap (λ (m : Me (Unit {0}) View). owned_by m.0 p.place) g.back.view ∙ g.back.back k p (omega arith) e
 
 -- what was read is at most what was counted
 pub read_within : (board : Boarded) (all : List Feeding) (tick : Ticking) (me : Me (Unit {0}) View) (totals counts : List (ℕ × ℕ)) → AreAll board all tick → board.detectors ≤ 64 → Gathering all [] board.detectors tick.loads me counts → WithinCounts board.detectors me.0
     → ((d : ℕ) → d < 64 → slice_index_or totals d (0, 0) ≡ (last_read tick.loads (fronts_word d), last_read tick.loads (rears_word d)))
     → (d : ℕ) → d < board.detectors → ((slice_index_or totals d (0, 0)).0 ≤ (slice_index_or counts d (0, 0)).0) × ((slice_index_or totals d (0, 0)).1 ≤ (slice_index_or counts d (0, 0)).1)
 read_within board all tick me totals counts are low g within read d inside =
-    let p = get_some all d (let c = are.count in omega arith) in
+    let one = are.each d inside in
+    let k = one.0 in
+    let p = one.1 in
+    let e : slice_get all k ≡ Some p = one.2 in
+    let at : p.place ≡ d = one.3 in
     let ticks = subst (λ (m : Me (Unit {0}) View). IsTick m.0) (sym g.back.view) tt in
-    let owns : owned_by me.0 d ≡ Some (p.0.fronts, p.0.rears) = ap (λ (m : Me (Unit {0}) View). owned_by m.0 d) g.back.view ∙ g.back.back d p.0 (omega arith) p.1 in
-    let w = within ticks d p.0.fronts p.0.rears inside owns in
+    let owns : owned_by me.0 d ≡ Some (p.fronts, p.rears) = ap (λ (m : Me (Unit {0}) View). owned_by m.0 d) g.back.view ∙ subst (λ (j : ℕ). slice_index_or (owned_of me.0) j None ≡ Some (p.fronts, p.rears)) at (g.back.back k p (omega arith) e) in
+    let w = within ticks d p.fronts p.rears inside owns in
     let L : loads_of me.0 ≡ tick.loads = ap (λ (m : Me (Unit {0}) View). loads_of m.0) g.back.view in
-    let a = subst (λ l. last_read l (fronts_word d) ≤ p.0.fronts) L w.0 in
-    let b = subst (λ l. last_read l (rears_word d) ≤ p.0.rears) L w.1 in
+    let a = subst (λ l. last_read l (fronts_word d) ≤ p.fronts) L w.0 in
+    let b = subst (λ l. last_read l (rears_word d) ≤ p.rears) L w.1 in
     let t = read d (omega arith) in
-    let k = g.counted d p.0 (omega arith) p.1 in
+    let c : slice_index_or counts d (0, 0) ≡ (p.fronts, p.rears) = subst (λ (j : ℕ). slice_index_or counts j (0, 0) ≡ (p.fronts, p.rears)) at (g.counted k p (omega arith) e) in
     let tf : (slice_index_or totals d (0, 0)).0 ≡ fronts_read tick d = ap (λ (q : ℕ × ℕ). q.0) t in
     let tr : (slice_index_or totals d (0, 0)).1 ≡ rears_read tick d = ap (λ (q : ℕ × ℕ). q.1) t in
-    let cf : (slice_index_or counts d (0, 0)).0 ≡ p.0.fronts = ap (λ (q : ℕ × ℕ). q.0) k in
-    let cr : (slice_index_or counts d (0, 0)).1 ≡ p.0.rears = ap (λ (q : ℕ × ℕ). q.1) k in
+    let cf : (slice_index_or counts d (0, 0)).0 ≡ p.fronts = ap (λ (q : ℕ × ℕ). q.0) c in
+    let cr : (slice_index_or counts d (0, 0)).1 ≡ p.rears = ap (λ (q : ℕ × ℕ). q.1) c in
     (omega arith, omega arith)
-  where
-    get_some : (xs : List Feeding) (k : ℕ) → k < length xs → (p : Feeding) × (slice_get xs k ≡ Some p)
-    get_some [] k h = absurd (omega arith)
-    get_some (x ∷ xs) zero h = (x, refl)
-    get_some (x ∷ xs) (suc k) h = get_some xs k (omega arith)
 
--- a pass given back, as the code has it
 pub none_left : (rest : List Feeding) → length rest ≡ 0 → rest ≡ []
 none_left [] e = refl
 none_left (x ∷ xs) e = absurd (omega arith)

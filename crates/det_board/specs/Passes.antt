@@ -167,20 +167,22 @@ pub record IsOpening (detectors : ℕ) (board : Boarded) (feeders : List Feeding
   pub of_tick : tick.table ≡ board.table
   pub unread : (w : ℕ) → slice_index_or tick.loads w [] ≡ []
 
--- all passes of this board, in order
+-- all passes of this board in some order: one of each detector
 pub record AreAll (board : Boarded) (feeders : List Feeding) (tick : Ticking) : Type 0 where
-  pub count : length feeders ≡ board.detectors
-  pub each : (k : ℕ) (p : Feeding) → slice_get feeders k ≡ Some p → (p.table ≡ board.table) × (p.place ≡ k)
+  pub of_board : (k : ℕ) (p : Feeding) → slice_get feeders k ≡ Some p → p.table ≡ board.table
+  pub each : (d : ℕ) → d < board.detectors → (k : ℕ) × (p : Feeding) × (slice_get feeders k ≡ Some p) × (p.place ≡ d)
+  pub once : (k l : ℕ) (p q : Feeding) → slice_get feeders k ≡ Some p → slice_get feeders l ≡ Some q →
+      p.place ≡ q.place → k ≡ l
   pub of_tick : tick.table ≡ board.table
 
 -- the frame that is left: with what was read it makes each feeder's own counts
 pub record Closes (board : Boarded) (feeders : List Feeding) (tick : Ticking) (frame : Counts) : Type 0 where
   pub size : length frame ≡ 64
-  pub rest : (d : ℕ) (p : Feeding) → slice_get feeders d ≡ Some p →
-      ((slice_index_or frame d (0, 0)).0 + fronts_read tick d ≡ p.fronts)
-      × ((slice_index_or frame d (0, 0)).1 + rears_read tick d ≡ p.rears)
+  pub rest : (k : ℕ) (p : Feeding) → slice_get feeders k ≡ Some p →
+      ((slice_index_or frame p.place (0, 0)).0 + fronts_read tick p.place ≡ p.fronts)
+      × ((slice_index_or frame p.place (0, 0)).1 + rears_read tick p.place ≡ p.rears)
   pub absent : (d : ℕ) → board.detectors ≤ d → slice_index_or frame d (0, 0) ≡ (0, 0)
-  pub ordered : (d : ℕ) (p : Feeding) → slice_get feeders d ≡ Some p → (p.rears ≤ p.fronts) × (p.fronts ≤ most_fronts)
+  pub ordered : (k : ℕ) (p : Feeding) → slice_get feeders k ≡ Some p → (p.rears ≤ p.fronts) × (p.fronts ≤ most_fronts)
 
 -- the tick's seat while detectors are dealt: the first n are, the others are its own with no count
 pub record Undealt (n detectors : ℕ) (me : Me (Unit {0}) View) : Type 0 where
@@ -188,12 +190,13 @@ pub record Undealt (n detectors : ℕ) (me : Me (Unit {0}) View) : Type 0 where
   pub owned_count : length (owned_of me.0) ≡ detectors
   pub rest : (d : ℕ) → n ≤ d → d < detectors → slice_index_or (owned_of me.0) d None ≡ Some (0, 0)
 
--- the tick's seat while passes are given back: those from place n on own what their feeders counted
+-- the tick's seat while passes are given back: it owns what the feeders from the n-th of the list on counted
 pub record GivenBack (n detectors : ℕ) (feeders : List Feeding) (loads : List (List ℕ)) (me : Me (Unit {0}) View) : Type 0 where
   pub view : me ≡ (Tick (dealt_of me.0) loads (owned_of me.0), [])
   pub owned_count : length (owned_of me.0) ≡ detectors
+  pub inside : (k : ℕ) (p : Feeding) → n ≤ k → slice_get feeders k ≡ Some p → p.place < detectors
   pub back : (k : ℕ) (p : Feeding) → n ≤ k → slice_get feeders k ≡ Some p →
-      slice_index_or (owned_of me.0) k None ≡ Some (p.fronts, p.rears)
+      slice_index_or (owned_of me.0) p.place None ≡ Some (p.fronts, p.rears)
 
 -- what the tick has read of the detectors that it owns is at most their counts
 abbrev pub WithinCounts : ℕ → View → Type 0

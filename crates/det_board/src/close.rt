@@ -12,7 +12,7 @@ use crate::view::View;
 use atomic_table::Seat;
 use sig_types::Frame;
 
-/// The closing frame: what the feeders counted and no take has read.
+/// The closing frame: what the feeders counted and no take has read. All passes of the board are given, in any order.
 pub fn end_board(board: Board, mut feeders: Vec<FeederPass>, tick: TickPass) -> Frame
     requires { AreAll board feeders.items tick }
     ensures { Closes board feeders.items tick result }
@@ -34,6 +34,7 @@ fn give_back(board: &Board, seat: &mut Seat<(), View>, feeder: FeederPass) -> (u
     requires board { (seat.old.table_id ≡ board.now.table) × (feeder.table ≡ board.now.table) }
     requires tick { seat.old.me ≡ (Tick (dealt_of seat.old.me.0) (loads_of seat.old.me.0) (owned_of seat.old.me.0), []) }
     requires room { length (owned_of seat.old.me.0) ≡ board.now.detectors }
+    ensures place { feeder.place < board.now.detectors }
     ensures counts { result ≡ (feeder.fronts, feeder.rears) }
     ensures seat { (seat.new.table_id ≡ seat.old.table_id)
         × (seat.new.me ≡ (

@@ -17,7 +17,7 @@ loop-feeder-preserved c =
       g.seat.0 ∙ i.0,
       refl,
       subst (λ (l : List (ℕ × ℕ)). Gathering c.args.feeders.items c.pop.new.self.items c.args.board.detectors c.args.tick.loads c.give_back-own.new.seat.me l) (sym (c.set.ensures.items ∙ ap (λ (o : ℕ × ℕ). set c.loop-feeder.counts c.feeder.inside.place o) g.counts))
-          (gathers_one c.args.board c.args.feeders.items c.loop-feeder.feeders.items c.pop.new.self.items c.args.tick x c.feeder.inside.place c.args.tick.loads c.loop-feeder.seat.me c.give_back-own.new.seat.me c.loop-feeder.counts c.requires low i.2 cut place g.seat.1),
+          (gathers_one c.args.board c.args.feeders.items c.loop-feeder.feeders.items c.pop.new.self.items c.args.tick x c.feeder.inside.place c.args.tick.loads c.loop-feeder.seat.me c.give_back-own.new.seat.me c.loop-feeder.counts c.requires low i.2 cut place g.place g.seat.1),
     )
 
 pub rest-requires-clause-read : goal.rest-requires-clause-read
