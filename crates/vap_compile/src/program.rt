@@ -109,10 +109,10 @@ fn code_of(alloc: Global, checked: &Checked) -> Result<Code, AllocError>
     })
 }
 
-/// The code of a checked program. For every world and every store that fits the program, a pass of the code ends as the
-/// pass of the program does. It is laid out as `specs/Layout.antt` tells. The code has the program's numbers of variables and timers, and its arrays hold the declared
-/// values, so a machine begins with the store with which the program begins. A checked program always has valid code: it
-/// is verified and never refused, so `Memory` is the only error.
+/// The code of a checked program, laid out as `specs/Layout.antt` tells. For every world and every store that fits the
+/// program, a pass of the code ends as the pass of the program does. The code has the program's numbers of variables and
+/// timers, and its arrays hold the declared values, so a machine begins with the store with which the program begins. A
+/// checked program always has valid code: it is verified and never refused, so `Memory` is the only error.
 pub fn compile(alloc: Global, checked: &Checked) -> Result<Verified, Memory>
     ensures layout { IfOk result (λ code. IsLaidOut checked.now code) }
     ensures means { IfOk result (λ code. MeansProgram checked.now code) }
