@@ -1,5 +1,5 @@
 // The tokens of a text.
-ghost use Rattle.std.specs.Prelude.{◌≡◌, ◌<◌, ◌≤◌, ◌^◌, ◌+◌, ◌-◌, ◌++◌, ◌==◌, ℕ, List, length, count_by, IfOk, IfErr, IfSome, OnOk};
+ghost use Rattle.std.specs.Prelude.{◌≡◌, ◌<◌, ◌≤◌, ◌^◌, ◌+◌, ◌-◌, ◌++◌, ◌==◌, ◌⊎◌, ℕ, List, length, count_by, IfOk, IfErr, IfSome, OnOk};
 ghost use Rattle.std.specs.List.{All};
 ghost use Rattle.vap_ast.specs.Name.{IsWord};
 ghost use Rattle.vap_lex.specs.Kept.{IsUnsigned, HasLine};
@@ -132,6 +132,7 @@ fn note(
 
 /// A text has one list of tokens, or one refused place with one reason, and never both.
 pub fn one_answer()
+    ensures some { (text : List ℕ) → ((ts : List Token) × HasTokens text ts) ⊎ ((p : ℕ) × (w : LexWhy) × IsStuck text p w) }
     ensures tokens { (text : List ℕ) (ts us : List Token) → HasTokens text ts → HasTokens text us → ts ≡ us }
     ensures refusal { (text : List ℕ) (p q : ℕ) (v w : LexWhy) → IsStuck text p v → IsStuck text q w → (p ≡ q) × (v ≡ w) }
     ensures apart { (text : List ℕ) (ts : List Token) (p : ℕ) (w : LexWhy) → HasTokens text ts → IsStuck text p w → ⊥ }

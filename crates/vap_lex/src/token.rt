@@ -68,7 +68,7 @@ impl Model for Tokens {
 
 impl Tokens {
     /// The list of these tokens.
-    pub fn of(items: Vec<Token>) -> Tokens
+    pub(crate) fn of(items: Vec<Token>) -> Tokens
         requires { All IsKept items.items }
         ensures { result ≡ items.items }
     {
