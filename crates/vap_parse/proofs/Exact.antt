@@ -12,6 +12,7 @@
 -- text, and its `local` that no text goes on with the refused token. Shrinks tells the loops that a round takes a token,
 -- and Keeps what the tree of any text keeps.
 use Rattle.std.proofs.Common.{◌≡◌, ℕ, suc, ◌<◌, ◌≤◌, length, List, [], ◌∷◌, ◌++◌, append_assoc, Ok, Err, refl, sym, ap, subst, ◌∙◌, inl, inr, arith}
+use Rattle.std.specs.Prelude.{◌⊎◌}
 use Rattle.std.proofs.lemmas.List.{append-nil, length-append}
 use Rattle.std.proofs.lemmas.Bool.{cases_lt}
 use Rattle.vap_lex.specs.declared.token.Token.{Token}
@@ -219,6 +220,15 @@ exact_by ts (Err f) e end m = (m.front, m.parts, refused_by f.0 f.1 ts e m)
 
 pub exact : (ts : List Token) → Exact ts (text ts)
 exact ts = exact_by ts (text ts) refl (text_at_end ts) (meets_text ts)
+
+-- ---- a text has a tree or a refusal
+
+by_outcome : (ts : List Token) (out : Outcome Program) → Exact ts out → ((p : Program) × Accepts ts p) ⊎ ((w : Reason) × (r : List Token) × Refuses ts w r)
+by_outcome ts (Ok p) is = inl (p.0, is)
+by_outcome ts (Err e) is = inr (e.0, e.1, is)
+
+pub has_answer : (ts : List Token) → ((p : Program) × Accepts ts p) ⊎ ((w : Reason) × (r : List Token) × Refuses ts w r)
+has_answer ts = by_outcome ts (text ts) (exact ts)
 
 -- ---- a text has one refusal at most
 

@@ -9,7 +9,8 @@ use Rattle.vap_parse.specs.declared.kind.Rank.{Rank}
 use Rattle.vap_parse.specs.declared.kind.Rank.TheVariants as rank
 use Rattle.vap_parse.specs.Input.{Mark, fine, deep, wrong, Input, Outcome, Parser, and_then, kind, by_mark, picked, token_at, token, many}
 use Rattle.vap_parse.specs.Forms.{Form}
-use Rattle.vap_parse.specs.Descent.{is, is_operator, IsChain, operation, expr, inner, next_argument, one_semi, begins, one, one_more, inside, body, next_constant, next_array, next_value, Declared, declares, declaration, next_sub}
+use Rattle.vap_parse.specs.Kinds.{begins, declares}
+use Rattle.vap_parse.specs.Descent.{is, is_operator, IsChain, operation, expr, inner, next_argument, one_semi, one, one_more, inside, body, next_constant, next_array, next_value, Declared, declaration, next_sub}
 use Rattle.vap_parse.specs.Grammar as g
 use Rattle.vap_parse.proofs.Meets.{Within}
 use Rattle.vap_parse.proofs.Law.{Law, never}

@@ -5,10 +5,10 @@ use Rattle.vap_ast.specs.Syntax.{Item, Constant, Array, Routine}
 use Rattle.vap_parse.specs.declared.kind.Kind.{Kind}
 use Rattle.vap_parse.specs.declared.kind.Kind.TheVariants as k
 use Rattle.vap_parse.specs.declared.kind.Rank.TheVariants as rank
-use Rattle.vap_parse.specs.Kinds.{same_kind}
+use Rattle.vap_parse.specs.Kinds.{same_kind, begins, declares}
 use Rattle.vap_parse.specs.Input.{Parser, max_levels, max_ifs}
 use Rattle.vap_parse.specs.Forms.{Form}
-use Rattle.vap_parse.specs.Descent.{is, is_timer, begins, declares, Declared}
+use Rattle.vap_parse.specs.Descent.{is, is_timer, Declared}
 use Rattle.vap_parse.specs.Descent as r
 use Rattle.vap_parse.specs.Grammar as g
 use Rattle.vap_parse.proofs.Law.{Law, no_kind, gives_law, then_law, either_law, anew_law}

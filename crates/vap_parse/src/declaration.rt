@@ -4,11 +4,12 @@ ghost use Rattle.vap_ast.specs.Tree.{array_of, constant_of};
 ghost use Rattle.vap_parse.specs.Input as spec;
 ghost use Rattle.vap_parse.specs.Input.{Builds, Leaves, Reads};
 ghost use Rattle.vap_parse.specs.Descent as rule;
+ghost use Rattle.vap_parse.specs.Kinds.{declares};
 ghost use Rattle.vap_parse.specs.View.{values_of};
 ghost use Rattle.vap_parse.specs.declared.kind.Kind.TheVariants as kind;
 
 use crate::cursor::Cursor;
-use crate::kind::Kind;
+use crate::kind::{Kind, declares};
 use crate::statement::semis;
 use crate::stop::Stop;
 use std::alloc::Global;
@@ -189,15 +190,6 @@ fn declaration(
     semis(tokens)
 }
 
-fn declares(kind: Kind) -> bool
-    ensures { result ≡ rule.declares kind }
-{
-    match kind {
-        Kind::VapFrequency | Kind::Const | Kind::Array => true,
-        _ => false,
-    }
-}
-
 /// Reads declarations, whose constants and arrays are put at the end.
 pub fn declarations(
     alloc: Global,
@@ -206,7 +198,7 @@ pub fn declarations(
     arrays: &mut Vec<ArrayDecl>,
 ) -> Result<(), Stop>
     ensures { Leaves
-        (spec.many rule.declares rule.declaration (map constant_of consts.old.items, map array_of arrays.old.items) tokens.old)
+        (spec.many declares rule.declaration (map constant_of consts.old.items, map array_of arrays.old.items) tokens.old)
         result (map constant_of consts.new.items, map array_of arrays.new.items) tokens.new }
 {
     while declares(tokens.peek()) {

@@ -9,4 +9,5 @@ mod program;
 mod statement;
 mod stop;
 
+pub use kind::all_have_words;
 pub use program::{ParseRefusal, ParseWhy, one_answer, parse};

@@ -1,5 +1,5 @@
 // Programs.
-ghost use Rattle.std.specs.Prelude.{◌≡◌, ◌<◌, [], List, ℕ, IfOk, IfErr};
+ghost use Rattle.std.specs.Prelude.{◌≡◌, ◌<◌, ◌⊎◌, [], List, ℕ, IfOk, IfErr};
 ghost use Rattle.std.specs.List.{All};
 ghost use Rattle.vap_ast.specs.Parsed.{IsLine, Parsed};
 ghost use Rattle.vap_ast.specs.Syntax as plain;
@@ -176,6 +176,7 @@ pub fn parse(alloc: Global, tokens: &Tokens) -> Result<Program, ParseRefusal>
 
 /// A list of tokens has one tree, or one refused place with one reason, and never both.
 pub fn one_answer()
+    ensures some { (ts : List Token) → ((p : plain.Program) × Accepts ts p) ⊎ ((w : Reason) × (r : List Token) × Refuses ts w r) }
     ensures tree { (ts : List Token) (p q : plain.Program) → Accepts ts p → Accepts ts q → p ≡ q }
     ensures refusal { (ts : List Token) (v w : Reason) (q r : List Token) → Refuses ts v q → Refuses ts w r → (v ≡ w) × (q ≡ r) }
     ensures apart { (ts : List Token) (p : plain.Program) (w : Reason) (r : List Token) → Accepts ts p → Refuses ts w r → ⊥ }

@@ -1,7 +1,8 @@
 use Rattle.std.proofs.Common.{◌≡◌, length, map}
 use Rattle.vap_ast.specs.Tree.{constant_of, array_of}
 use Rattle.vap_parse.specs.Input.{many}
-use Rattle.vap_parse.specs.Descent.{declares, declaration}
+use Rattle.vap_parse.specs.Descent.{declaration}
+use Rattle.vap_parse.specs.Kinds.{declares}
 use Rattle.vap_parse.proofs.declaration.declarations.Given as goal
 
 -- what is left of the rounds completes the list

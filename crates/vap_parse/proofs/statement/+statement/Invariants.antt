@@ -1,7 +1,8 @@
 use Rattle.std.proofs.Common.{◌≡◌, ◌+◌, ◌*◌, length, map}
 use Rattle.vap_ast.specs.Tree.{item_of}
 use Rattle.vap_parse.specs.Input.{many}
-use Rattle.vap_parse.specs.Descent.{begins, items, inside, one_more}
+use Rattle.vap_parse.specs.Descent.{items, inside, one_more}
+use Rattle.vap_parse.specs.Kinds.{begins}
 use Rattle.vap_parse.proofs.statement.+statement.Given as goal
 
 abbrev pub decreases-otherwise : goal.decreases-otherwise
