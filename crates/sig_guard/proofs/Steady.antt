@@ -6,7 +6,8 @@ use Rattle.sig_types.specs.declared.aspect.Aspect.{Aspect}
 use Rattle.sig_types.specs.declared.aspect.Aspect.TheVariants.{Red, RedAmber, Green, Amber}
 use Rattle.sig_types.specs.Turns.{Picture, History, shown, trace, is_on}
 use Rattle.sig_types.specs.Rules.{Rules}
-use Rattle.sig_guard.specs.Step.{shows_wish, IsSteadyBelow, natural_after, natural_to, natural, wants_end, wants_start, end_breach, start_breach, ends_to, starts_to, refused_ends_to, refused_to, guard_picture, guard_refused}
+use Rattle.sig_guard.specs.Step.{natural_after, natural_to, natural, wants_end, wants_start, end_breach, start_breach, ends_to, starts_to, refused_ends_to, refused_to, guard_picture, guard_refused}
+use Rattle.sig_guard.specs.Steady.{shows_wish, IsSteadyBelow}
 use Rattle.sig_guard.proofs.Pictures.{set_if-other, ends_to-before, starts_to-before}
 use Rattle.sig_guard.proofs.MachineLemmas.{natural_red, natural_green, ends_unwanted, starts_unwanted, listed_off}
 

@@ -2,7 +2,7 @@ use Rattle.std.proofs.Common.{◌∙◌, ◌-◌, length, sym, arith}
 use Rattle.std.proofs.lemmas.List.{ext_get_or}
 use Rattle.sig_types.specs.declared.aspect.Aspect.TheVariants.{Red}
 use Rattle.sig_guard.specs.Stands.{kept_rules}
-use Rattle.sig_guard.specs.Step.{is_red_wished}
+use Rattle.sig_guard.specs.Steady.{is_red_wished}
 use Rattle.sig_guard.proofs.InPlace.{size_is}
 use Rattle.sig_guard.proofs.Pictures.{ends_to-length, natural_to-length}
 use Rattle.sig_guard.proofs.Counts.{many_le}

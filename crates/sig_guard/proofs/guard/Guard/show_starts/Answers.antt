@@ -1,6 +1,6 @@
 use Rattle.std.proofs.Common.{rules, ◌∙◌, ◌-◌, length, arith, ◌<◌, ap, not}
 use Rattle.sig_guard.specs.Stands.{kept_rules}
-use Rattle.sig_guard.specs.Step.{is_red_wished, is_green_wished}
+use Rattle.sig_guard.specs.Steady.{is_red_wished, is_green_wished}
 use Rattle.sig_guard.proofs.Counts.{many_apart, many_more}
 use Rattle.sig_guard.proofs.Steady.{starts_stay, no_start_refused}
 use Rattle.sig_guard.proofs.guard.Guard.show_starts.Goals as goal
