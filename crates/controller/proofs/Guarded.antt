@@ -83,7 +83,7 @@ record_at logic site past (f ∷ fs) (suc n) r lt = record_at logic site (longer
 pub runs_are_guarded : RunsAreGuarded
 runs_are_guarded logic site store frames two count = record {
   safe = safe;
-  greens = λ i g z b u. green_after_intergreen site.rules (pictures_of site (run_from logic site (opening site store) frames)) i g z b u safe;
+  greens = green_after_intergreen site.rules (pictures_of site (run_from logic site (opening site store) frames)) safe;
   histories = λ n le. history_of_run logic site (opening site store) (take n frames)
       ∙ ap (λ rs. pictures_of site rs) (run_front logic site (opening site store) frames n);
   seconds = λ n r lt.

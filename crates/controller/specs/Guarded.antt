@@ -1,5 +1,5 @@
 -- What holds of a run's records, whatever decides its passes.
-use Rattle.std.specs.Prelude.{◌≡◌, ℕ, ◌+◌, ◌<◌, ◌≤◌, Bool, true, List, [], ◌∷◌, ◌++◌, length, take, replicate, slice_index_or, Some, All}
+use Rattle.std.specs.Prelude.{◌≡◌, ℕ, ◌<◌, ◌≤◌, Bool, List, [], ◌∷◌, ◌++◌, length, take, replicate, slice_index_or, Some, All}
 use Rattle.sig_types.specs.declared.aspect.Aspect.TheVariants.{Red}
 use Rattle.sig_types.specs.declared.numbers.Command.{Command}
 use Rattle.sig_types.specs.declared.numbers.Command.TheVariants.{Interstage}
@@ -9,10 +9,10 @@ use Rattle.sig_types.specs.declared.record.Record.{Record}
 use Rattle.sig_types.specs.Counts.{Counts}
 use Rattle.sig_types.specs.Pass.{End, Logic, Store, commands_after}
 use Rattle.sig_types.specs.Rules.{Rules, IsTwoWay}
-use Rattle.sig_types.specs.Turns.{History, trace, turns_green_at, ends_at}
-use Rattle.pua_model.specs.Plan.{PlanOf, groups_in}
+use Rattle.sig_types.specs.Turns.{History}
+use Rattle.pua_model.specs.Plan.{PlanOf, groups_in, group_number}
 use Rattle.stage_machine.specs.Orders.{Order, place_at, refused_order}
-use Rattle.sig_guard.specs.Laws.{BreaksRule, obeyed, place_of}
+use Rattle.sig_guard.specs.Laws.{BreaksRule, GreensWait, obeyed}
 use Rattle.sig_guard.specs.Safety.{Safe}
 use Rattle.sig_guard.specs.Step.{guard_picture}
 use Rattle.controller.specs.Past.{Site, Past, opening, next}
@@ -22,16 +22,10 @@ use Rattle.controller.specs.Second.{orders_after, wishes_in, pass_of, past_of, r
 abbrev pub pictures_of : Site → List Record → History
 pictures_of site rs = replicate (groups_in site.plan) Red ∷ record_pictures rs
 
--- each green begins only after the intergreens from all groups in conflict
-abbrev pub GreensWait : Rules → History → Type 0
-GreensWait rules h =
-    (i g z b u : ℕ) → i < rules.count → g < rules.count → rules.between i g ≡ Some z →
-    turns_green_at (trace h g) u ≡ true → u < length h → ends_at (trace h i) b ≡ true → b ≤ u → b + z ≤ u
-
 -- a refused turn, shown all the same in the picture built so far, would break the very rule that the refusal names
 abbrev pub WouldBreak : Rules → History → List Bool → TurnRefusal → Type 0
 WouldBreak rules h wishes turn =
-    BreaksRule rules (h ++ obeyed rules h wishes turn.group.0 ∷ []) turn.group.0 turn.rule (place_of turn.other)
+    BreaksRule rules (h ++ obeyed rules h wishes turn.group.0 ∷ []) turn.group.0 turn.rule (group_number turn.other)
 
 -- a stage command of second k was refused: its rule refuses it in the place where the commands before it left the junction
 pub record IsRefusedStage (plan : PlanOf) (k : ℕ) (orders : List Order) (commands : List Command)

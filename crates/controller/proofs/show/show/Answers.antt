@@ -4,6 +4,11 @@ use Rattle.controller.proofs.show.show.Goals as goal
 pub is_settled-requires : goal.is_settled-requires
 is_settled-requires c = λ stage is. (c.requires.settled stage is).numbered
 
+pub stay-requires-clause-shown : goal.stay-requires-clause-shown
+stay-requires-clause-shown c =
+    let active = c.is_settled.ensures c.if-is_settled.true in
+    (c.args.wishes.now, (c.requires.settled active.0 active.1).shown)
+
 pub returns-then-is_settled-clause-place : goal.returns-then-is_settled-clause-place
 returns-then-is_settled-clause-place c = λ orders k s.
     let active = c.is_settled.ensures c.if-is_settled.true in
