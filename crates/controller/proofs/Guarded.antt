@@ -5,7 +5,7 @@ use Rattle.std.proofs.lemmas.List.Elements.{All-append, All-cons, All-nil}
 use Rattle.sig_types.specs.declared.aspect.Aspect.TheVariants.{Red}
 use Rattle.sig_types.specs.declared.aspect.Rule.{Rule}
 use Rattle.sig_types.specs.declared.numbers.Command.{Command}
-use Rattle.sig_types.specs.declared.numbers.Command.TheVariants.{Interstage, SgGreen, SgRed, ClearFronts, ClearRears}
+use Rattle.sig_types.specs.declared.numbers.Command.TheVariants.{Interstage, SgGreen, SgRed, ClearFronts, ClearRears, SetCycle}
 use Rattle.sig_types.specs.declared.refused.StageRefusal.{StageRefusal}
 use Rattle.sig_types.specs.declared.record.Record.{Record}
 use Rattle.sig_types.specs.Counts.{Counts}
@@ -39,6 +39,7 @@ first_refused plan k orders (SgGreen g) cs = All-nil (IsRefusedStage plan k orde
 first_refused plan k orders (SgRed g) cs = All-nil (IsRefusedStage plan k orders (SgRed g ∷ cs))
 first_refused plan k orders (ClearFronts d) cs = All-nil (IsRefusedStage plan k orders (ClearFronts d ∷ cs))
 first_refused plan k orders (ClearRears d) cs = All-nil (IsRefusedStage plan k orders (ClearRears d ∷ cs))
+first_refused plan k orders (SetCycle n) cs = All-nil (IsRefusedStage plan k orders (SetCycle n ∷ cs))
 
 stages_refused : (plan : PlanOf) (k : ℕ) (orders : List Order) (cs : List Command) →
     All (IsRefusedStage plan k orders cs) (refusals_of plan k orders cs)

@@ -7,6 +7,7 @@ ghost use Rattle.controller.specs.Standing.{MeansWorld};
 ghost use Rattle.sig_guard.specs.Stands.{rules};
 ghost use Rattle.pua_model.specs.Plan.{groups_in};
 
+use crate::cycle::{Cycle, set_cycle};
 use actuation::Actuation;
 use pua_model::Plan;
 use sig_guard::Guard;
@@ -24,7 +25,9 @@ pub struct SecondWorld<'a> {
     pub guard: &'a Guard,
     pub stages: &'a StageState,
     pub actuation: &'a Actuation,
+    pub cycle: Cycle,
     ghost fits: { second < 2 ^ 31 },
+    ghost set: { cycle.set < second },
     ghost groups: { (rules guard.now).count ≡ groups_in plan.now },
 }
 
@@ -53,7 +56,7 @@ impl SecondWorld<'_> {
     fn last_aspect(&self, group: GroupNo) -> Aspect
         requires { group.0 < groups_in self.now.plan.now }
         ensures { (past : Past) (frames : List Counts) →
-            Standing self.now.plan.now self.now.guard.now self.now.stages.now self.now.actuation.now past frames →
+            Standing self.now.plan.now self.now.guard.now self.now.stages.now self.now.actuation.now self.now.cycle past frames →
             result ≡ trace past.history group.0 (next past - 1) }
     {
         self.guard.picture().get(group.0)
@@ -61,7 +64,7 @@ impl SecondWorld<'_> {
 
     fn shows(&self, number: i32, aspect: Aspect) -> Option<i32>
         ensures { (past : Past) (frames : List Counts) →
-            Standing self.now.plan.now self.now.guard.now self.now.stages.now self.now.actuation.now past frames →
+            Standing self.now.plan.now self.now.guard.now self.now.stages.now self.now.actuation.now self.now.cycle past frames →
             result ≡ shown_in self.now.plan.now past number aspect }
     {
         match self.plan.find_group(number) {
@@ -72,7 +75,7 @@ impl SecondWorld<'_> {
 
     fn green_seconds(&self, number: i32) -> Option<i32>
         ensures { (past : Past) (frames : List Counts) →
-            Standing self.now.plan.now self.now.guard.now self.now.stages.now self.now.actuation.now past frames →
+            Standing self.now.plan.now self.now.guard.now self.now.stages.now self.now.actuation.now self.now.cycle past frames →
             result ≡ green_for self.now.plan.now past number }
     {
         match self.plan.find_group(number) {
@@ -83,7 +86,7 @@ impl SecondWorld<'_> {
 
     fn red_seconds(&self, number: i32) -> Option<i32>
         ensures { (past : Past) (frames : List Counts) →
-            Standing self.now.plan.now self.now.guard.now self.now.stages.now self.now.actuation.now past frames →
+            Standing self.now.plan.now self.now.guard.now self.now.stages.now self.now.actuation.now self.now.cycle past frames →
             result ≡ red_for self.now.plan.now past number }
     {
         match self.plan.find_group(number) {
@@ -94,7 +97,7 @@ impl SecondWorld<'_> {
 
     fn stage_active(&self, number: i32) -> Option<i32>
         ensures { (past : Past) (frames : List Counts) →
-            Standing self.now.plan.now self.now.guard.now self.now.stages.now self.now.actuation.now past frames →
+            Standing self.now.plan.now self.now.guard.now self.now.stages.now self.now.actuation.now self.now.cycle past frames →
             result ≡ is_in_stage self.now.plan.now past number }
     {
         match self.plan.find_stage(number) {
@@ -105,7 +108,7 @@ impl SecondWorld<'_> {
 
     fn stage_duration(&self, number: i32) -> Option<i32>
         ensures { (past : Past) (frames : List Counts) →
-            Standing self.now.plan.now self.now.guard.now self.now.stages.now self.now.actuation.now past frames →
+            Standing self.now.plan.now self.now.guard.now self.now.stages.now self.now.actuation.now self.now.cycle past frames →
             self.now.second ≡ next past →
             result ≡ stage_for self.now.plan.now past number }
     {
@@ -123,7 +126,7 @@ impl SecondWorld<'_> {
 
     fn interstage_active(&self, a: i32, b: i32) -> Option<i32>
         ensures { (past : Past) (frames : List Counts) →
-            Standing self.now.plan.now self.now.guard.now self.now.stages.now self.now.actuation.now past frames →
+            Standing self.now.plan.now self.now.guard.now self.now.stages.now self.now.actuation.now self.now.cycle past frames →
             result ≡ is_in_interstage self.now.plan.now past a b }
     {
         match (self.plan.find_stage(a), self.plan.find_stage(b)) {
@@ -143,7 +146,7 @@ impl SecondWorld<'_> {
     #[inline(always)]
     fn read_in(&self, kind: ReadingKind, a: i32, b: i32) -> Option<i32>
         ensures { (past : Past) (frames : List Counts) →
-            Standing self.now.plan.now self.now.guard.now self.now.stages.now self.now.actuation.now past frames →
+            Standing self.now.plan.now self.now.guard.now self.now.stages.now self.now.actuation.now self.now.cycle past frames →
             self.now.second ≡ next past →
             result ≡ reading_in self.now.plan.now past frames kind a b }
     {
@@ -163,6 +166,8 @@ impl SecondWorld<'_> {
             ReadingKind::StageDuration => self.stage_duration(a),
             ReadingKind::InterstageActive => self.interstage_active(a, b),
             ReadingKind::AnyInterstage => Some(truth(is_inter(self.stages.place()))),
+            ReadingKind::CycleSecond => Some(i32::from(self.cycle.second_in(self.second))),
+            ReadingKind::CycleLength => Some(i32::from(self.cycle.length)),
         }
     }
 
@@ -192,12 +197,13 @@ impl SecondWorld<'_> {
                 None => None,
                 Some(detector) => Some(Command::ClearRears(detector)),
             },
+            CommandKind::SetCycle => set_cycle(a),
         }
     }
 }
 
 impl World for SecondWorld<'_> {
-    ghost means = { λ w world. MeansWorld w.second w.plan.now w.guard.now w.stages.now w.actuation.now world };
+    ghost means = { λ w world. MeansWorld w.second w.plan.now w.guard.now w.stages.now w.actuation.now w.cycle world };
 
     ghost allows = { λ w command. IsCommand w.plan.now command };
 

@@ -1,7 +1,9 @@
-use Rattle.std.proofs.Common.{◌≡◌, ◌∙◌, ◌+◌, ◌-◌, [], ◌∷◌, ◌++◌, length, sym, ap, subst, arith, length-append}
+use Rattle.std.proofs.Common.{◌≡◌, ◌∙◌, ℕ, ◌+◌, ◌-◌, List, [], ◌∷◌, ◌++◌, length, sym, ap, subst, arith, length-append}
 use Rattle.sig_types.specs.Pass.{begun, commands_after}
 use Rattle.controller.specs.Controls.{StandsFor, site_of, logic_of, last_record}
 use Rattle.sig_types.specs.Detectors.{ClearsUntil}
+use Rattle.controller.specs.declared.cycle.Cycle.{Cycle}
+use Rattle.controller.specs.Cycles.{KeepsCycle, cycle_before, last_length, cycles_after}
 use Rattle.controller.specs.Past.{next}
 use Rattle.stage_machine.specs.Orders.{place_at}
 use Rattle.stage_machine.specs.Stands.{StandsFor as StagesStand}
@@ -25,10 +27,11 @@ returns-clause-record c = λ past s.
     let frames = past.frames ++ frame ∷ [] in
     let stages : StagesStand c.step.new.self me.plan past.orders (length past.frames + 1) = c.step.ensures past.orders (length past.frames) s.stages in
     let stages_k : StagesStand c.step.new.self me.plan past.orders (next past) = subst (λ k. StagesStand c.step.new.self me.plan past.orders k) (sym s.seconds) stages in
-    let standing : Standing me.plan me.guard c.step.new.self c.take.new.self past frames = record {
+    let standing : Standing me.plan me.guard c.step.new.self c.take.new.self me.cycle past frames = record {
       guard_stands = s.guard;
       stages_stand = stages_k;
       actuation_stands = c.take.ensures past.frames past.clears s.readings;
+      cycle_stands = s.cycles.last ∙ ap (cycle_before past.cycles) (sym s.seconds);
       seconds = length-append past.frames (frame ∷ []) ∙ sym s.seconds;
       begun = omega (arith, s.seconds);
       until = subst (λ n. ClearsUntil past.clears n) (let n : length past.frames ≡ length frames - 1 = omega (arith, length-append past.frames (frame ∷ [])) in n) (clears_of me.actuation past.frames past.clears s.readings);
@@ -63,10 +66,11 @@ returns-clause-stands c = λ past s.
     let frames = past.frames ++ frame ∷ [] in
     let stages : StagesStand c.step.new.self me.plan past.orders (length past.frames + 1) = c.step.ensures past.orders (length past.frames) s.stages in
     let stages_k : StagesStand c.step.new.self me.plan past.orders (next past) = subst (λ k. StagesStand c.step.new.self me.plan past.orders k) (sym s.seconds) stages in
-    let standing : Standing me.plan me.guard c.step.new.self c.take.new.self past frames = record {
+    let standing : Standing me.plan me.guard c.step.new.self c.take.new.self me.cycle past frames = record {
       guard_stands = s.guard;
       stages_stand = stages_k;
       actuation_stands = c.take.ensures past.frames past.clears s.readings;
+      cycle_stands = s.cycles.last ∙ ap (cycle_before past.cycles) (sym s.seconds);
       seconds = length-append past.frames (frame ∷ []) ∙ sym s.seconds;
       begun = omega (arith, s.seconds);
       until = subst (λ n. ClearsUntil past.clears n) (let n : length past.frames ≡ length frames - 1 = omega (arith, length-append past.frames (frame ∷ [])) in n) (clears_of me.actuation past.frames past.clears s.readings);
@@ -97,6 +101,9 @@ returns-clause-stands c = λ past s.
       stages = subst (λ k. StagesStand c.obey.new.stages me.plan (orders_after me.plan (next past) past.orders (commands_after e)) k) (sym len)
           (subst (λ os. StagesStand c.obey.new.stages me.plan os (next past)) orders after);
       readings = readings;
+      cycles = subst (λ (x : List Cycle × ℕ). KeepsCycle c.after-self.result x.0 x.1)
+          (λ i. (cycles_after (second i) past.cycles ((c.last_length.ensures ∙ ap last_length commands) i), (second ∙ sym len) i))
+          (c.after-self.ensures past.cycles (length past.frames) (ap (λ n. n + 1) (sym s.numbered)) s.cycles);
       store = p.store_is;
       began = c.decide-end.ensures.seconds ∙ c.begin_second.ensures.seconds ∙ ap (λ n. n + 1) s.began ∙ sym long;
       seconds = length-append past.history _ ∙ ap (λ n. n + 1) (sym len);
@@ -122,6 +129,7 @@ decide-end-requires-clause-stands c =
         guard_stands = s.guard;
         stages_stand = subst (λ k. StagesStand c.step.new.self me.plan past.orders k) (sym s.seconds) stages;
         actuation_stands = c.take.ensures past.frames past.clears s.readings;
+        cycle_stands = s.cycles.last ∙ ap (cycle_before past.cycles) (sym s.seconds);
         seconds = length-append past.frames (frame ∷ []) ∙ sym s.seconds;
         begun = omega (arith, s.seconds);
         until = subst (λ n. ClearsUntil past.clears n) (let n : length past.frames ≡ length frames - 1 = omega (arith, length-append past.frames (frame ∷ [])) in n) (clears_of me.actuation past.frames past.clears s.readings);
