@@ -3,15 +3,20 @@
 
 The site is the four-arm junction of crates/junction/examples/four_arms. `traffic` has an entry d:1:1 in line k for each
 detector d from 1 to 12 for which d + 5 divides k + 7 d; `empty` has as many empty lines; the program `units.vap` spends
-all 10,000 units of each second.
+all 10,000 units of each second. `names.vap` declares many constants, and `colliding.vap` as many whose names have hashes that
+collide (names.rs, built with rustc).
 """
+import itertools
 import os
 import shutil
+import subprocess
 import sys
 
 SECONDS = 604_800
 UNITS_SECONDS = 2_000
-EXAMPLE = os.path.join(os.path.dirname(os.path.abspath(__file__)), "../crates/junction/examples/four_arms")
+NAMES = 18_000
+HERE = os.path.dirname(os.path.abspath(__file__))
+EXAMPLE = os.path.join(HERE, "../crates/junction/examples/four_arms")
 
 UNITS = """PROGRAM units;
 i := 0;
@@ -27,6 +32,18 @@ def traffic(second):
     return " ".join(f"{d}:1:1" for d in range(1, 13) if (second + 7 * d) % (d + 5) == 0) + "\n"
 
 
+def constants(names):
+    """Returns a program that declares these names."""
+    return "PROGRAM names;\nCONST\n" + ",\n".join(f"{name} = 1" for name in names) + ";\nPROG_ENDE: .\n"
+
+
+def colliding(folder):
+    """Returns names of six letters whose hashes collide."""
+    program = os.path.join(folder, "names")
+    subprocess.run(["rustc", "--edition", "2021", "-O", "-o", program, os.path.join(HERE, "names.rs")], check=True)
+    return subprocess.run([program, str(NAMES)], check=True, stdout=subprocess.PIPE, text=True).stdout.split()
+
+
 def main():
     folder = sys.argv[1]
     os.makedirs(folder, exist_ok=True)
@@ -37,6 +54,8 @@ def main():
         "empty.txt": "\n" * SECONDS,
         "units.vap": UNITS,
         "units.txt": "\n" * UNITS_SECONDS,
+        "names.vap": constants("".join(letters) for letters in itertools.islice(itertools.product("klmnopqrst", repeat=6), NAMES)),
+        "colliding.vap": constants(colliding(folder)),
     }
     for name, text in texts.items():
         with open(os.path.join(folder, name), "w") as file:
