@@ -12,5 +12,7 @@ mod rows;
 mod summary;
 mod words;
 
-pub use log::{put_header, put_second, write_header, write_second};
+pub use log::{put_header, put_letters, put_second, write_header, write_second};
+pub use refused::put_turn;
 pub use summary::{Summary, put_summary};
+pub use words::rule_name;

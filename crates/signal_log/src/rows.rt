@@ -148,6 +148,21 @@ fn put_quiet(row: &mut [u8], at: usize) -> usize
     put_byte(row, at, b'\n')
 }
 
+/// The letters of a picture, one for each group.
+#[derive(Clone, Copy)]
+pub struct Letters<'a> {
+    /// The picture.
+    pub picture: &'a Picture,
+}
+
+impl<'a> Piece for Letters<'a> {
+    ghost text = { λ l. map letter l.picture.now };
+
+    fn write(&self, buffer: &mut [u8], at: usize) -> usize {
+        put_letters(buffer, at, self.picture)
+    }
+}
+
 /// The front of a record: the second, the stage and a letter for each group, each before a bar; and all that follows in a
 /// quiet one.
 #[derive(Clone, Copy)]
