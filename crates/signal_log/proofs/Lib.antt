@@ -1,9 +1,12 @@
 pub mod CountTexts
 pub mod FieldTexts
 pub mod Fronts
+pub mod Lengths
 pub mod Lists
 pub mod LogLaws
+pub mod LogLines
 pub mod Pieces
+pub mod Plain
 mod Sample
 pub mod Summed
 pub mod Tallies

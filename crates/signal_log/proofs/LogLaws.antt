@@ -5,10 +5,11 @@ use Rattle.pua_model.specs.Plan.{are_names}
 use Rattle.sig_types.specs.declared.record.Record.{Record}
 use Rattle.signal_log.specs.Laws.{ArePrintable, frames_of, LogCounts, LogSpells}
 use Rattle.sig_types.specs.LogForm.{letter}
-use Rattle.signal_log.specs.Log.{place_text, stage_refusal_text, turn_text, refused_texts, fault_text, record_text, records_text, header_text, log_text, parted, counted_from, count_text}
-use Rattle.signal_log.proofs.Without.{Without, tail_of, cut_once, decimal_without}
+use Rattle.signal_log.specs.Log.{place_text, refused_texts, fault_text, record_text, records_text, header_text, log_text, parted, counted_from, count_text}
+use Rattle.signal_log.proofs.Without.{Without, tail_of, cut_once}
 use Rattle.signal_log.proofs.CountTexts.{counts_injective}
-use Rattle.signal_log.proofs.FieldTexts.{bar_no_digit, letters_without, place_without, no_bars-append, parted_without, counts_no_bars, stages_no_bars, turns_no_bars, fault_without}
+use Rattle.signal_log.proofs.Plain.{plain_without, no_bar, no_feed, decimal_plain}
+use Rattle.signal_log.proofs.FieldTexts.{letters_plain, place_plain, parted_plain, counts_plain, refused_plain, fault_plain}
 
 -- six fields and what follows them, one after the other
 abbrev six : List ℕ → List ℕ → List ℕ → List ℕ → List ℕ → List ℕ → List ℕ → List ℕ
@@ -83,13 +84,12 @@ record_shape names r rest =
 record_cuts : (names : List (List ℕ)) (r : Record) → are_names names ≡ true →
     Cuts (decimal r.second.0) (place_text r.place) (map letter r.picture) (counts_of r) (refused_of names r) (fault_text r.fault)
 record_cuts names r named = record {
-  first = decimal_without 124 r.second.0 bar_no_digit;
-  second = place_without r.place;
-  third = letters_without r.picture;
-  fourth = parted_without (map count_text (counted_from 1 r.frame)) (counts_no_bars (counted_from 1 r.frame));
-  fifth = parted_without (refused_texts names r.stages r.turns)
-      (no_bars-append (map stage_refusal_text r.stages) (map (turn_text names) r.turns) (stages_no_bars r.stages) (turns_no_bars names r.turns named));
-  sixth = fault_without r.fault;
+  first = plain_without 124 _ no_bar (decimal_plain r.second.0);
+  second = plain_without 124 _ no_bar (place_plain r.place);
+  third = plain_without 124 _ no_bar (letters_plain r.picture);
+  fourth = plain_without 124 _ no_bar (parted_plain (map count_text (counted_from 1 r.frame)) (counts_plain (counted_from 1 r.frame)));
+  fifth = plain_without 124 _ no_bar (refused_plain names r named);
+  sixth = plain_without 10 _ no_feed (fault_plain r.fault);
 }
 
 -- what begins with a record isn't empty
