@@ -1,4 +1,3 @@
 pub mod PassFacts
 pub mod Sizes
 pub mod StepFacts
-pub mod TaskFacts

@@ -2,5 +2,4 @@ pub mod Operands
 pub mod Operators
 pub mod Passes
 pub mod Run
-pub mod Tasks
 pub mod View

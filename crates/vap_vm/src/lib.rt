@@ -14,7 +14,6 @@ mod passes;
 mod run;
 mod slots;
 mod steps;
-mod tasks;
 mod world;
 
 pub use passes::{PassEnd, Vm};

@@ -12,7 +12,6 @@ use crate::machine::{Machine, Next};
 use crate::run::run;
 use crate::slots::{Slots, count_on};
 use crate::steps::Steps;
-use crate::tasks::{Task, tasks_of};
 use crate::world::World;
 use code_verify::{Verified, valid_code_runs_well};
 use sig_types::{Command, Fault, Memory};
@@ -35,7 +34,6 @@ pub enum PassEnd {
 #[derive(Drop)]
 pub struct Vm {
     code: Verified,
-    tasks: Vec<Task>,
     machine: Machine,
     before: Slots,
     seconds: u32,
@@ -44,7 +42,6 @@ pub struct Vm {
 impl Model for Vm {
     ghost use Rattle.std.specs.Prelude.{◌≡◌, false};
     ghost use Rattle.vap_vm.specs.Passes.{Kept, Ready};
-    ghost use Rattle.vap_vm.specs.Tasks.{instrs_of, Joined};
     ghost use Rattle.vap_vm.specs.View.{store_of, SameSizes};
 
     ghost Value = { Kept };
@@ -53,8 +50,6 @@ impl Model for Vm {
 
     ghost invariant = { λ vm.
         Ready (record { code = vm.code; store = store_of vm.machine; seconds = vm.seconds })
-        × (instrs_of vm.tasks.items ≡ vm.code.instrs)
-        × Joined vm.tasks.items
         × SameSizes vm.before vm.machine.slots
         × (vm.machine.wrote_cells ≡ false → vm.before.arrays ≡ vm.machine.slots.arrays) };
 }
@@ -108,10 +103,10 @@ impl Vm {
         let wrote_cells = self.machine.wrote_cells;
         self.before.copy_from(&self.machine.slots, wrote_cells);
         let code = self.code.code();
-        let tasks = self.tasks.as_slice();
+        let instrs = code.instrs.as_slice();
         let starts = code.starts.as_slice();
         let mut head = self.machine.begin(last_start(starts), unit_limit());
-        match run(tasks, starts, world, &mut head, &mut self.machine, steps) {
+        match run(instrs, starts, world, &mut head, &mut self.machine, steps) {
             Next::End => PassEnd::Done,
             Next::Fault(kind) => {
                 mem::swap(&mut self.machine.slots, &mut self.before);
@@ -143,10 +138,8 @@ fn with_room(alloc: Global, code: Verified) -> Result<Vm, AllocError>
     let slots = Slots::of(alloc, code.code())?;
     let before = Slots::of(alloc, code.code())?;
     let machine = Machine::with_room(alloc, slots)?;
-    let tasks = tasks_of(alloc, code.code().instrs.as_slice())?;
     Ok(Vm {
         code,
-        tasks,
         machine,
         before,
         seconds: 0,

@@ -10,10 +10,8 @@ invariant_of-self c =
     let s = c.self.inside in
     let i = c.self.invariant in (
       ready_next (record { code = s.code; store = store_of s.machine; seconds = s.seconds }) _ i.0 (omega (arith, c.requires, ap (λ v. v.seconds) c.self.view_is)) refl (λ k. record (store_of s.machine) { timers = c.count_on.ensures k }) refl,
-      i.1,
+      record { variables = i.1.variables; arrays = i.1.arrays; timers = i.1.timers ∙ sym (ap length c.count_on.ensures ∙ length-map s.machine.slots.timers.items counted) },
       i.2,
-      record { variables = i.3.variables; arrays = i.3.arrays; timers = i.3.timers ∙ sym (ap length c.count_on.ensures ∙ length-map s.machine.slots.timers.items counted) },
-      i.4,
     )
 
 pub returns-clause-ready : goal.returns-clause-ready

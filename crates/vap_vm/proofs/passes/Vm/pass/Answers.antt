@@ -3,7 +3,6 @@ use Rattle.sig_types.specs.Pass.{unit_limit, Done, Unfinished}
 use Rattle.vap_code.specs.Machine.{last_start, machine}
 use Rattle.vap_vm.specs.Passes.{Kept}
 use Rattle.vap_vm.specs.Run.{end_of}
-use Rattle.vap_vm.specs.Tasks.{instrs_of, Joined}
 use Rattle.vap_vm.specs.View.{state_of, store_of, SameSizes}
 use Rattle.vap_vm.proofs.PassFacts.{begun_state, start_of, exec_is, steps_is, over_is, room_is, ready_done, few_done, never, ready_fault, restored, step_limit_number}
 use Rattle.vap_vm.proofs.Sizes.{sizes_on, sizes_back}
@@ -13,9 +12,9 @@ pub run-requires-clause-room : goal.run-requires-clause-room
 run-requires-clause-room g c =
     let s = c.self.inside in
     let kept : Kept = record { code = s.code; store = store_of s.machine; seconds = s.seconds } in
-    let instrs = instrs_of c.as_slice-tasks.result.now in
+    let instrs = c.as_slice-instrs.result.now in
     let starts = c.as_slice-starts.result.now in
-    let same_instrs = ap instrs_of c.as_slice-tasks.ensures.value ∙ c.self.invariant.1 in
+    let same_instrs = c.as_slice-instrs.ensures.value ∙ ap (λ code. code.instrs) c.code-code.ensures.same in
     let same_starts = c.as_slice-starts.ensures.value ∙ ap (λ code. code.starts) c.code-code.ensures.same in
     let begun = begun_state c.begin-head.result c.begin-head.new.self s.machine.slots (last_start s.code.starts) unit_limit (c.begin-head.ensures.place ∙ c.last_start.ensures ∙ ap last_start same_starts) c.begin-head.ensures.line (c.begin-head.ensures.units ∙ c.unit_limit.ensures.same) c.begin-head.ensures.operands c.begin-head.ensures.noted c.begin-head.ensures.commands c.begin-head.ensures.slots in
     λ w m. room_is kept instrs starts same_instrs same_starts (state_of c.begin-head.result c.begin-head.new.self) begun w (c.valid_code_runs_well.ensures s.code w (start_of kept) c.code-code.ensures.valid c.self.invariant.0.fits) c.self.invariant.0
@@ -24,23 +23,20 @@ pub run-requires-clause-over : goal.run-requires-clause-over
 run-requires-clause-over g c =
     let s = c.self.inside in
     let kept : Kept = record { code = s.code; store = store_of s.machine; seconds = s.seconds } in
-    let instrs = instrs_of c.as_slice-tasks.result.now in
+    let instrs = c.as_slice-instrs.result.now in
     let starts = c.as_slice-starts.result.now in
-    let same_instrs = ap instrs_of c.as_slice-tasks.ensures.value ∙ c.self.invariant.1 in
+    let same_instrs = c.as_slice-instrs.ensures.value ∙ ap (λ code. code.instrs) c.code-code.ensures.same in
     let same_starts = c.as_slice-starts.ensures.value ∙ ap (λ code. code.starts) c.code-code.ensures.same in
     let begun = begun_state c.begin-head.result c.begin-head.new.self s.machine.slots (last_start s.code.starts) unit_limit (c.begin-head.ensures.place ∙ c.last_start.ensures ∙ ap last_start same_starts) c.begin-head.ensures.line (c.begin-head.ensures.units ∙ c.unit_limit.ensures.same) c.begin-head.ensures.operands c.begin-head.ensures.noted c.begin-head.ensures.commands c.begin-head.ensures.slots in
     λ w m. over_is kept instrs starts same_instrs same_starts (state_of c.begin-head.result c.begin-head.new.self) begun w (c.valid_code_runs_well.ensures s.code w (start_of kept) c.code-code.ensures.valid c.self.invariant.0.fits)
-
-pub run-requires-clause-joined : goal.run-requires-clause-joined
-run-requires-clause-joined g c = subst Joined (sym c.as_slice-tasks.ensures.value) c.self.invariant.2
 
 pub invariant_of-self : goal.invariant_of-self
 invariant_of-self g c =
     let s = c.self.inside in
     let kept : Kept = record { code = s.code; store = store_of s.machine; seconds = s.seconds } in
-    let instrs = instrs_of c.as_slice-tasks.result.now in
+    let instrs = c.as_slice-instrs.result.now in
     let starts = c.as_slice-starts.result.now in
-    let same_instrs = ap instrs_of c.as_slice-tasks.ensures.value ∙ c.self.invariant.1 in
+    let same_instrs = c.as_slice-instrs.ensures.value ∙ ap (λ code. code.instrs) c.code-code.ensures.same in
     let same_starts = c.as_slice-starts.ensures.value ∙ ap (λ code. code.starts) c.code-code.ensures.same in
     let begun = begun_state c.begin-head.result c.begin-head.new.self s.machine.slots (last_start s.code.starts) unit_limit (c.begin-head.ensures.place ∙ c.last_start.ensures ∙ ap last_start same_starts) c.begin-head.ensures.line (c.begin-head.ensures.units ∙ c.unit_limit.ensures.same) c.begin-head.ensures.operands c.begin-head.ensures.noted c.begin-head.ensures.commands c.begin-head.ensures.slots in
     let w = c.requires.0 in
@@ -49,15 +45,15 @@ invariant_of-self g c =
     let back : SameSizes c.copy_from.new.self s.machine.slots = record { variables = ap length c.copy_from.ensures.variables; arrays = ap (map length) c.copy_from.ensures.arrays; timers = ap length c.copy_from.ensures.timers } in
     let on : SameSizes c.run.new.m.slots s.machine.slots = subst (λ x. SameSizes c.run.new.m.slots x) c.begin-head.ensures.slots c.run.ensures.keeps.sizes in
     let cells : c.run.new.m.wrote_cells ≡ false → c.run.new.m.slots.arrays ≡ c.copy_from.new.self.arrays = λ none. (c.run.ensures.keeps.cells none).1 ∙ ap (λ x. x.arrays) c.begin-head.ensures.slots ∙ sym c.copy_from.ensures.arrays in
-    (ready_done kept w c.run.new.m c.self.invariant.0 r is, c.self.invariant.1, c.self.invariant.2, sizes_on _ _ _ back (sizes_back _ _ on), λ none. sym (cells none))
+    (ready_done kept w c.run.new.m c.self.invariant.0 r is, sizes_on _ _ _ back (sizes_back _ _ on), λ none. sym (cells none))
 
 pub returns-in-End-clause-ready : goal.returns-in-End-clause-ready
 returns-in-End-clause-ready g c =
     let s = c.self.inside in
     let kept : Kept = record { code = s.code; store = store_of s.machine; seconds = s.seconds } in
-    let instrs = instrs_of c.as_slice-tasks.result.now in
+    let instrs = c.as_slice-instrs.result.now in
     let starts = c.as_slice-starts.result.now in
-    let same_instrs = ap instrs_of c.as_slice-tasks.ensures.value ∙ c.self.invariant.1 in
+    let same_instrs = c.as_slice-instrs.ensures.value ∙ ap (λ code. code.instrs) c.code-code.ensures.same in
     let same_starts = c.as_slice-starts.ensures.value ∙ ap (λ code. code.starts) c.code-code.ensures.same in
     let begun = begun_state c.begin-head.result c.begin-head.new.self s.machine.slots (last_start s.code.starts) unit_limit (c.begin-head.ensures.place ∙ c.last_start.ensures ∙ ap last_start same_starts) c.begin-head.ensures.line (c.begin-head.ensures.units ∙ c.unit_limit.ensures.same) c.begin-head.ensures.operands c.begin-head.ensures.noted c.begin-head.ensures.commands c.begin-head.ensures.slots in
     let w = c.requires.0 in
@@ -75,8 +71,6 @@ invariant_of-self-in-Fault g c =
     let after = subst (λ x. SameSizes x s.machine.slots) (sym c.swap.ensures.y_after) on in
     let cells : c.run.new.m.wrote_cells ≡ false → c.run.new.m.slots.arrays ≡ c.copy_from.new.self.arrays = λ none. (c.run.ensures.keeps.cells none).1 ∙ ap (λ x. x.arrays) c.begin-head.ensures.slots ∙ sym c.copy_from.ensures.arrays in (
       ready_fault kept _ c.self.invariant.0 (restored (ap (λ x. x.variables.items) c.swap.ensures.x_after ∙ c.copy_from.ensures.variables) (ap (λ x. x.arrays) c.swap.ensures.x_after ∙ c.copy_from.ensures.arrays) (ap (λ x. x.timers.items) c.swap.ensures.x_after ∙ c.copy_from.ensures.timers) c.clear.ensures),
-      c.self.invariant.1,
-      c.self.invariant.2,
       sizes_on _ _ _ after (sizes_back _ _ before),
       λ none. ap (λ x. x.arrays) c.swap.ensures.y_after ∙ cells none ∙ sym (ap (λ x. x.arrays) c.swap.ensures.x_after),
     )
@@ -85,9 +79,9 @@ pub unreachable-requires : goal.unreachable-requires
 unreachable-requires g c =
     let s = c.self.inside in
     let kept : Kept = record { code = s.code; store = store_of s.machine; seconds = s.seconds } in
-    let instrs = instrs_of c.as_slice-tasks.result.now in
+    let instrs = c.as_slice-instrs.result.now in
     let starts = c.as_slice-starts.result.now in
-    let same_instrs = ap instrs_of c.as_slice-tasks.ensures.value ∙ c.self.invariant.1 in
+    let same_instrs = c.as_slice-instrs.ensures.value ∙ ap (λ code. code.instrs) c.code-code.ensures.same in
     let same_starts = c.as_slice-starts.ensures.value ∙ ap (λ code. code.starts) c.code-code.ensures.same in
     let begun = begun_state c.begin-head.result c.begin-head.new.self s.machine.slots (last_start s.code.starts) unit_limit (c.begin-head.ensures.place ∙ c.last_start.ensures ∙ ap last_start same_starts) c.begin-head.ensures.line (c.begin-head.ensures.units ∙ c.unit_limit.ensures.same) c.begin-head.ensures.operands c.begin-head.ensures.noted c.begin-head.ensures.commands c.begin-head.ensures.slots in
     let w = c.requires.0 in
@@ -104,9 +98,9 @@ pub returns-in-End-clause-few : goal.returns-in-End-clause-few
 returns-in-End-clause-few g c =
     let s = c.self.inside in
     let kept : Kept = record { code = s.code; store = store_of s.machine; seconds = s.seconds } in
-    let instrs = instrs_of c.as_slice-tasks.result.now in
+    let instrs = c.as_slice-instrs.result.now in
     let starts = c.as_slice-starts.result.now in
-    let same_instrs = ap instrs_of c.as_slice-tasks.ensures.value ∙ c.self.invariant.1 in
+    let same_instrs = c.as_slice-instrs.ensures.value ∙ ap (λ code. code.instrs) c.code-code.ensures.same in
     let same_starts = c.as_slice-starts.ensures.value ∙ ap (λ code. code.starts) c.code-code.ensures.same in
     let begun = begun_state c.begin-head.result c.begin-head.new.self s.machine.slots (last_start s.code.starts) unit_limit (c.begin-head.ensures.place ∙ c.last_start.ensures ∙ ap last_start same_starts) c.begin-head.ensures.line (c.begin-head.ensures.units ∙ c.unit_limit.ensures.same) c.begin-head.ensures.operands c.begin-head.ensures.noted c.begin-head.ensures.commands c.begin-head.ensures.slots in
     let w = c.requires.0 in
@@ -118,9 +112,9 @@ pub returns-in-End-clause-bounded : goal.returns-in-End-clause-bounded
 returns-in-End-clause-bounded g c =
     let s = c.self.inside in
     let kept : Kept = record { code = s.code; store = store_of s.machine; seconds = s.seconds } in
-    let instrs = instrs_of c.as_slice-tasks.result.now in
+    let instrs = c.as_slice-instrs.result.now in
     let starts = c.as_slice-starts.result.now in
-    let same_instrs = ap instrs_of c.as_slice-tasks.ensures.value ∙ c.self.invariant.1 in
+    let same_instrs = c.as_slice-instrs.ensures.value ∙ ap (λ code. code.instrs) c.code-code.ensures.same in
     let same_starts = c.as_slice-starts.ensures.value ∙ ap (λ code. code.starts) c.code-code.ensures.same in
     let begun = begun_state c.begin-head.result c.begin-head.new.self s.machine.slots (last_start s.code.starts) unit_limit (c.begin-head.ensures.place ∙ c.last_start.ensures ∙ ap last_start same_starts) c.begin-head.ensures.line (c.begin-head.ensures.units ∙ c.unit_limit.ensures.same) c.begin-head.ensures.operands c.begin-head.ensures.noted c.begin-head.ensures.commands c.begin-head.ensures.slots in
     let w = c.requires.0 in
@@ -132,9 +126,9 @@ pub returns-in-Fault-clause-bounded : goal.returns-in-Fault-clause-bounded
 returns-in-Fault-clause-bounded g c =
     let s = c.self.inside in
     let kept : Kept = record { code = s.code; store = store_of s.machine; seconds = s.seconds } in
-    let instrs = instrs_of c.as_slice-tasks.result.now in
+    let instrs = c.as_slice-instrs.result.now in
     let starts = c.as_slice-starts.result.now in
-    let same_instrs = ap instrs_of c.as_slice-tasks.ensures.value ∙ c.self.invariant.1 in
+    let same_instrs = c.as_slice-instrs.ensures.value ∙ ap (λ code. code.instrs) c.code-code.ensures.same in
     let same_starts = c.as_slice-starts.ensures.value ∙ ap (λ code. code.starts) c.code-code.ensures.same in
     let begun = begun_state c.begin-head.result c.begin-head.new.self s.machine.slots (last_start s.code.starts) unit_limit (c.begin-head.ensures.place ∙ c.last_start.ensures ∙ ap last_start same_starts) c.begin-head.ensures.line (c.begin-head.ensures.units ∙ c.unit_limit.ensures.same) c.begin-head.ensures.operands c.begin-head.ensures.noted c.begin-head.ensures.commands c.begin-head.ensures.slots in
     let w = c.requires.0 in
