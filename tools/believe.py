@@ -216,18 +216,18 @@ def main():
 
 HEAD = """# The definitions to believe
 
-A theorem says no more than its definitions do. This page, made by `tools/believe.py`, tells for each of them how many definitions
-of `specs/` its statement rests on, how many lines they have, and in which order their files are best read: each after those
-that it cites. The prover has checked the proofs, so they need no reading. A script that follows names found them, so a word too
-many may be among them. Types declared in the sources and words of the toolchain's own library are not counted.
+A theorem says no more than its definitions do. This page, made by `tools/believe.py`, tells for each of them how many
+definitions of `specs/` its statement rests on, how many lines they have, and in which order their files are best read: each
+after those that it cites. The prover has checked the proofs, so they need no reading. A script that follows names found them,
+so a word too many may be among them. Types declared in the sources and words of the toolchain's library are not counted.
 
 | what is said | by | beginning with | definitions | lines | files, in reading order |
 |---|---|---|---|---|---|"""
 
 MIDDLE = """
-Taken together these are {} definitions of {} lines. All definitions of the repository are {}, of {} lines: what isn't above are
-working words, in which contracts of inner functions and proofs speak of what the code keeps. For these theorems nothing of them
-has to be believed.
+Taken together these are {} definitions of {} lines. All definitions of the repository are {}, of {} lines. What isn't
+above are working words, in which contracts of inner functions and proofs speak of what the code keeps. For these theorems
+nothing of them has to be believed.
 
 ## File by file
 
