@@ -3,7 +3,8 @@
 
 Runs what the pages show. PROGRAM is a built `junction`. Each program in a page of docs/ is compiled. Of each page of an example, its
 commands are run as they stand, with PROGRAM in the place of `rt try --`, in a copy of crates/junction/examples; each other line
-that the page shows must be a line of what they wrote. It prints a line for each page, and ends with status 1 where one is wrong."""
+that the page shows must be a line of what they wrote, or the drawing of a group's aspects from second 1 on, with `.` for red. It
+prints a line for each page, and ends with status 1 where one is wrong."""
 import os
 import re
 import shutil
@@ -15,6 +16,7 @@ from pathlib import Path
 ROOT = Path(__file__).resolve().parent.parent
 JUNCTION = ROOT / "crates" / "junction"
 COMMAND = re.compile(r"(rt|cut|tr|tail|awk|cd|grep|head) |[A-Z]+=")
+DRAWING = re.compile(r"\w+ +[.UGA]+")
 # In a page's commands `rt try -- WORDS` and `rt run -- WORDS` are the program.
 SHELL = 'set -e -o pipefail\nrt() { shift 2; "$PROGRAM" "$@"; }\n'
 
@@ -44,6 +46,25 @@ def compile_programs(program, page, folder):
     return wrong, len(programs)
 
 
+def drawings_of(lines):
+    """Of each group of the logs among these lines its aspects from second 1 on, with `.` for red."""
+    drawings, names = {}, []
+    for line in lines:
+        fields = line.split("|")
+        if line.startswith("VAPLOG 1 "):
+            names = line.split()[2:]
+            drawings.update((name, "") for name in names)
+        elif len(fields) == 6 and len(fields[2]) == len(names):
+            for name, letter in zip(names, fields[2].replace("R", ".")):
+                drawings[name] += letter
+    return drawings
+
+
+def is_drawn(line, drawings):
+    """Whether a line is the beginning of a drawing."""
+    return bool(DRAWING.fullmatch(line)) and drawings.get(line.split()[0], "").startswith(line.split()[1])
+
+
 def run_page(program, page, folder):
     """What an example's page shows and its commands don't write, and how many lines it shows."""
     shutil.copytree(JUNCTION / "examples", folder / "examples")
@@ -60,7 +81,8 @@ def run_page(program, page, folder):
     written = done.stdout.split("\n")
     for file in set(folder.rglob("*")) - before:
         written += file.read_text(encoding="utf-8").split("\n")
-    return [f"isn't written: {line}" for line in shown if line not in set(written)], len(shown)
+    lines, drawings = set(written), drawings_of(written)
+    return [f"isn't written: {line}" for line in shown if line not in lines and not is_drawn(line, drawings)], len(shown)
 
 
 def check(page, act, program, what):
