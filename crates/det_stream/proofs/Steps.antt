@@ -5,7 +5,7 @@ use Rattle.std.proofs.Math.Seq.{drop-cons, take-suc}
 use Rattle.std.proofs.Math.ListN.{length-drop}
 use Rattle.std.specs.Str.Lines.{lines}
 use Rattle.sig_types.specs.Counts.{AreFrames, Counts}
-use Rattle.sig_types.specs.FirstRefused.{first_refused, or_next, refused_to}
+use Rattle.sig_types.specs.FirstRefused.{first_refused, or_next, refused_to, with_line}
 use Rattle.sig_types.proofs.Refusals.{accepted_more, refused_here}
 use Rattle.det_stream.specs.declared.lines.Lines.{Lines}
 use Rattle.det_stream.specs.declared.refusal.StreamWhy.{StreamWhy}
@@ -13,7 +13,7 @@ use Rattle.det_stream.specs.declared.refusal.StreamRefusal.{StreamRefusal}
 use Rattle.det_stream.specs.declared.refusal.StreamRefusal.TheVariants.{Memory, Fault, At}
 use Rattle.det_stream.specs.Answers.{Gave, HasGiven, HasRead, IsNext, IsReadAll, IsStream, Reads}
 use Rattle.det_stream.specs.Entries.{frame_of}
-use Rattle.det_stream.specs.Stream.{judge, judge_line, with_line, stream_of, before_refused}
+use Rattle.det_stream.specs.Stream.{judge, judge_line, stream_of, before_refused}
 use Rattle.det_stream.specs.Totals.{AreTotals, HasAtMost, RearsWithinFronts, IsSum}
 use Rattle.det_stream.specs.Unread.{unread_bytes}
 use Rattle.det_stream.proofs.TotalLemmas.{totals_more, frames_more}

@@ -8,6 +8,7 @@ use Rattle.det_stream.specs.declared.refusal.StreamRefusal.{StreamRefusal}
 use Rattle.det_stream.specs.declared.refusal.StreamRefusal.TheVariants.{Memory, Fault, At}
 use Rattle.sig_types.specs.FirstRefused.{refused_to}
 use Rattle.det_stream.specs.Totals.{AreTotals}
+use Rattle.det_stream.specs.Unread as unread
 use Rattle.det_stream.specs.Unread.{unread_bytes, name_in}
 use Rattle.det_stream.specs.Entries.{frame_of}
 use Rattle.det_stream.specs.Stream.{stream_of, judge}
@@ -27,6 +28,10 @@ second_of r = r.second
 -- no call has refused
 unfoldable pub is_live : Lines → Bool
 is_live r = r.live
+
+-- the next line is read without asking the files: a whole line is held, or more bytes than a line may have
+unfoldable pub is_ready : Lines → Bool
+is_ready r = unread.is_ready r.reader
 
 -- these frames were given: they are frames as a detector file has them, and the reader's numbers are theirs, whatever the
 -- files tell

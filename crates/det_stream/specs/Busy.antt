@@ -1,5 +1,5 @@
 -- The lines in which a detector has counts.
-use Rattle.std.specs.Prelude.{◌≡◌, ℕ, zero, suc, ◌<◌, Bool, not, ◌&&◌, ◌==◌, if◌then◌else◌, List, [], ◌∷◌, ◌++◌, length, map, filter, slice_index_or}
+use Rattle.std.specs.Prelude.{◌≡◌, ℕ, zero, suc, ◌+◌, ◌*◌, ◌/◌, ◌%◌, ◌<◌, Bool, not, ◌&&◌, ◌==◌, if◌then◌else◌, List, [], ◌∷◌, ◌++◌, length, map, filter, slice_index_or}
 use Rattle.std.specs.List.{All}
 use Rattle.sig_types.specs.Counts.{Counts}
 use Rattle.det_stream.specs.declared.busy.BusyLine.{BusyLine}
@@ -12,10 +12,22 @@ is_busy c = not (c.0 == 0 && c.1 == 0)
 abbrev pub busy_counts : ℕ → List Counts → List (ℕ × ℕ)
 busy_counts d frames = filter is_busy (map (λ f. slice_index_or f d (0, 0)) frames)
 
+-- the number of a busy line, from 0
+unfoldable pub line_number : BusyLine → ℕ
+line_number b = 65536 * b.high + b.low
+
+-- the counts in a busy line
+abbrev pub line_counts : BusyLine → ℕ × ℕ
+line_counts b = (b.fronts, b.rears)
+
+-- the busy line with this number and these counts
+unfoldable pub busy_line : ℕ → ℕ × ℕ → BusyLine
+busy_line n counts = record { high = n / 65536; low = n % 65536; fronts = counts.0; rears = counts.1 }
+
 -- the counts in a line, by the lines that have some
 abbrev pub counts_in_line : ℕ → List BusyLine → ℕ × ℕ
 counts_in_line n [] = (0, 0)
-counts_in_line n (b ∷ bs) = if b.line == n then b.counts else counts_in_line n bs
+counts_in_line n (b ∷ bs) = if line_number b == n then line_counts b else counts_in_line n bs
 
 -- the frame of a line, by the busy lines of each detector
 abbrev pub frame_of_line : ℕ → List (List BusyLine) → Counts
@@ -28,7 +40,7 @@ frames_of detectors (suc n) = frames_of detectors n ++ frame_of_line n detectors
 
 -- a line is kept where it has counts
 abbrev pub line_kept : ℕ → ℕ × ℕ → List BusyLine
-line_kept n counts = if is_busy counts then record { line = n; counts = counts } ∷ [] else []
+line_kept n counts = if is_busy counts then busy_line n counts ∷ [] else []
 
 -- 64 detectors of which no line is kept
 pub record AreSilent (detectors : List (List BusyLine)) : Type 0 where
@@ -43,5 +55,5 @@ pub record KeepsLine (n : ℕ) (frame : Counts) (old new : List (List BusyLine))
 -- the first n lines are kept of 64 detectors
 pub record AreKept (n : ℕ) (detectors : List (List BusyLine)) : Type 0 where
   pub size : length detectors ≡ 64
-  pub before : (d : ℕ) → d < 64 → All (λ b. b.line < n) (slice_index_or detectors d [])
-  pub counts : (d : ℕ) → d < 64 → map (λ b. b.counts) (slice_index_or detectors d []) ≡ busy_counts d (frames_of detectors n)
+  pub before : (d : ℕ) → d < 64 → All (λ b. line_number b < n) (slice_index_or detectors d [])
+  pub counts : (d : ℕ) → d < 64 → map line_counts (slice_index_or detectors d []) ≡ busy_counts d (frames_of detectors n)

@@ -2,7 +2,7 @@
 use Rattle.std.specs.Prelude.{ℕ, ◌-◌, Bool, not, ◌&&◌, ◌||◌, List, [], ◌∷◌, length, take, replicate, slice_index_or, slice_set, fold, nat_le, Option, Some, None, Result, Ok, Err, is_some, true, ◌≡◌, ◌≤◌, if◌then◌else◌, ◌==◌}
 use Rattle.std.specs.List.{position_or_len, slice_split}
 use Rattle.sig_types.specs.Counts.{Counts}
-use Rattle.sig_types.specs.FirstRefused.{first_reason, first_refused}
+use Rattle.sig_types.specs.FirstRefused.{first_reason, first_refused, when}
 use Rattle.sig_types.specs.Text.{number_of}
 use Rattle.det_stream.specs.declared.refusal.StreamWhy.{StreamWhy}
 use Rattle.det_stream.specs.declared.refusal.StreamWhy.TheVariants as why
@@ -68,10 +68,6 @@ pub record BeginsWith (text : List ℕ) (n : ℕ) (numbers : Numbers) : Type 0 w
 -- the numbers of an entry are those of these three parts
 abbrev pub HasNumbers : List ℕ → List ℕ → List ℕ → List ℕ → Type 0
 HasNumbers entry d f r = AreNumbers (numbers_of entry) (number_of d) (number_of f) (number_of r)
-
--- the reason, where it applies
-abbrev pub when : Bool → StreamWhy → Option StreamWhy
-when b reason = if b then Some reason else None
 
 -- the first reason to refuse an entry after one of the detector `last`, 0 where there is none
 abbrev pub numbers_why : ℕ → Option Numbers → Option StreamWhy

@@ -2,11 +2,11 @@
 use Rattle.std.specs.Prelude.{◌≡◌, ℕ, ◌+◌, ◌-◌, ◌<◌, ◌≤◌, List, [], ◌∷◌, ◌++◌, length, map, take, sum_by, Option, Some, None, Result, nat_le, nat_lt}
 use Rattle.std.specs.Str.Lines.{lines}
 use Rattle.sig_types.specs.Counts.{Counts, fronts, rears, count_in}
-use Rattle.sig_types.specs.FirstRefused.{first_reason, first_refused}
+use Rattle.sig_types.specs.FirstRefused.{first_reason, first_refused, when, with_line}
 use Rattle.sig_types.specs.Words.{least_below}
 use Rattle.det_stream.specs.declared.refusal.StreamWhy.{StreamWhy}
 use Rattle.det_stream.specs.declared.refusal.StreamWhy.TheVariants as why
-use Rattle.det_stream.specs.Entries.{IsJudged, when, entries_reason, frame_of}
+use Rattle.det_stream.specs.Entries.{IsJudged, entries_reason, frame_of}
 use Rattle.det_stream.specs.Totals.{AreTotals}
 
 -- the least detector, by its place, of which these frames have more rears than fronts
@@ -39,11 +39,6 @@ abbrev pub LineIsJudged : {A : Type 0} → ℕ → Counts → List ℕ → Resul
 LineIsJudged second totals line result =
     (before : List (List ℕ)) → length before ≡ second → length line ≤ 1024 → AreTotals totals (map frame_of before) →
     IsJudged (judge_line before line) result
-
--- the reason with the line's number
-abbrev pub with_line : ℕ → Option StreamWhy → Option (ℕ × StreamWhy)
-with_line line None = None
-with_line line (Some reason) = Some (line, reason)
 
 -- the first reason to refuse a line after these lines, with the line's number
 abbrev pub judge : List (List ℕ) → List ℕ → Option (ℕ × StreamWhy)

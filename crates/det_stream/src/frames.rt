@@ -1,16 +1,16 @@
 // All frames of a detector file.
-ghost use Rattle.std.specs.Prelude.{◌≡◌, ◌<◌, ◌≤◌, length, map, IfOk, Err};
+ghost use Rattle.std.specs.Prelude.{◌≡◌, ◌<◌, ◌≤◌, [], length, map, slice_index_or, IfOk, Err};
 ghost use Rattle.std.specs.Option.{ForSome};
 ghost use Rattle.sig_io.specs.Outside.{Rose};
 ghost use Rattle.det_stream.specs.Answers.{IsReadAll};
-ghost use Rattle.det_stream.specs.Busy.{busy_counts};
+ghost use Rattle.det_stream.specs.Busy.{busy_counts, line_counts};
 ghost use Rattle.sig_types.specs.Counts.{AreFrames};
 
-use crate::busy::{BusyLine, keep_line, no_lines};
+use crate::busy::{BusyLine, counts_in, keep_line, no_lines};
 use crate::lines::Lines;
 use crate::refusal::StreamRefusal;
 use sig_io::Files;
-use sig_types::Memory;
+use sig_types::{Frame, Memory};
 use std::alloc::Global;
 use std::marker::Model;
 
@@ -44,9 +44,22 @@ impl Frames {
     /// The lines in which the detector at that place has counts, in their order.
     pub fn busy_lines(&self, place: u8) -> &[BusyLine]
         requires { place < 64 }
-        ensures { map (λ b. b.counts) result.now ≡ busy_counts place self.now }
+        ensures { map line_counts result.now ≡ busy_counts place self.now }
     {
         &self.detectors[usize::from(place)]
+    }
+
+    /// Puts the frame at that place, counted from 0, into a frame, whatever that had before. It searches the lines of each detector
+    /// from the first one on.
+    pub fn get(&self, place: usize, frame: &mut Frame)
+        requires { place < length self.now }
+        ensures { frame.new ≡ slice_index_or self.now place [] }
+    {
+        frame.clear();
+        for detector in 0..64u8 {
+            let lines = &self.detectors[usize::from(detector)];
+            frame.set(detector, counts_in(lines, place));
+        }
     }
 }
 

@@ -6,9 +6,10 @@ ghost use Rattle.det_stream.specs.Totals.{HasAtMost, RearsWithinFronts};
 ghost use Rattle.det_stream.specs.Unread.{bytes_given};
 
 use crate::line::{read_line, too_long};
-use crate::reader::{LineReader, LineRefusal};
+use crate::reader::TextReader;
 use crate::refusal::{StreamRefusal, StreamWhy};
 use crate::totals::Totals;
+use line_reader::LineRefusal;
 use sig_io::Files;
 use sig_types::{Frame, Memory, Second};
 use std::alloc::Global;
@@ -17,7 +18,7 @@ use std::alloc::Global;
 /// counts so far and the frame that it gave last.
 #[derive(Drop)]
 pub struct Lines {
-    reader: LineReader,
+    reader: TextReader,
     totals: Totals,
     frame: Frame,
     second: u32,
@@ -29,7 +30,7 @@ pub struct Lines {
 }
 
 impl Lines {
-    ghost use Rattle.det_stream.specs.Answers.{AnswersNext, Gave, GaveOneMore, Reads, frame_in, is_live, name_of, second_of};
+    ghost use Rattle.det_stream.specs.Answers.{AnswersNext, Gave, GaveOneMore, Reads, frame_in, is_live, is_ready, name_of, second_of};
 
     /// A reader before line 1 of that file. It takes all the memory that reading needs.
     #[tactic(auto, unfolding(crate::specs::Answers::name_of, crate::specs::Answers::is_live, crate::specs::Answers::second_of))]
@@ -40,7 +41,7 @@ impl Lines {
         ensures gave { IfOk result (λ r. Gave r []) }
         ensures reads { IfOk result (λ r. (bytes : List ℕ) → Reads r bytes []) }
     {
-        let reader = match LineReader::make(alloc, name) {
+        let reader = match TextReader::make(alloc, name) {
             Ok(reader) => reader,
             Err(memory) => return Err(memory),
         };
@@ -67,7 +68,7 @@ impl Lines {
     /// memory.
     ///
     /// It answers `Fault` only where a read failed. After a refusal the reader isn't live, and can't be asked again.
-    #[tactic(auto, unfolding(crate::specs::Answers::name_of, crate::specs::Answers::is_live, crate::specs::Answers::second_of, crate::specs::Answers::frame_in))]
+    #[tactic(auto, unfolding(crate::specs::Answers::name_of, crate::specs::Answers::is_live, crate::specs::Answers::second_of, crate::specs::Answers::frame_in, crate::specs::Answers::is_ready))]
     pub fn next_frame<F: Files>(&mut self, files: &mut F) -> Result<bool, StreamRefusal>
         requires { is_live self.old ≡ true }
         ensures gave { result ≡ Ok true → GaveOneMore self.old self.new }
@@ -75,6 +76,7 @@ impl Lines {
         ensures second { result ≡ Ok true → second_of self.new ≡ second_of self.old + 1 }
         ensures at_most { result ≡ Ok true → second_of self.new ≤ 604800 }
         ensures live { is_live self.new ≡ is_ok result }
+        ensures ready { is_ready self.old ≡ true → files.new ≡ files.old }
         ensures no_memory { result ≡ Err StreamRefusal.Memory → ⊥ }
         ensures name { name_of self.new ≡ name_of self.old }
         ensures contents_stay { F.told files.new ≡ F.told files.old }
@@ -105,6 +107,15 @@ impl Lines {
         }
         self.second += 1;
         Ok(true)
+    }
+
+    /// Whether the next call of `next_frame` asks the files for nothing, so that it waits for no one: a whole line is held, or more
+    /// bytes than a line may have.
+    #[tactic(auto, unfolding(crate::specs::Answers::is_ready))]
+    pub fn is_ready(&self) -> bool
+        ensures { result ≡ is_ready self.now }
+    {
+        self.reader.is_ready()
     }
 
     /// The frame that the last call of `next_frame` gave.

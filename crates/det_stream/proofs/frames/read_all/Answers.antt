@@ -1,7 +1,7 @@
 use Rattle.std.proofs.Common.{◌≡◌, ◌∙◌, ◌+◌, ap, map, List, [], ◌∷◌, ◌++◌, Ok, Err, ℕ, refl, arith, subst}
 use Rattle.det_stream.specs.Answers.{Reads, IsReadAll, frame_in, name_of}
 use Rattle.det_stream.specs.Busy.{KeepsLine, AreKept, frames_of}
-use Rattle.det_stream.proofs.BusyLemmas.{frames_more, kept_more, kept_none, no_frames}
+use Rattle.det_stream.proofs.BusyLemmas.{frames_more, kept_more, kept_none, no_frames, small_counts}
 use Rattle.det_stream.proofs.Steps.{gave_frames, all_refused}
 use Rattle.det_stream.proofs.frames.read_all.Goals as goal
 
@@ -36,6 +36,13 @@ returns-in-Err-clause-told g c file told =
     subst (λ (name : List ℕ). IsReadAll (file name) (Err c.in-Err.refusal)) c.loop-detectors.invariant.name
     (all_refused (file (name_of c.loop-detectors.lines)) frames c.next_frame.new.self c.in-Err.refusal
     (c.in-Err.ensures.next file (c.loop-detectors.invariant.told ∙ told) frames read))
+
+pub keep_line-requires-clause-counts : goal.keep_line-requires-clause-counts
+keep_line-requires-clause-counts g c =
+    let frames = frames_of (map (λ v. v.items) c.loop-detectors.detectors.items) c.loop-detectors.line in
+    let given = frame_in c.next_frame.new.self in
+    let gave = c.in-Ok-true.ensures.gave (ap Ok c.in-Ok-true.field-0-test) frames c.loop-detectors.invariant.gave in
+    rw c.frame.ensures (small_counts frames given (gave_frames c.next_frame.new.self (frames ++ given ∷ []) gave.0))
 
 pub loop-detectors-preserved : goal.loop-detectors-preserved
 loop-detectors-preserved g c =
