@@ -70,6 +70,8 @@ def run_page(program, page, folder):
     shutil.copytree(JUNCTION / "examples", folder / "examples")
     blocks = blocks_of(page)
     commands = [block for block in blocks if COMMAND.match(block[0])]
+    if not any(line.startswith("rt ") for block in commands for line in block):
+        return [], 0
     shown = [line for block in blocks if not COMMAND.match(block[0]) for line in block]
     text = SHELL + "\n".join(line for block in commands for line in block)
     before = set(folder.rglob("*"))
