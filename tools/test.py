@@ -122,5 +122,17 @@ class Reasons(unittest.TestCase):
         self.assertEqual(self.words_of("signal_log/src/words.rt") - set(rules) - set(faults), set())
 
 
+class Crates(unittest.TestCase):
+    """Each crate of crates.txt stands in both maps, and no other one does."""
+
+    def test_each_is_told(self):
+        top = HERE.parent
+        listed = re.findall(r"^(\w+)[^:#\n]*:", (top / "crates.txt").read_text(encoding="utf-8"), re.MULTILINE)
+        rows = [row.split("|")[2] for row in (top / "crates" / "README.md").read_text(encoding="utf-8").split("\n") if row.startswith("| ")]
+        told = re.findall(r"^\| `(\w+)`", (top / "docs" / "crates.md").read_text(encoding="utf-8"), re.MULTILINE)
+        self.assertEqual(sorted(listed), sorted(re.findall(r"`(\w+)`", "".join(rows))))
+        self.assertEqual(sorted(listed), sorted(told))
+
+
 if __name__ == "__main__":
     unittest.main()
