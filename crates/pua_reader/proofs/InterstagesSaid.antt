@@ -2,7 +2,7 @@
 use Rattle.std.proofs.Common.{◌≡◌, ℕ, zero, suc, ◌≤◌, ◌<◌, ◌==◌, Bool, true, false, not, ◌&&◌, List, [], ◌∷◌, ◌++◌, length, take, get_or, set, refl, sym, ap, subst, ◌∙◌, arith, Option, Some, None, if◌then◌else◌, is_some, is_none, add-one, inl, inr, eq-eqb, ne_eqb, ℤ, nat_le}
 use Rattle.std.proofs.lemmas.List.{take_more, take_all, append-nil, get_or-set_same, get_or-set_other, get_or-replicate, length-replicate}
 use Rattle.std.proofs.lemmas.Bool.{cases_eq}
-use Rattle.sig_types.specs.FirstRefused.{refused_to, first_refused}
+use Rattle.sig_types.specs.FirstRefused.{refused_to, first_refused, with_line}
 use Rattle.sig_types.specs.Text.{number_of}
 use Rattle.sig_types.specs.declared.numbers.StageNo.{StageNo}
 use Rattle.pua_model.specs.declared.parts.Group.{Group}
@@ -15,7 +15,6 @@ use Rattle.pua_reader.specs.declared.section.Section.TheVariants as section
 use Rattle.pua_reader.specs.declared.section.Kind.{Kind}
 use Rattle.pua_reader.specs.declared.section.Kind.TheVariants.{Passed, Begins, Row}
 use Rattle.pua_reader.specs.Words.{Text, words, kind_of, is_text, signed_of, place_in_order}
-use Rattle.pua_reader.specs.Rules.{at_line}
 use Rattle.pua_reader.specs.Groups.{place_of, groups_with}
 use Rattle.pua_reader.specs.Stages.{stage_of, stages_with}
 use Rattle.pua_reader.specs.Interstages.{OpenInterstageOf, open_at, form_of, word, last_word, or_none, end_or_none, set_row, length_reasons, stage_reasons, ends_reasons, form_why, open_after_form, interstage_of, interstage_by_keys, interstage_reasons, interstages_with}
@@ -284,7 +283,7 @@ whole_interstage_of groups stages ws (Some w) none = (w, refl)
 
 -- the end of a section
 end_gives : (b : Bool) (d : PlanDraftOf) (parts : List (List (List Text))) → PartsIn b d parts →
-    (if b then at_line d.current.line (interstage_reasons d.groups d.stages d.interstages (interstage_of d.current)) else None) ≡ None →
+    (if b then with_line d.current.line (interstage_reasons d.groups d.stages d.interstages (interstage_of d.current)) else None) ≡ None →
     PartsIn false (if b then record d { interstages = interstages_with d.interstages (interstage_of d.current); current = open_at 0 0 } else d) parts
 unfolding PartsIn
 end_gives false d parts says none = says
@@ -344,7 +343,7 @@ kind_gives : (k : Kind) (d : PlanDraftOf) (line : Text) (parts : List (List (Lis
     PartsIn (is_interstage (section_by d.section k)) (after_kind k d line) (if is_interstage (section_by d.section k) then part_by k parts (words true line) else parts)
 kind_gives Passed d line parts legal says none = rw (same_either (is_interstage d.section) parts) says
 kind_gives (Begins s) d line parts legal says none =
-    let both = none_next (interstage_end_why d) (at_line d.lines (section_why (after_section_end d) s line)) none in
+    let both = none_next (interstage_end_why d) (with_line d.lines (section_why (after_section_end d) s line)) none in
     section_begins (after_section_end d) s parts (section_ends d parts says both.0)
 kind_gives Row d line parts legal says none = row_gives d line parts legal says (at_none d.lines _ none)
 
@@ -408,7 +407,7 @@ unfolding end_why
 draft_gives lines none ended =
     let so = rw (take_all (length lines) lines (omega arith)) at (so_far_to lines (length lines) (omega arith) none) in
     let given = rw (take_all (length lines) lines (omega arith)) at (given_to lines (length lines) (omega arith) none) in
-    let both = none_next (interstage_end_why (draft_of lines)) (at_line 0 (lacks (after_section_end (draft_of lines)))) ended in
+    let both = none_next (interstage_end_why (draft_of lines)) (with_line 0 (lacks (after_section_end (draft_of lines)))) ended in
     let now : PartsIn (is_interstage (draft_of lines).section) (draft_of lines) (interstage_sections lines) =
     subst (λ (s : Section). PartsIn (is_interstage s) (draft_of lines) (interstage_sections lines)) (sym so.arrived) given.parts in
     let there = file_parts (after_section_end (draft_of lines)) lines (end_says (draft_of lines) _ _ _ so.says) in

@@ -2,7 +2,6 @@
 use Rattle.std.proofs.Common.{◌≡◌, ℕ, ◌+◌, ◌<◌, ◌≤◌, ◌==◌, true, false, not, ◌&&◌, List, [], ◌∷◌, ◌++◌, length, get_or, set, refl, ap, subst, ◌∙◌, arith, Option, Some, None, nat_le, is_some, is_none, inl, inr, ℤ}
 use Rattle.std.specs.Option.{option_or}
 use Rattle.std.specs.Prelude.{IfSome}
-use Rattle.std.specs.List.{list_any}
 use Rattle.std.proofs.lemmas.Bool.{and_parts, or_parts, leb-true, cases_lt, cases_eq, and_from, not-false, not-true, or_from}
 use Rattle.std.proofs.lemmas.List.{length-set, get_or-set_same, get_or-set_other, get_or_append_left, get_or_push, length_push, length-replicate, get_or-replicate}
 use Rattle.pua_reader.specs.declared.refusal.PuaWhy.{PuaWhy}
@@ -118,14 +117,14 @@ last_none (Some x) e = cc
 
 pub record Joined (groups : List Group) (stages : List Stage) (interstages : List InterstageOf) (w : InterstageOf) : Type 0 where
   pub apart : (w.from == w.to) ≡ false
-  pub new : list_any (joins w.from w.to) interstages ≡ false
+  pub new : has_pair w.from w.to interstages ≡ false
   pub consistent : (g : ℕ) → g < length groups → leads (get_or w.rows g None) (greens_in stages w.from g) (greens_in stages w.to g) w.length ≡ true
 
 joined : (groups : List Group) (stages : List Stage) (interstages : List InterstageOf) (w : InterstageOf) → interstage_reasons groups stages interstages (Some w) ≡ None → Joined groups stages interstages w
 unfolding interstage_reasons
 joined groups stages interstages w none =
     let one = none_first (w.from == w.to) _ _ none in
-    let two = none_first (list_any (joins w.from w.to) interstages) _ _ one.1 in
+    let two = none_first (has_pair w.from w.to interstages) _ _ one.1 in
     let all = none_inconsistent (length interstages + 1) groups (first_inconsistent (length groups) stages w) (last_none (inconsistent_why (length interstages + 1) groups (first_inconsistent (length groups) stages w)) two.1) in
     record {
       apart = one.0;
@@ -142,11 +141,11 @@ pair_push a b (v ∷ vs) w h ne =
     let both = or_parts (joins a b v) (has_pair a b vs) h in
     or_from (joins a b v) (has_pair a b (vs ++ w ∷ [])) both.0 (pair_push a b vs w both.1 ne)
 
-pairs_push : (interstages : List InterstageOf) (w : InterstageOf) → are_pairs_apart interstages ≡ true → list_any (joins w.from w.to) interstages ≡ false → are_pairs_apart (interstages ++ w ∷ []) ≡ true
+pairs_push : (interstages : List InterstageOf) (w : InterstageOf) → are_pairs_apart interstages ≡ true → has_pair w.from w.to interstages ≡ false → are_pairs_apart (interstages ++ w ∷ []) ≡ true
 pairs_push [] w h new = refl
 pairs_push (v ∷ vs) w h new =
     let both = and_parts (not (has_pair v.from v.to vs)) (are_pairs_apart vs) h in
-    let other = or_parts (joins w.from w.to v) (list_any (joins w.from w.to) vs) new in
+    let other = or_parts (joins w.from w.to v) (has_pair w.from w.to vs) new in
     and_from (not (has_pair v.from v.to (vs ++ w ∷ []))) (are_pairs_apart (vs ++ w ∷ []))
     (ap not (pair_push v.from v.to vs w (not-true _ both.0) (joins_turned v w ∙ other.0))) (pairs_push vs w both.1 other.1)
 

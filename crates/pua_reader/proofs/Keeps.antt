@@ -3,6 +3,7 @@ use Rattle.std.proofs.Common.{◌≡◌, ℕ, suc, zero, ◌-◌, ◌≤◌, ◌
 use Rattle.std.specs.Prelude.{IfSome}
 use Rattle.std.proofs.lemmas.Bool.{or_parts, leb-false, not-false}
 use Rattle.std.proofs.lemmas.List.{length-map}
+use Rattle.sig_types.specs.FirstRefused.{with_line}
 use Rattle.sig_types.specs.declared.numbers.StageNo.{StageNo}
 use Rattle.sig_types.proofs.Options.{some_of}
 use Rattle.pua_model.specs.declared.parts.Group.{Group}
@@ -14,7 +15,6 @@ use Rattle.pua_reader.specs.declared.section.Section.TheVariants as section
 use Rattle.pua_reader.specs.declared.section.Kind.{Kind}
 use Rattle.pua_reader.specs.declared.section.Kind.TheVariants.{Passed, Begins, Row}
 use Rattle.pua_reader.specs.Words.{Text, words, kind_of, may_follow, is_text, place_in_order}
-use Rattle.pua_reader.specs.Rules.{at_line}
 use Rattle.pua_reader.specs.Groups.{group_why, groups_with}
 use Rattle.pua_reader.specs.Stages.{stage_row_why, stages_with, is_stage_row, start_with}
 use Rattle.pua_reader.specs.Interstages.{open_at, interstage_row_why, open_after, interstage_of, interstage_reasons, interstages_with}
@@ -153,7 +153,7 @@ is_fourth section.Interstage e = refl
 is_fourth section.End e = cc
 
 ended_by : (b : Bool) (g : PlanDraftOf) → is_interstage g.section ≡ b → Legal g →
-    (if b then at_line g.current.line (interstage_reasons g.groups g.stages g.interstages (interstage_of g.current)) else None) ≡ None →
+    (if b then with_line g.current.line (interstage_reasons g.groups g.stages g.interstages (interstage_of g.current)) else None) ≡ None →
     IsClosed g (if b then record g { interstages = interstages_with g.interstages (interstage_of g.current); current = open_at 0 0 } else g)
 ended_by true g is legal none =
     let fourth = is_fourth g.section is in
@@ -241,7 +241,7 @@ section_legal g s line legal ended none =
 kind_legal : (k : Kind) (g : PlanDraftOf) (line : Text) → Legal g → kind_why k g line ≡ None → Legal (after_kind k g line)
 kind_legal Passed g line legal none = legal
 kind_legal (Begins s) g line legal none =
-    let both = none_next (interstage_end_why g) (at_line g.lines (section_why (after_section_end g) s line)) none in
+    let both = none_next (interstage_end_why g) (with_line g.lines (section_why (after_section_end g) s line)) none in
     section_legal g s line legal both.0 (at_none g.lines _ both.1)
 kind_legal Row g line legal none = row_legal g line legal (at_none g.lines _ none)
 

@@ -3,7 +3,7 @@ use Rattle.std.proofs.Common.{◌≡◌, ℕ, zero, suc, ◌+◌, ◌≤◌, ◌
 use Rattle.std.proofs.lemmas.List.{take_more, take_all, length-map}
 use Rattle.std.proofs.lemmas.List.{append-nil}
 use Rattle.std.proofs.lemmas.Bool.{or_parts, not-false}
-use Rattle.sig_types.specs.FirstRefused.{refused_to, first_refused}
+use Rattle.sig_types.specs.FirstRefused.{refused_to, first_refused, with_line}
 use Rattle.sig_types.specs.declared.numbers.StageNo.{StageNo}
 use Rattle.pua_model.specs.declared.parts.Group.{Group}
 use Rattle.pua_model.specs.declared.parts.Stage.{Stage}
@@ -12,7 +12,6 @@ use Rattle.pua_reader.specs.declared.section.Section.TheVariants as section
 use Rattle.pua_reader.specs.declared.section.Kind.{Kind}
 use Rattle.pua_reader.specs.declared.section.Kind.TheVariants.{Passed, Begins, Row}
 use Rattle.pua_reader.specs.Words.{Text, words, kind_of, may_follow, is_text, place_in_order}
-use Rattle.pua_reader.specs.Rules.{at_line}
 use Rattle.pua_reader.specs.Groups.{group_row, put, put_row, group_reasons, group_why, groups_with}
 use Rattle.pua_reader.specs.Stages.{is_red_word, greens_of, stage_of, stages_with, start_why, start_with, start_reasons, is_stage_word}
 use Rattle.pua_reader.specs.Interstages.{open_at, interstages_with, interstage_of}
@@ -303,7 +302,7 @@ kind_says Passed d line gr st sr says none = record {
   says = nothing_more d gr st sr _ _ _ says (by_kind (same_section section.Groups d.section) _) (by_kind (same_section section.Stages d.section) _) (by_kind (same_section section.Start d.section) _);
 }
 kind_says (Begins s) d line gr st sr says none =
-    let parts = none_next (interstage_end_why d) (at_line d.lines (section_why (after_section_end d) s line)) none in
+    let parts = none_next (interstage_end_why d) (with_line d.lines (section_why (after_section_end d) s line)) none in
     let ended = end_says d gr st sr says in
     let begun = section_line_says (after_section_end d) s line gr st sr ended (at_none d.lines _ parts.1) in
     record {
@@ -411,7 +410,7 @@ draft_says : (lines : List Text) → first_refused judge lines [] ≡ None → e
 unfolding end_why
 draft_says lines none ended =
     let so = rw (take_all (length lines) lines (omega arith)) at (so_far_to lines (length lines) (omega arith) none) in
-    let parts = none_next (interstage_end_why (draft_of lines)) (at_line 0 (lacks (after_section_end (draft_of lines)))) ended in
+    let parts = none_next (interstage_end_why (draft_of lines)) (with_line 0 (lacks (after_section_end (draft_of lines)))) ended in
     let full = is_full (after_section_end (draft_of lines)) (sym (at_none 0 _ parts.1)) in
     plan_says (after_section_end (draft_of lines)) lines (end_says (draft_of lines) _ _ _ so.says) full.start
 

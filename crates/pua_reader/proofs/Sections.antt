@@ -1,10 +1,10 @@
 -- Section lines, and the end of a file.
 use Rattle.std.proofs.Common.{◌≡◌, Bool, true, false, Some, None, refl, sym, ap, ◌∙◌, if◌then◌else◌}
 use Rattle.std.specs.Option.{option_or}
+use Rattle.sig_types.specs.FirstRefused.{with_line}
 use Rattle.pua_reader.specs.declared.refusal.PuaWhy.{PuaWhy}
 use Rattle.pua_reader.specs.declared.section.Section.{Section}
 use Rattle.pua_reader.specs.Words.{Text}
-use Rattle.pua_reader.specs.Rules.{at_line}
 use Rattle.pua_reader.specs.Interstages.{open_at, interstage_of, interstages_with}
 use Rattle.pua_reader.specs.PlanDraft.{PlanDraftOf, interstage_end_why, after_section_end, section_why, is_interstage, lacks, end_why}
 
@@ -18,7 +18,7 @@ ended_lines g = lines_by (is_interstage g.section) g
 
 -- a section line is refused, and the section before it ended well
 pub section_refused : (g new : PlanDraftOf) (s : Section) (line : Text) (why : PuaWhy) → interstage_end_why g ≡ None → new ≡ after_section_end g → Some why ≡ section_why new s line →
-    option_or (interstage_end_why g) (at_line g.lines (section_why (after_section_end g) s line)) ≡ Some (new.lines, why)
+    option_or (interstage_end_why g) (with_line g.lines (section_why (after_section_end g) s line)) ≡ Some (new.lines, why)
 section_refused g new s line why ended is refused =
     let here : section_why (after_section_end g) s line ≡ Some why = rw (← is) (sym refused) in
     let count : new.lines ≡ g.lines = ap (λ (h : PlanDraftOf). h.lines) is ∙ ended_lines g in

@@ -2,11 +2,11 @@
 use Rattle.std.proofs.Common.{◌≡◌, ℕ, ◌==◌, Bool, true, false, not, List, [], ◌∷◌, ◌++◌, refl, sym, ap, ◌∙◌, Option, Some, None, nat_eq, inl, inr, ne_eqb}
 use Rattle.std.specs.Option.{option_or}
 use Rattle.std.proofs.lemmas.Bool.{and_parts, or_parts, cases_eq, and_from, not-true, or_from}
+use Rattle.sig_types.specs.FirstRefused.{when, with_line}
 use Rattle.sig_types.specs.Text.{same_name, lower}
 use Rattle.pua_model.specs.Plan.{stands_in, are_apart, are_names}
 use Rattle.sig_types.specs.Text.{is_name}
 use Rattle.pua_reader.specs.declared.refusal.PuaWhy.{PuaWhy}
-use Rattle.pua_reader.specs.Rules.{when, at_line}
 
 -- a rule that does not refuse, and those after it
 pub none_first : (b : Bool) (w : PuaWhy) (next : Option PuaWhy) → option_or (when b w) next ≡ None → (b ≡ false) × (next ≡ None)
@@ -17,7 +17,7 @@ pub none_next : {W : Type 0} (a b : Option W) → option_or a b ≡ None → (a 
 none_next None b e = (refl, e)
 none_next (Some w) b e = cc
 
-pub at_none : (n : ℕ) (o : Option PuaWhy) → at_line n o ≡ None → o ≡ None
+pub at_none : (n : ℕ) (o : Option PuaWhy) → with_line n o ≡ None → o ≡ None
 at_none n None e = refl
 at_none n (Some why) e = cc
 

@@ -1,13 +1,12 @@
 -- Rows of signal groups.
 use Rattle.std.specs.Prelude.{ℕ, ◌≡◌, ◌+◌, ◌==◌, Bool, true, not, ◌&&◌, ◌||◌, List, [], ◌∷◌, length, Option, Some, None, if◌then◌else◌, nat_lt, nat_le}
 use Rattle.std.specs.List.{list_any, position}
-use Rattle.sig_types.specs.FirstRefused.{first_reason}
+use Rattle.sig_types.specs.FirstRefused.{first_reason, when}
 use Rattle.sig_types.specs.Text.{same_name, number_of, is_name, within}
 use Rattle.pua_model.specs.declared.parts.Group.{Group}
 use Rattle.pua_reader.specs.declared.refusal.PuaWhy.{PuaWhy}
 use Rattle.pua_reader.specs.declared.refusal.PuaWhy.TheVariants as why
 use Rattle.pua_reader.specs.Words.{Text}
-use Rattle.pua_reader.specs.Rules.{when}
 
 -- the group of a name and a number, where the number is one
 abbrev pub numbered : Text → Option ℕ → Option Group

@@ -1,20 +1,18 @@
 -- Rows of interstages, and their ends.
 use Rattle.std.specs.Prelude.{ℕ, ◌+◌, ◌-◌, ◌==◌, Bool, false, not, ◌&&◌, ◌||◌, List, [], ◌∷◌, ◌++◌, length, replicate, Option, Some, None, if◌then◌else◌, nat_le, codes, is_some, is_none, slice_index_or, slice_set, ℤ, pos}
-use Rattle.std.specs.List.{list_any}
-use Rattle.sig_types.specs.FirstRefused.{first_reason}
+use Rattle.sig_types.specs.FirstRefused.{first_reason, when}
 use Rattle.sig_types.specs.Text.{same_name, number_of, is_name}
 use Rattle.sig_types.specs.Words.{least_below}
 use Rattle.sig_types.specs.declared.numbers.StageNo.{StageNo}
 use Rattle.pua_model.specs.declared.parts.Group.{Group}
 use Rattle.pua_model.specs.declared.parts.Stage.{Stage}
-use Rattle.pua_model.specs.Plan.{InterstageOf, joins, is_end}
+use Rattle.pua_model.specs.Plan.{InterstageOf, has_pair, is_end}
 use Rattle.pua_model.specs.Wish.{leads}
 use Rattle.pua_reader.specs.declared.refusal.PuaWhy.{PuaWhy}
 use Rattle.pua_reader.specs.declared.refusal.PuaWhy.TheVariants as why
 use Rattle.pua_reader.specs.declared.form.Form.{Form}
 use Rattle.pua_reader.specs.declared.form.Form.TheVariants as form
 use Rattle.pua_reader.specs.Words.{Text, signed_of}
-use Rattle.pua_reader.specs.Rules.{when}
 use Rattle.pua_reader.specs.Groups.{place_of}
 use Rattle.pua_reader.specs.Stages.{is_stage_word, stage_of}
 
@@ -179,7 +177,7 @@ unfoldable pub interstage_reasons : List Group → List Stage → List Interstag
 interstage_reasons groups stages interstages None = Some why.Row
 interstage_reasons groups stages interstages (Some w) = first_reason (
     when (w.from == w.to) why.Range
-    ∷ when (list_any (joins w.from w.to) interstages) why.PairTwice
+    ∷ when (has_pair w.from w.to interstages) why.PairTwice
     ∷ inconsistent_why (length interstages + 1) groups (first_inconsistent (length groups) stages w)
     ∷ [])
 

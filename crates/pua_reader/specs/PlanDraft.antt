@@ -1,7 +1,7 @@
 -- What the lines of a file have told so far, and the reason to refuse the next one.
 use Rattle.std.specs.Prelude.{ℕ, ◌+◌, ◌==◌, Bool, true, false, not, ◌&&◌, ◌||◌, List, [], ◌∷◌, length, Option, Some, None, if◌then◌else◌, nat_le, fold, is_none}
 use Rattle.std.specs.Option.{option_or}
-use Rattle.sig_types.specs.FirstRefused.{first_reason}
+use Rattle.sig_types.specs.FirstRefused.{first_reason, when, with_line}
 use Rattle.sig_types.specs.declared.numbers.StageNo.{StageNo}
 use Rattle.pua_model.specs.declared.parts.Group.{Group}
 use Rattle.pua_model.specs.declared.parts.Stage.{Stage}
@@ -13,7 +13,6 @@ use Rattle.pua_reader.specs.declared.section.Section.TheVariants as section
 use Rattle.pua_reader.specs.declared.section.Kind.{Kind}
 use Rattle.pua_reader.specs.declared.section.Kind.TheVariants.{Passed, Begins, Row}
 use Rattle.pua_reader.specs.Words.{Text, words, kind_of, may_follow, is_text}
-use Rattle.pua_reader.specs.Rules.{when, at_line}
 use Rattle.pua_reader.specs.Groups.{group_why, groups_with}
 use Rattle.pua_reader.specs.Stages.{stage_row_why, stages_with, is_stage_row, start_why, start_with}
 use Rattle.pua_reader.specs.Interstages.{OpenInterstageOf, open_at, interstage_row_why, open_after, interstage_of, interstage_reasons, interstages_with}
@@ -79,7 +78,7 @@ is_interstage _ = false
 unfoldable pub interstage_end_why : PlanDraftOf → Option (ℕ × PuaWhy)
 interstage_end_why g =
     if is_interstage g.section
-    then at_line g.current.line (interstage_reasons g.groups g.stages g.interstages (interstage_of g.current))
+    then with_line g.current.line (interstage_reasons g.groups g.stages g.interstages (interstage_of g.current))
     else None
 
 -- the draft after the end of its section: that of an interstage adds it
@@ -110,8 +109,8 @@ at_next_line g = record g { lines = g.lines + 1 }
 -- the reason to refuse a line, with the line that it names, by what the lines before have told, this line counted
 abbrev pub kind_why : Kind → PlanDraftOf → Text → Option (ℕ × PuaWhy)
 kind_why Passed g line = None
-kind_why (Begins s) g line = option_or (interstage_end_why g) (at_line g.lines (section_why (after_section_end g) s line))
-kind_why Row g line = at_line g.lines (row_why g line)
+kind_why (Begins s) g line = option_or (interstage_end_why g) (with_line g.lines (section_why (after_section_end g) s line))
+kind_why Row g line = with_line g.lines (row_why g line)
 
 -- the draft after a line of this kind
 abbrev pub after_kind : Kind → PlanDraftOf → Text → PlanDraftOf
@@ -149,4 +148,4 @@ lacks g = first_reason (
 
 -- the reason to refuse a file that ends there; line 0 is the whole file
 unfoldable pub end_why : PlanDraftOf → Option (ℕ × PuaWhy)
-end_why g = option_or (interstage_end_why g) (at_line 0 (lacks (after_section_end g)))
+end_why g = option_or (interstage_end_why g) (with_line 0 (lacks (after_section_end g)))

@@ -1,7 +1,7 @@
 -- Rows of stages, and of the starting stage.
 use Rattle.std.specs.Prelude.{ℕ, ◌+◌, ◌-◌, ◌==◌, Bool, false, not, ◌&&◌, ◌||◌, List, [], ◌∷◌, ◌++◌, length, map, Option, Some, None, if◌then◌else◌, nat_le, codes, is_some, is_none, slice_index_or}
 use Rattle.std.specs.List.{list_any, list_all, position}
-use Rattle.sig_types.specs.FirstRefused.{first_reason}
+use Rattle.sig_types.specs.FirstRefused.{first_reason, when}
 use Rattle.sig_types.specs.Text.{same_name, number_of, is_name}
 use Rattle.sig_types.specs.declared.numbers.StageNo.{StageNo}
 use Rattle.pua_model.specs.declared.parts.Group.{Group}
@@ -10,7 +10,6 @@ use Rattle.pua_reader.specs.declared.refusal.PuaWhy.{PuaWhy}
 use Rattle.pua_reader.specs.declared.refusal.PuaWhy.TheVariants as why
 use Rattle.pua_reader.specs.Words.{Text}
 use Rattle.pua_model.specs.Plan.{stands_in, are_apart}
-use Rattle.pua_reader.specs.Rules.{when}
 use Rattle.pua_reader.specs.Groups.{has_name, place_of}
 
 -- one of the stages has this name, in any case

@@ -1,9 +1,8 @@
 // Rows of interstages, and their ends.
 ghost use Rattle.std.specs.Prelude.{[], ◌≡◌, ◌==◌, ◌≤◌, ◌<◌, ◌+◌, ℕ, map, length, IfOk, true, not, None, Some, Option, MatchOption, MatchResult, slice_index_or, is_some, IfSome};
-ghost use Rattle.std.specs.List.{list_any};
 ghost use Rattle.sig_types.specs.Text.{number_of};
 ghost use Rattle.pua_model.specs.Wish.{leads};
-ghost use Rattle.pua_model.specs.Plan.{joins};
+ghost use Rattle.pua_model.specs.Plan.{has_pair as has_pair_spec};
 ghost use Rattle.pua_reader.specs.Words.{signed_of};
 ghost use Rattle.pua_reader.specs.Interstages.{open_at, form_of, interstage_row_why, open_after, length_reasons, stage_reasons, ends_reasons, or_none, spelled_end, word, last_word, form_why, open_after_form, interstage_by_keys, first_inconsistent, greens_in, interstage_reasons};
 ghost use Rattle.pua_reader.specs.Stages.{stage_of};
@@ -207,7 +206,7 @@ pub(crate) fn interstage_of(ended: OpenInterstage) -> Option<Interstage>
 }
 
 fn has_pair(from: StageNo, to: StageNo, interstages: &[Interstage]) -> bool
-    ensures { result ≡ list_any (joins from.0 to.0) interstages.now }
+    ensures { result ≡ has_pair_spec from.0 to.0 interstages.now }
 {
     interstages.iter().any(|interstage| interstage.from_stage() == from
         && interstage.to_stage() == to)
