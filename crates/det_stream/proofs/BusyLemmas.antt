@@ -9,7 +9,7 @@ use Rattle.std.proofs.Math.Seq.{get_or-append_seam}
 use Rattle.sig_types.specs.Counts.{AreFrames, Counts}
 use Rattle.det_stream.specs.Totals.{HasAtMost}
 use Rattle.det_stream.specs.declared.busy.BusyLine.{BusyLine}
-use Rattle.det_stream.specs.Busy.{is_busy, busy_counts, busy_line, counts_in_line, frame_of_line, frames_of, line_counts, line_kept, line_number, AreSilent, KeepsLine, AreKept}
+use Rattle.det_stream.specs.Busy.{is_busy, busy_counts, busy_line, counts_in_line, frame_of_line, frames_of, line_kept, line_number, AreSilent, KeepsLine, AreKept}
 
 pub length-frames_of : (ds : List (List BusyLine)) (n : ℕ) → length (frames_of ds n) ≡ n
 unfolding frames_of
@@ -44,7 +44,7 @@ number_is : (n : ℕ) (c : ℕ × ℕ) → line_number (busy_line n c) ≡ n
 unfolding line_number busy_line
 number_is n c = omega arith
 
-counts_are : (n : ℕ) (c : ℕ × ℕ) → line_counts (busy_line n c) ≡ c
+counts_are : (n : ℕ) (c : ℕ × ℕ) → (busy_line n c).counts ≡ c
 unfolding busy_line
 counts_are n c = refl
 
@@ -114,18 +114,18 @@ module _ (n : ℕ) (f : Counts) (old new : List (List BusyLine)) (kept : AreKept
       before_more d low = rw (keeps.each d low) (All-append (λ b. line_number b < n + 1) (slice_index_or old d []) (line_kept n (slice_index_or f d (0, 0)))
           (λ i b lt. (let less = kept.before d low i b lt in omega (arith, less))) (one_before (slice_index_or f d (0, 0))))
 
-      one_counts : (c : ℕ × ℕ) → map line_counts (line_kept n c) ≡ filter is_busy (c ∷ [])
+      one_counts : (c : ℕ × ℕ) → map (λ b. b.counts) (line_kept n c) ≡ filter is_busy (c ∷ [])
       one_counts c = elim (cases_Bool (c.0 == 0 && c.1 == 0)) [
         | inl e ↦ rw e refl
         | inr e ↦ rw (e, counts_are n c) refl
       ]
 
-      counts_more : (d : ℕ) → d < 64 → map line_counts (slice_index_or new d []) ≡ busy_counts d (frames_of new (n + 1))
+      counts_more : (d : ℕ) → d < 64 → map (λ b. b.counts) (slice_index_or new d []) ≡ busy_counts d (frames_of new (n + 1))
       counts_more d low =
           let c = slice_index_or f d (0, 0) in
           let counts_at_d : Counts → ℕ × ℕ = λ g. slice_index_or g d (0, 0) in
-          ap (map line_counts) (keeps.each d low) ∙ map-append line_counts (slice_index_or old d []) (line_kept n c)
-          ∙ ap (λ l. l ++ map line_counts (line_kept n c)) (kept.counts d low) ∙ ap (λ l. busy_counts d (frames_of old n) ++ l) (one_counts c)
+          ap (map (λ b. b.counts)) (keeps.each d low) ∙ map-append (λ b. b.counts) (slice_index_or old d []) (line_kept n c)
+          ∙ ap (λ l. l ++ map (λ b. b.counts) (line_kept n c)) (kept.counts d low) ∙ ap (λ l. busy_counts d (frames_of old n) ++ l) (one_counts c)
           ∙ sym (ap (busy_counts d) (frames_more size) ∙ ap (filter is_busy) (map-append counts_at_d (frames_of old n) (f ∷ []))
           ∙ filter-append is_busy (map counts_at_d (frames_of old n)) (c ∷ []))
 

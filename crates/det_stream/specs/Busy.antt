@@ -16,18 +16,14 @@ busy_counts d frames = filter is_busy (map (λ f. slice_index_or f d (0, 0)) fra
 unfoldable pub line_number : BusyLine → ℕ
 line_number b = 65536 * b.high + b.low
 
--- the counts in a busy line
-abbrev pub line_counts : BusyLine → ℕ × ℕ
-line_counts b = (b.fronts, b.rears)
-
 -- the busy line with this number and these counts
 unfoldable pub busy_line : ℕ → ℕ × ℕ → BusyLine
-busy_line n counts = record { high = n / 65536; low = n % 65536; fronts = counts.0; rears = counts.1 }
+busy_line n counts = record { high = n / 65536; low = n % 65536; counts = counts }
 
 -- the counts in a line, by the lines that have some
 abbrev pub counts_in_line : ℕ → List BusyLine → ℕ × ℕ
 counts_in_line n [] = (0, 0)
-counts_in_line n (b ∷ bs) = if line_number b == n then line_counts b else counts_in_line n bs
+counts_in_line n (b ∷ bs) = if line_number b == n then b.counts else counts_in_line n bs
 
 -- the frame of a line, by the busy lines of each detector
 abbrev pub frame_of_line : ℕ → List (List BusyLine) → Counts
@@ -56,4 +52,4 @@ pub record KeepsLine (n : ℕ) (frame : Counts) (old new : List (List BusyLine))
 pub record AreKept (n : ℕ) (detectors : List (List BusyLine)) : Type 0 where
   pub size : length detectors ≡ 64
   pub before : (d : ℕ) → d < 64 → All (λ b. line_number b < n) (slice_index_or detectors d [])
-  pub counts : (d : ℕ) → d < 64 → map line_counts (slice_index_or detectors d []) ≡ busy_counts d (frames_of detectors n)
+  pub counts : (d : ℕ) → d < 64 → map (λ b. b.counts) (slice_index_or detectors d []) ≡ busy_counts d (frames_of detectors n)

@@ -15,12 +15,12 @@ const HALF: u32 = 65536;
 pub struct BusyLine {
     high: u16,
     low: u16,
-    fronts: u8,
-    rears: u8,
+    /// The fronts and rears, each at most 99.
+    pub counts: (u8, u8),
 }
 
 impl BusyLine {
-    ghost use Rattle.det_stream.specs.Busy.{busy_line, line_counts, line_number};
+    ghost use Rattle.det_stream.specs.Busy.{busy_line, line_number};
 
     // The line with this number, in which there are these counts.
     #[tactic(auto, unfolding(crate::specs::Busy::busy_line))]
@@ -31,8 +31,7 @@ impl BusyLine {
         BusyLine {
             high: (line / HALF) as u16,
             low: (line % HALF) as u16,
-            fronts: counts.0 as u8,
-            rears: counts.1 as u8,
+            counts: (counts.0 as u8, counts.1 as u8),
         }
     }
 
@@ -42,13 +41,6 @@ impl BusyLine {
         ensures { result ≡ line_number self.now }
     {
         HALF * u32::from(self.high) + u32::from(self.low)
-    }
-
-    /// The fronts and rears.
-    pub fn counts(&self) -> (u32, u32)
-        ensures { result ≡ line_counts self.now }
-    {
-        (u32::from(self.fronts), u32::from(self.rears))
     }
 }
 
@@ -103,7 +95,7 @@ pub fn counts_in(lines: &[BusyLine], line: usize) -> (u32, u32)
 {
     for busy in lines {
         if busy.line() as usize == line {
-            return busy.counts();
+            return (u32::from(busy.counts.0), u32::from(busy.counts.1));
         }
     }
     (0, 0)

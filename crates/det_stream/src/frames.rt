@@ -3,7 +3,7 @@ ghost use Rattle.std.specs.Prelude.{◌≡◌, ◌<◌, ◌≤◌, [], length, m
 ghost use Rattle.std.specs.Option.{ForSome};
 ghost use Rattle.sig_io.specs.Outside.{Rose};
 ghost use Rattle.det_stream.specs.Answers.{IsReadAll};
-ghost use Rattle.det_stream.specs.Busy.{busy_counts, line_counts};
+ghost use Rattle.det_stream.specs.Busy.{busy_counts};
 ghost use Rattle.sig_types.specs.Counts.{AreFrames};
 
 use crate::busy::{BusyLine, counts_in, keep_line, no_lines};
@@ -44,7 +44,7 @@ impl Frames {
     /// The lines in which the detector at that place has counts, in their order.
     pub fn busy_lines(&self, place: u8) -> &[BusyLine]
         requires { place < 64 }
-        ensures { map line_counts result.now ≡ busy_counts place self.now }
+        ensures { map (λ b. b.counts) result.now ≡ busy_counts place self.now }
     {
         &self.detectors[usize::from(place)]
     }
