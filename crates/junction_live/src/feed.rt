@@ -26,7 +26,7 @@ pub fn feed<G: Gate>(board: &Board, frames: &Frames, place: u8, pass: &mut Feede
 fn play_line<G: Gate>(
     board: &Board,
     place: u8,
-    counts: (u32, u32),
+    counts: (u8, u8),
     first: u32,
     pass: &mut FeederPass,
     gate: &G,
