@@ -9,7 +9,7 @@ use Rattle.vap_code.specs.Valid.{Valid, Passed, FirstBroken, FitsCheck, HasShape
 use Rattle.code_verify.specs.Tables.{JumpsAhead}
 
 -- the check with this rank
-check_at : ℕ → VerifyWhy
+pub check_at : ℕ → VerifyWhy
 check_at zero = Shape
 check_at (suc zero) = JumpOut
 check_at (suc (suc zero)) = BackToNoTick
@@ -33,6 +33,20 @@ check_at_rank FallsOff = refl
 check_at_rank Stretch = refl
 check_at_rank Shape = refl
 check_at_rank Commands = refl
+
+pub rank_at : (n : ℕ) → n < 10 → check_rank (check_at n) ≡ n
+unfolding check_at
+rank_at zero lt = refl
+rank_at (suc zero) lt = refl
+rank_at (suc (suc zero)) lt = refl
+rank_at (suc (suc (suc zero))) lt = refl
+rank_at (suc (suc (suc (suc zero)))) lt = refl
+rank_at (suc (suc (suc (suc (suc zero))))) lt = refl
+rank_at (suc (suc (suc (suc (suc (suc zero)))))) lt = refl
+rank_at (suc (suc (suc (suc (suc (suc (suc zero))))))) lt = refl
+rank_at (suc (suc (suc (suc (suc (suc (suc (suc zero)))))))) lt = refl
+rank_at (suc (suc (suc (suc (suc (suc (suc (suc (suc zero))))))))) lt = refl
+rank_at (suc (suc (suc (suc (suc (suc (suc (suc (suc (suc n)))))))))) lt = absurd (omega (arith, lt))
 
 ranks_upto : (why : VerifyWhy) → check_rank why < 10
 ranks_upto JumpOut = omega arith
@@ -62,37 +76,12 @@ module _ (code : CodeOf) where
       let some = shape.inside 0 (some_start code.starts shape.first) in
       omega arith
 
-  pub few_of : (n : ℕ) → 1 ≤ n → Passed n code → length code.instrs ≤ 65535
-  few_of n h passed = (shape_of n h passed).instrs
-
-  passed_more : (why : VerifyWhy) (n : ℕ) → check_rank why ≡ n → Passed n code → ((p : ℕ) → Within code p → FitsCheck code why p) → Passed (n + 1) code
+  pub passed_more : (why : VerifyWhy) (n : ℕ) → check_rank why ≡ n → Passed n code → ((p : ℕ) → Within code p → FitsCheck code why p) → Passed (n + 1) code
   passed_more why n e passed fit earlier lt p h =
       ⊎_elim
       (λ less. passed earlier less p h)
       (λ more. let same : check_rank earlier ≡ check_rank why = omega arith in subst (λ w. FitsCheck code w p) (sym (same_rank earlier why same)) (fit p h))
       (cases_lt (check_rank earlier) n)
-
-  pub passed_on : (why : VerifyWhy) (n : ℕ) → check_rank why ≡ n → 1 ≤ n → Passed n code → ((p : ℕ) → p < length code.instrs → FitsCheck code why p) → Passed (n + 1) code
-  passed_on why n e h passed fit = passed_more why n e passed (λ p w. fit p (inside_of (shape_of n h passed) p w))
-
-  pub passed_shape : HasShape code → Passed 1 code
-  passed_shape shape = passed_more Shape 0 refl (λ w lt. absurd (omega arith)) (λ p h e. shape)
-
-  pub broken_shape : (HasShape code → ⊥) → FirstBroken code Shape 0
-  broken_shape unfit = record {
-    within = omega arith;
-    broken = λ fit. unfit (fit refl);
-    least = λ p lt. absurd (omega arith);
-    first = λ w lt. absurd (omega arith);
-  }
-
-  pub broken_at : (why : VerifyWhy) (n p : ℕ) → check_rank why ≡ n → Passed n code → p < length code.instrs → (FitsCheck code why p → ⊥) → ((q : ℕ) → q < p → FitsCheck code why q) → FirstBroken code why p
-  broken_at why n p e passed h unfit least = record {
-    within = omega arith;
-    broken = unfit;
-    least = least;
-    first = subst (λ k. Passed k code) (sym e) passed;
-  }
 
   pub passed_all : Passed 10 code → Valid code
   passed_all passed why p h = passed why (ranks_upto why) p h

@@ -1,6 +1,7 @@
 pub mod Bound
 pub mod Brought
 pub mod Checked
+pub mod EachCode
 pub mod LastStart
 pub mod OneFirst
 pub mod PlaceFacts

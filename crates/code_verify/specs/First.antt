@@ -1,6 +1,6 @@
 -- Why a code is refused.
 use Rattle.vap_code.specs.Codes.{CodeOf}
-use Rattle.std.specs.Prelude.{◌≡◌, ℕ}
+use Rattle.std.specs.Prelude.{◌≡◌, ◌⊎◌, ℕ}
 use Rattle.vap_code.specs.declared.VerifyWhy.{VerifyWhy}
 use Rattle.vap_code.specs.Valid.{Valid, FirstBroken}
 use Rattle.code_verify.specs.declared.first.VerifyRefusal.{VerifyRefusal}
@@ -10,6 +10,10 @@ use Rattle.code_verify.specs.declared.first.VerifyRefusal.TheVariants.{Memory, A
 abbrev pub RefusedBy : CodeOf → VerifyRefusal → Type 0
 RefusedBy code Memory = Unit {0}
 RefusedBy code (At place why) = FirstBroken code why place
+
+-- a code is valid, or it has a first broken check and a lowest place that breaks it
+abbrev pub SomeIsFirst : Type 0
+SomeIsFirst = (code : CodeOf) → Valid code ⊎ ((why : VerifyWhy) × (place : ℕ) × FirstBroken code why place)
 
 -- a code breaks at most one check first, and at one lowest place
 abbrev pub OneIsFirst : Type 0

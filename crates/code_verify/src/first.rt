@@ -4,6 +4,7 @@ ghost use Rattle.std.specs.Prelude.{◌≡◌, ◌+◌, ◌≤◌, IfOk, IfErr};
 ghost use Rattle.vap_code.specs.Codes.{code_in};
 ghost use Rattle.vap_code.specs.Valid.{Valid, Passed, HasShape, check_rank};
 ghost use Rattle.code_verify.specs.First.{RefusedBy};
+ghost use Rattle.code_verify.specs.declared.first.VerifyRefusal.TheVariants.{Memory};
 ghost use Rattle.code_verify.specs.Tables.{IsTables};
 
 use crate::checks::{fits, jump_inside, jumps_back_to_tick};
@@ -31,6 +32,7 @@ pub fn verify(alloc: Global, code: Code) -> Result<Verified, (Code, VerifyRefusa
     ensures accepted { IfOk result (λ v. v ≡ code_in code) }
     ensures valid { IfOk result (λ v. Valid (code_in code)) }
     ensures back { IfErr result (λ e. e.0 ≡ code) }
+    ensures only { Valid (code_in code) → IfErr result (λ e. e.1 ≡ Memory) }
     ensures refused { IfErr result (λ e. RefusedBy (code_in code) e.1) }
 {
     match judge(alloc, &code) {

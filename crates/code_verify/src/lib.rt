@@ -3,7 +3,7 @@
 #![tactic(auto)]
 
 ghost use Rattle.code_verify.specs.Ends.{ValidCodeEnds, ValidCodeRunsWell};
-ghost use Rattle.code_verify.specs.First.{OneIsFirst, ValidBreaksNone};
+ghost use Rattle.code_verify.specs.First.{SomeIsFirst, OneIsFirst, ValidBreaksNone};
 
 mod checks;
 mod first;
@@ -30,9 +30,10 @@ pub fn valid_code_runs_well()
     ensures { ValidCodeRunsWell }
 {}
 
-/// A code has at most one first broken check and place, and a valid code has none: so the answer of `verify` is
-/// settled by the code. A call does nothing; its contract is that law.
+/// A code is valid or has a first broken check and place, at most one, and a valid code has none: so the answer of `verify`
+/// is settled by the code. A call does nothing; its contract is that law.
 pub fn one_check_is_first()
+    ensures some { SomeIsFirst }
     ensures one { OneIsFirst }
     ensures none { ValidBreaksNone }
 {}
