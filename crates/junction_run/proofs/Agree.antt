@@ -23,7 +23,9 @@ use Rattle.vap_code.specs.Stores.{StoreFits, first_store}
 use Rattle.code_file.specs.Reading.{code_of}
 use Rattle.code_file.specs.Text.{code_text}
 use Rattle.junction_run.specs.Codes.{IsCompiled}
-use Rattle.junction_run.specs.Loading.{program_at, code_at}
+use Rattle.junction_run.specs.Form.{Source, ProgramFile, CodeFile}
+use Rattle.junction_run.specs.Loading.{Value, program_at, code_at, played_at}
+use Rattle.junction_run.specs.Sites.{RunsAs}
 use Rattle.junction_run.specs.Programs.{logic_of, store_of, Runs}
 use Rattle.junction_run.specs.Records.{records_of, log_of}
 use Rattle.controller.specs.declared.controller.Controller.{Controller}
@@ -129,3 +131,9 @@ log_is code controller site frames logic is = λ j. log_of (record { logic = log
 pub records_are : (code : CodeOf) (controller : Controller) (site : Site) (frames : List Counts) → controller_logic controller ≡ machine code → site_of controller ≡ site →
     records_of (playing_of controller (first_store code)) frames ≡ records_of (code_at site code) frames
 records_are code controller site frames logic is = λ j. records_of (record { logic = logic j; store = first_store code; site = is j }) frames
+
+-- code that does what a source does makes its log
+pub source_log : (source : Source) (code : CodeOf) (value : Value source) → RunsAs source code value → Valid code → (site : Site) (frames : List Counts) →
+    log_of (code_at site code) frames ≡ log_of (played_at source site value) frames
+source_log (ProgramFile word) code program runs valid site frames = same_log code program runs valid site frames
+source_log (CodeFile word) code read same valid site frames = ap (λ c. log_of (code_at site c) frames) same

@@ -10,12 +10,12 @@ use Rattle.sig_tables.specs.SiteRules.{rules_of}
 use Rattle.pua_model.specs.Plan.{groups_in}
 use Rattle.controller.specs.Guarded.{IsGuardedRun}
 use Rattle.controller.proofs.Guarded.{runs_are_guarded}
-use Rattle.junction_run.specs.declared.stop.Stop.{Stop}
-use Rattle.junction_run.specs.declared.stop.Stop.TheVariants.{Memory, ReadFault, WriteFault, Refused, RefusedLine, TooLong}
+use Rattle.junction_run.specs.declared.stop.PlayStop.{PlayStop}
+use Rattle.junction_run.specs.declared.stop.PlayStop.TheVariants.{ReadFault, WriteFault, RefusedLine}
 use Rattle.junction_run.specs.Guarded.{IsGuardedLog, written}
 use Rattle.junction_run.specs.Loading.{Playing}
 use Rattle.junction_run.specs.Records.{log_of}
-use Rattle.junction_run.specs.Stop.{IsWritten}
+use Rattle.junction_run.specs.Played.{IsWritten}
 
 -- tables that were read list conflicts both ways
 pub two_way : (times : List TimesRow) (pairs : Pairs) → ArePairs pairs → IsTwoWay (rules_of times pairs)
@@ -31,17 +31,14 @@ whole : (p : Playing) (frames : List Counts) (old new : Option (List ℕ)) → I
 whole p frames old new is gained =
     front p frames (length (log_of p frames)) old new is (gained ∙ ap (λ t. append_known old t) (sym (take_all (length (log_of p frames)) (log_of p frames) (omega arith))))
 
-written_guarded : {A : Type 0} (r : Result A Stop) (p : Playing) (frames : List Counts) (old new : Option (List ℕ)) → IsGuardedRun p.logic p.site p.store frames →
+written_guarded : {A : Type 0} (r : Result A PlayStop) (p : Playing) (frames : List Counts) (old new : Option (List ℕ)) → IsGuardedRun p.logic p.site p.store frames →
     IsWritten r (log_of p frames) old new → IsGuardedLog old new
 written_guarded (Ok x) p frames old new is gained = whole p frames old new is gained
-written_guarded (Err Memory) p frames old new is gained = absurd gained
 written_guarded (Err (ReadFault w)) p frames old new is gained = whole p frames old new is gained
 written_guarded (Err WriteFault) p frames old new is gained = front p frames gained.0 old new is gained.1.taken
-written_guarded (Err (Refused w line reason)) p frames old new is gained = absurd gained
 written_guarded (Err (RefusedLine w line why)) p frames old new is gained = whole p frames old new is gained
-written_guarded (Err (TooLong w)) p frames old new is gained = absurd gained
 
 -- what was written of a log is guarded
-pub log_guarded : {A : Type 0} (r : Result A Stop) (p : Playing) (frames : List Counts) (old new : Option (List ℕ)) → IsTwoWay p.site.rules → p.site.rules.count ≡ groups_in p.site.plan →
+pub log_guarded : {A : Type 0} (r : Result A PlayStop) (p : Playing) (frames : List Counts) (old new : Option (List ℕ)) → IsTwoWay p.site.rules → p.site.rules.count ≡ groups_in p.site.plan →
     IsWritten r (log_of p frames) old new → IsGuardedLog old new
 log_guarded r p frames old new two count gained = written_guarded r p frames old new (runs_are_guarded p.logic p.site p.store frames two count) gained

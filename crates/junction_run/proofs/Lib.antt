@@ -5,7 +5,6 @@ pub mod Guards
 pub mod LoadedRuns
 pub mod Loads
 pub mod Logs
-pub mod NoFaults
 pub mod Once
 pub mod Pieces
 pub mod Plays

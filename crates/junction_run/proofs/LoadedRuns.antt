@@ -1,5 +1,9 @@
 -- Every run of what the files give is guarded.
-use Rattle.std.proofs.Common.{◌≡◌, ◌∙◌, ℕ, Bool, true, false, List, length, Option, None, Some, Result, Ok, Err, refl, sym, ap, subst}
+use Rattle.std.proofs.Common.{◌≡◌, ◌∙◌, ℕ, zero, suc, Bool, true, false, List, [], ◌∷◌, length, take, Option, None, Some, Result, Ok, Err, refl, sym, ap, subst, arith, inl, inr}
+use Rattle.std.proofs.lemmas.List.{take_all}
+use Rattle.std.specs.Io.KnownBytes.{append_known}
+use Rattle.sig_io.specs.Draft.{IsCut}
+use Rattle.det_stream.specs.Stream.{stream_of}
 use Rattle.std.specs.Prelude.{if◌then◌else◌, drop}
 use Rattle.sig_io.specs.Outside.{Contents}
 use Rattle.sig_types.specs.Rules.{IsTwoWay}
@@ -15,13 +19,19 @@ use Rattle.sig_types.specs.Counts.{Counts}
 use Rattle.controller.specs.Guarded.{IsGuardedRun}
 use Rattle.controller.specs.Past.{Site}
 use Rattle.controller.proofs.Guarded.{runs_are_guarded}
-use Rattle.junction_run.specs.Codes.{CodeIs}
-use Rattle.junction_run.specs.Form.{SiteWords, Run, Compile, Exec, Sample}
-use Rattle.junction_run.specs.Laws.{LoadedRunsAreGuarded}
+use Rattle.junction_run.specs.Form.{SiteWords, Source, ProgramFile, CodeFile, word_of, Play, Compile, Sample}
+use Rattle.junction_run.specs.declared.status.Status.{Status}
+use Rattle.junction_run.specs.declared.status.Status.TheVariants as status
+use Rattle.junction_run.specs.Answer.{answer_to, Gains, IsAnswered, IsBroken, Meets}
+use Rattle.junction_run.specs.Guarded.{IsGuardedLogOf, unwritten_of, written_of}
+use Rattle.junction_run.specs.Laws.{LoadedRunsAreGuarded, WritesOfTheFilesAreGuarded}
+use Rattle.junction_run.specs.Records.{log_of}
+use Rattle.junction_run.proofs.Ends.{append_known-nil}
 use Rattle.junction_run.specs.Loading.{
   Unloaded,
   Refusal,
   TooLong,
+  Refused,
   unless_refused,
   judged,
   table_refusal,
@@ -31,15 +41,13 @@ use Rattle.junction_run.specs.Loading.{
   site_of,
   ◌>>=◌,
   Playing,
-  program_at,
-  code_at,
+  Value,
+  IsSource,
+  LoadsSource,
+  played_at,
   map_ok,
   AfterSite,
-  IsJudged,
-  text_limit,
-  code_limit,
 }
-use Rattle.junction_run.specs.Programs.{ProgramIs}
 use Rattle.junction_run.proofs.Tables.{accepted_lists_well}
 
 -- a step that gives a value had one to work on
@@ -128,14 +136,81 @@ loaded_sound at there (Ok site) Judged playing sound loads = subst IsSound (at_s
 guarded : (playing : Playing) (frames : List Counts) → IsSound playing.site → IsGuardedRun playing.logic playing.site playing.store frames
 guarded playing frames sound = runs_are_guarded playing.logic playing.site playing.store frames sound.two sound.count
 
+-- it is played at the site that was loaded
+there : (source : Source) (site : Site) (value : Value source) → (played_at source site value).site ≡ site
+there (ProgramFile word) site program = refl
+there (CodeFile word) site code = refl
+
+source_guarded : (source : Source) (words : SiteWords) (file : Contents) (playing : Playing) (frames : List Counts) → LoadsSource source words file (Ok playing) →
+    IsGuardedRun playing.logic playing.site playing.store frames
+source_guarded source words file playing frames loads =
+    guarded playing frames
+    (loaded_sound (played_at source) (there source) (site_of words file) (IsSource source (file (word_of source))) playing (site_sound words file) loads)
+
 pub loaded_runs_are_guarded : LoadedRunsAreGuarded
-loaded_runs_are_guarded (Run program words detectors) file playing frames loads =
-    guarded playing frames
-    (loaded_sound program_at (λ site v. refl) (site_of words file) (IsJudged ProgramIs text_limit program (file program)) playing (site_sound words file) loads)
-loaded_runs_are_guarded (Compile program) file source frames loads = tt
-loaded_runs_are_guarded (Exec code words detectors) file playing frames loads =
-    guarded playing frames
-    (loaded_sound code_at (λ site v. refl) (site_of words file) (IsJudged CodeIs code_limit code (file code)) playing (site_sound words file) loads)
-loaded_runs_are_guarded (Sample program words seed seconds) file playing frames loads =
-    guarded playing frames
-    (loaded_sound program_at (λ site v. refl) (site_of words file) (IsJudged ProgramIs text_limit program (file program)) playing (site_sound words file) loads)
+loaded_runs_are_guarded (Play source words detectors) file playing frames loads = source_guarded source words file playing frames loads
+loaded_runs_are_guarded (Compile program) file tree frames loads = tt
+loaded_runs_are_guarded (Sample program words seed seconds) file playing frames loads = source_guarded (ProgramFile program) words file playing frames loads
+
+-- a front of no text is none
+take_nil : (n : ℕ) (text : List ℕ) → text ≡ [] → take n text ≡ []
+take_nil zero [] is = refl
+take_nil (suc n) [] is = refl
+take_nil n (x ∷ xs) is = cc
+
+-- a text of the log that was written, whole or to a front
+all_of : (text : List ℕ) → take (length text) text ≡ text
+all_of text = take_all (length text) text (omega arith)
+
+module _ (source : Source) (words : SiteWords) (detectors : List ℕ) (file : Contents) (old new : Option (List ℕ)) where
+  abbrev Safe : Type 0
+  Safe = IsGuardedLogOf (λ playing. LoadsSource source words file (Ok playing)) old new
+
+  gained_front : (playing : Playing) (frames : List Counts) (n : ℕ) → LoadsSource source words file (Ok playing) →
+      new ≡ append_known old (take n (log_of playing frames)) → Safe
+  gained_front playing frames n loads gained = written_of playing frames n loads (source_guarded source words file playing frames loads) gained
+
+  gained_all : (playing : Playing) (frames : List Counts) (text : List ℕ) → LoadsSource source words file (Ok playing) → text ≡ log_of playing frames →
+      new ≡ append_known old text → Safe
+  gained_all playing frames text loads is gained =
+      gained_front playing frames (length (log_of playing frames)) loads (gained ∙ ap (λ t. append_known old t) (is ∙ sym (all_of (log_of playing frames))))
+
+  gained_none : (text : List ℕ) → text ≡ [] → new ≡ append_known old text → Safe
+  gained_none text is gained = unwritten_of (gained ∙ ap (λ t. append_known old t) is ∙ append_known-nil old)
+
+  gained_by : (r : Result Playing Unloaded) (k : ℕ) → LoadsSource source words file r → Gains (answer_to (Play source words detectors) file r) k old new → Safe
+  gained_by (Ok playing) zero loads gains = gained_none gains.0 gains.1 gains.2
+  gained_by (Ok playing) (suc k) loads gains = gained_all playing (take k (stream_of (file detectors)).frames) gains.0 loads gains.1 gains.2
+  gained_by (Err (TooLong w)) zero loads gains = gained_none gains.0 gains.1 gains.2
+  gained_by (Err (TooLong w)) (suc k) loads gains = gained_none gains.0 gains.1 gains.2
+  gained_by (Err (Refused w line reason)) zero loads gains = gained_none gains.0 gains.1 gains.2
+  gained_by (Err (Refused w line reason)) (suc k) loads gains = gained_none gains.0 gains.1 gains.2
+
+  answered_safe : (status : Status) → IsAnswered (λ r. LoadsSource source words file r) (answer_to (Play source words detectors) file) status old new → Safe
+  answered_safe status is = gained_by is.0 (answer_to (Play source words detectors) file is.0).pieces is.1 is.3
+
+  broken_safe : IsBroken (λ r. LoadsSource source words file r) (answer_to (Play source words detectors) file) old new → Safe
+  broken_safe (inl same) = unwritten_of same
+  broken_safe (inr (r, loads, k, few, gains)) = gained_by r k loads gains
+
+  cut_by : (r : Result Playing Unloaded) (text : List ℕ) (n : ℕ) → LoadsSource source words file r → (answer_to (Play source words detectors) file r).Cut text →
+      IsCut old new n text → Safe
+  cut_by (Ok playing) text n loads is cut =
+      gained_front playing (take (length (stream_of (file detectors)).frames) (stream_of (file detectors)).frames) n loads (cut.taken ∙ ap (λ t. append_known old (take n t)) is)
+  cut_by (Err (TooLong w)) text n loads is cut = gained_none (take n text) (take_nil n text is) cut.taken
+  cut_by (Err (Refused w line reason)) text n loads is cut = gained_none (take n text) (take_nil n text is) cut.taken
+
+  play_safe : (status : Status) → Meets (Play source words detectors) file status old new → Safe
+  play_safe status.Done is = answered_safe status.Done is
+  play_safe status.Memory is = unwritten_of is
+  play_safe status.Words is = absurd is
+  play_safe status.ReadFault is = broken_safe is
+  play_safe status.WriteFault is = cut_by is.0 is.2 is.4 is.1 is.3 is.5
+  play_safe status.RefusedFile is = answered_safe status.RefusedFile is
+  play_safe status.RefusedLine is = answered_safe status.RefusedLine is
+  play_safe status.TooLong is = answered_safe status.TooLong is
+
+pub writes_of_the_files_are_guarded : WritesOfTheFilesAreGuarded
+writes_of_the_files_are_guarded (Play source words detectors) file status old new is = play_safe source words detectors file old new status is
+writes_of_the_files_are_guarded (Compile program) file status old new is = tt
+writes_of_the_files_are_guarded (Sample program words seed seconds) file status old new is = tt

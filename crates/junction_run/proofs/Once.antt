@@ -2,8 +2,12 @@
 use Rattle.std.proofs.Common.{◌≡◌, ◌∙◌, ℕ, List, Option, Some, None, Result, Ok, Err, refl, sym, ap, subst, arith, inl, inr, ◌⊎◌}
 use Rattle.sig_io.specs.Outside.{Contents}
 use Rattle.vap_ast.specs.Syntax.{Program}
-use Rattle.vap_lex.specs.Tokens.{line_at}
+use Rattle.vap_lex.specs.declared.token.Token.{Token}
+use Rattle.vap_lex.specs.declared.piece.LexWhy.{LexWhy}
+use Rattle.vap_lex.specs.Refusal.{IsStuck}
+use Rattle.vap_lex.specs.Tokens.{HasTokens, line_at}
 use Rattle.vap_lex.proofs.OneAnswer.{one_list, one_place, never_both}
+use Rattle.vap_parse.specs.declared.kind.Reason.{Reason}
 use Rattle.vap_parse.specs.Grammar.{Accepts}
 use Rattle.vap_parse.specs.Grammar as grammar
 use Rattle.vap_parse.specs.Refusal.{line_of, why_of}
@@ -11,6 +15,7 @@ use Rattle.vap_parse.proofs.Exact as parsed
 use Rattle.vap_check.specs.declared.refusal.CheckWhy.{CheckWhy}
 use Rattle.vap_check.specs.Accepted.{Accepted}
 use Rattle.vap_check.specs.Accepted as check
+use Rattle.vap_check.specs.Readings.{with_readings}
 use Rattle.code_file.specs.declared.refusal.CodeWhy.{CodeWhy}
 use Rattle.code_file.specs.Reading.{code_of}
 use Rattle.code_verify.specs.First.{OneIsFirst, ValidBreaksNone}
@@ -18,7 +23,7 @@ use Rattle.vap_code.specs.Codes.{CodeOf}
 use Rattle.vap_code.specs.Valid.{Valid, FirstBroken}
 use Rattle.controller.specs.Past.{Site}
 use Rattle.junction_run.specs.Codes.{CodeIs, no_code, unsound, is_code, instr_line}
-use Rattle.junction_run.specs.Form.{Form, Run, Compile, Exec, Sample}
+use Rattle.junction_run.specs.Form.{SiteWords, Source, ProgramFile, CodeFile, word_of, Form, Play, Compile, Sample}
 use Rattle.junction_run.specs.Loading.{
   Unloaded,
   Refusal,
@@ -32,18 +37,19 @@ use Rattle.junction_run.specs.Loading.{
   Loaded,
   Loads,
   site_of,
-  text_limit,
-  code_limit,
-  program_at,
-  code_at,
+  Value,
+  limit_of,
+  SourceIs,
+  IsSource,
+  LoadsSource,
+  played_at,
 }
 use Rattle.junction_run.specs.Loading as loading
 use Rattle.junction_run.specs.Programs.{ProgramIs, no_token, no_tree, unchecked, is_program}
 use Rattle.junction_run.specs.Reasons.{lex_reason, parse_reason, check_reason, code_reason, verify_reason}
-use Rattle.junction_run.specs.Laws.{LoadsOnce, IsComplete, RefusedOnlyWhere, SamplesRefuseNoLine}
-use Rattle.junction_run.specs.Answer.{answer_to, IsAnswered, stream_status, unloaded_answer, answered, sample_answer}
-use Rattle.det_stream.specs.declared.refusal.StreamWhy.{StreamWhy}
-use Rattle.det_stream.specs.Stream.{stream_of}
+use Rattle.junction_run.specs.Laws.{LoadsOnce, ProgramsHaveOneAnswer, EndsAsGiven, IsComplete}
+use Rattle.junction_run.specs.Answer.{answer_to, IsAnswered}
+use Rattle.junction_run.specs.Answers.{Seen}
 use Rattle.junction_run.specs.declared.status.Status.{Status}
 use Rattle.junction_run.specs.declared.status.Status.TheVariants.{Done, Memory, Words, ReadFault, WriteFault, RefusedFile, RefusedLine, TooLong}
 
@@ -74,19 +80,48 @@ program_once checked bytes r s (unchecked ts tree line v a b c) (no_tree us rest
     absurd (parsed.apart us tree w rest (subst (λ ts. Accepts ts tree) (one_list bytes ts us a d) b) e)
 program_once checked bytes r s (unchecked ts tree line v a b c) (unchecked us tree' line' w d e f) =
     let trees = parsed.one_tree us tree tree' (subst (λ ts. Accepts ts tree) (one_list bytes ts us a d) b) e in
-    let same = checked.refusal tree' line line' v w (subst (λ p. check.Refuses p line v) trees c) f in
+    let same = checked.refusal (with_readings tree') line line' v w (subst (λ p. check.Refuses (with_readings p) line v) trees c) f in
     (λ j. Err (same.0 j, check_reason (same.1 j)))
 program_once checked bytes r s (unchecked ts tree line v a b c) (is_program us tree' d e f) =
     let trees = parsed.one_tree us tree tree' (subst (λ ts. Accepts ts tree) (one_list bytes ts us a d) b) e in
-    absurd (checked.apart tree' line v f (subst (λ p. check.Refuses p line v) trees c))
+    absurd (checked.apart (with_readings tree') line v f (subst (λ p. check.Refuses (with_readings p) line v) trees c))
 program_once checked bytes r s (is_program ts tree a b c) (no_token q w d) = absurd (never_both bytes ts q w a d)
 program_once checked bytes r s (is_program ts tree a b c) (no_tree us rest w d e) =
     absurd (parsed.apart us tree w rest (subst (λ ts. Accepts ts tree) (one_list bytes ts us a d) b) e)
 program_once checked bytes r s (is_program ts tree a b c) (unchecked us tree' line w d e f) =
     let trees = parsed.one_tree us tree tree' (subst (λ ts. Accepts ts tree) (one_list bytes ts us a d) b) e in
-    absurd (checked.apart tree' line w (subst Accepted trees c) f)
+    absurd (checked.apart (with_readings tree') line w (subst (λ p. Accepted (with_readings p)) trees c) f)
 program_once checked bytes r s (is_program ts tree a b c) (is_program us tree' d e f) =
-    ap Ok (parsed.one_tree us tree tree' (subst (λ ts. Accepts ts tree) (one_list bytes ts us a d) b) e)
+    ap (λ p. Ok (with_readings p)) (parsed.one_tree us tree tree' (subst (λ ts. Accepts ts tree) (one_list bytes ts us a d) b) e)
+
+-- each stage answers
+pub record StagesAnswer : Type 0 where
+  pub some_tokens : (text : List ℕ) → ((ts : List Token) × HasTokens text ts) ⊎ ((p : ℕ) × (w : LexWhy) × IsStuck text p w)
+  pub some_tree : (ts : List Token) → ((p : Program) × Accepts ts p) ⊎ ((w : Reason) × (r : List Token) × grammar.Refuses ts w r)
+  pub some_check : (p : Program) → Accepted p ⊎ ((l : ℕ) × (w : CheckWhy) × check.Refuses p l w)
+
+abbrev Answered : List ℕ → Type 0
+Answered bytes = (r : Result Program (ℕ × List ℕ)) × ProgramIs bytes r
+
+by_checks : (bytes : List ℕ) (ts : List Token) (p : Program) → HasTokens bytes ts → Accepts ts p →
+    Accepted (with_readings p) ⊎ ((l : ℕ) × (w : CheckWhy) × check.Refuses (with_readings p) l w) → Answered bytes
+by_checks bytes ts p has accepts (inl is) = (Ok (with_readings p), is_program ts p has accepts is)
+by_checks bytes ts p has accepts (inr (l, w, is)) = (Err (l, check_reason w), unchecked ts p l w has accepts is)
+
+by_tree : StagesAnswer → (bytes : List ℕ) (ts : List Token) → HasTokens bytes ts →
+    ((p : Program) × Accepts ts p) ⊎ ((w : Reason) × (r : List Token) × grammar.Refuses ts w r) → Answered bytes
+by_tree stages bytes ts has (inl (p, accepts)) = by_checks bytes ts p has accepts (stages.some_check (with_readings p))
+by_tree stages bytes ts has (inr (w, r, is)) = (Err (line_of ts r, parse_reason (why_of ts r w)), no_tree ts r w has is)
+
+by_tokens : StagesAnswer → (bytes : List ℕ) → ((ts : List Token) × HasTokens bytes ts) ⊎ ((p : ℕ) × (w : LexWhy) × IsStuck bytes p w) → Answered bytes
+by_tokens stages bytes (inl (ts, has)) = by_tree stages bytes ts has (stages.some_tree ts)
+by_tokens stages bytes (inr (p, w, stuck)) = (Err (line_at bytes p, lex_reason w), no_token p w stuck)
+
+-- and so each text has one answer
+pub programs_have_one_answer : StagesAnswer → CheckedOnce → ProgramsHaveOneAnswer
+programs_have_one_answer stages checked bytes =
+    let is = by_tokens stages bytes (stages.some_tokens bytes) in
+    (is.0, is.1, λ s other. program_once checked bytes s is.0 other is.1)
 
 -- ---- a code
 
@@ -160,69 +195,47 @@ pub record StagesOnce : Type 0 where
   pub first : OneIsFirst
   pub none : ValidBreaksNone
 
+-- a text has one first refusal, or is one program or code
+source_once : StagesOnce → (source : Source) (bytes : List ℕ) (a b : Result (Value source) Refusal) → SourceIs source bytes a → SourceIs source bytes b → a ≡ b
+source_once stages (ProgramFile word) bytes a b = program_once stages.checked bytes a b
+source_once stages (CodeFile word) bytes a b = code_once stages.first stages.none bytes a b
+
+file_once : StagesOnce → (source : Source) (bytes : List ℕ) (r s : Result (Value source) Unloaded) → IsSource source bytes r → IsSource source bytes s → r ≡ s
+file_once stages source bytes = judged_once (SourceIs source) (limit_of source) (word_of source) bytes (source_once stages source bytes)
+
+site_once : StagesOnce → (source : Source) (words : SiteWords) (file : Contents) (r s : Result Playing Unloaded) → LoadsSource source words file r → LoadsSource source words file s → r ≡ s
+site_once stages source words file =
+    after_once (played_at source) (site_of words file) (IsSource source (file (word_of source))) (file_once stages source (file (word_of source)))
+
 pub loads_once : StagesOnce → LoadsOnce
-loads_once stages (Run word site detectors) file r s a b =
-    after_once program_at (site_of site file) (IsJudged ProgramIs text_limit word (file word))
-    (judged_once ProgramIs text_limit word (file word) (program_once stages.checked (file word))) r s a b
-loads_once stages (Compile word) file r s a b = judged_once ProgramIs text_limit word (file word) (program_once stages.checked (file word)) r s a b
-loads_once stages (Exec word site detectors) file r s a b =
-    after_once code_at (site_of site file) (IsJudged CodeIs code_limit word (file word))
-    (judged_once CodeIs code_limit word (file word) (code_once stages.first stages.none (file word))) r s a b
-loads_once stages (Sample word site seed seconds) file r s a b =
-    after_once program_at (site_of site file) (IsJudged ProgramIs text_limit word (file word))
-    (judged_once ProgramIs text_limit word (file word) (program_once stages.checked (file word))) r s a b
+loads_once stages (Play source site detectors) file r s a b = site_once stages source site file r s a b
+loads_once stages (Compile word) file r s a b = file_once stages (ProgramFile word) (file word) r s a b
+loads_once stages (Sample word site seed seconds) file r s a b = site_once stages (ProgramFile word) site file r s a b
 
 -- the answer's own status is that of the files
-status_is : StagesOnce → (form : Form) (file : Contents) (loaded : Loaded form) (status : Status) (old new : Option (List ℕ)) → Loads form file (Ok loaded) →
-    (answer_to form file (Ok loaded)).status ≡ Done → IsAnswered (Loads form file) (answer_to form file) status old new → status ≡ Done
-status_is stages form file loaded status old new loads done is =
-    let same : is.0 ≡ Ok loaded = loads_once stages form file is.0 (Ok loaded) is.1 loads in
-    sym is.2 ∙ ap (λ r. (answer_to form file r).status) same ∙ done
+status_is : StagesOnce → (form : Form) (file : Contents) (r : Result (Loaded form) Unloaded) (status : Status) (old new : Option (List ℕ)) → Loads form file r →
+    IsAnswered (Loads form file) (answer_to form file) status old new → status ≡ (answer_to form file r).status
+status_is stages form file r status old new loads is =
+    sym is.2 ∙ ap (λ r. (answer_to form file r).status) (loads_once stages form file is.0 r is.1 loads)
 
+pub ends_as_given : StagesOnce → EndsAsGiven
+ends_as_given stages form file r Done old new loads is = inl (status_is stages form file r Done old new loads is)
+ends_as_given stages form file r Memory old new loads is = inr (inl refl)
+ends_as_given stages form file r Words old new loads is = absurd is
+ends_as_given stages form file r ReadFault old new loads is = inr (inr (inl refl))
+ends_as_given stages form file r WriteFault old new loads is = inr (inr (inr refl))
+ends_as_given stages form file r RefusedFile old new loads is = inl (status_is stages form file r RefusedFile old new loads is)
+ends_as_given stages form file r RefusedLine old new loads is = inl (status_is stages form file r RefusedLine old new loads is)
+ends_as_given stages form file r TooLong old new loads is = inl (status_is stages form file r TooLong old new loads is)
+
+-- where no count rises, the two faults fall away
 pub complete : StagesOnce → IsComplete
-complete stages form file loaded Done old new loads done is = inl refl
-complete stages form file loaded Memory old new loads done is = inr (inl refl)
-complete stages form file loaded Words old new loads done is = absurd is
-complete stages form file loaded ReadFault old new loads done is = inr (inr (inl refl))
-complete stages form file loaded WriteFault old new loads done is = inr (inr (inr refl))
-complete stages form file loaded RefusedFile old new loads done is = absurd (let e : RefusedFile ≡ Done = status_is stages form file loaded RefusedFile old new loads done is in cc)
-complete stages form file loaded RefusedLine old new loads done is = absurd (let e : RefusedLine ≡ Done = status_is stages form file loaded RefusedLine old new loads done is in cc)
-complete stages form file loaded TooLong old new loads done is = absurd (let e : TooLong ≡ Done = status_is stages form file loaded TooLong old new loads done is in cc)
-
--- a command that is done refused no file, nor does one that refused a line
-done_refuses_none : (status : Status) → Done ≡ status → (status ≡ RefusedFile) ⊎ (status ≡ TooLong) → ⊥
-done_refuses_none status e (inl h) = cc
-done_refuses_none status e (inr h) = cc
-
-line_refuses_none : (status : Status) → RefusedLine ≡ status → (status ≡ RefusedFile) ⊎ (status ≡ TooLong) → ⊥
-line_refuses_none status e (inl h) = cc
-line_refuses_none status e (inr h) = cc
-
-stream_refuses_none : (status : Status) (o : Option (ℕ × StreamWhy)) → stream_status o ≡ status → (status ≡ RefusedFile) ⊎ (status ≡ TooLong) → ⊥
-stream_refuses_none status None is which = done_refuses_none status is which
-stream_refuses_none status (Some at) is which = line_refuses_none status is which
-
-refused_case : (form : Form) (file : Contents) (r : Result (Loaded form) Unloaded) (status : Status) → Loads form file r → (answer_to form file r).status ≡ status →
-    (status ≡ RefusedFile) ⊎ (status ≡ TooLong) → (u : Unloaded) × Loads form file (Err u)
-refused_case form file (Err u) status loads is which = (u, loads)
-refused_case (Run word site detectors) file (Ok playing) status loads is which = absurd (stream_refuses_none status (stream_of (file detectors)).refusal is which)
-refused_case (Compile word) file (Ok source) status loads is which = absurd (done_refuses_none status is which)
-refused_case (Exec word site detectors) file (Ok playing) status loads is which = absurd (stream_refuses_none status (stream_of (file detectors)).refusal is which)
-refused_case (Sample word site seed seconds) file (Ok playing) status loads is which = absurd (done_refuses_none status is which)
-
-pub refused_only_where : RefusedOnlyWhere
-refused_only_where form file old new = (λ is. refused_case form file is.0 RefusedFile is.1 is.2 (inl refl), λ is. refused_case form file is.0 TooLong is.1 is.2 (inr refl))
-
-unloaded_refuses_no_line : (u : Unloaded) → (unloaded_answer u).status ≡ RefusedLine → ⊥
-unloaded_refuses_no_line (loading.TooLong word) e = cc
-unloaded_refuses_no_line (loading.Refused word line reason) e = cc
-
-done_refuses_no_line : Done ≡ RefusedLine → ⊥
-done_refuses_no_line e = cc
-
-no_line_case : (seed seconds : ℕ) (r : Result Playing Unloaded) → (answered (sample_answer seed seconds) r).status ≡ RefusedLine → ⊥
-no_line_case seed seconds (Ok playing) e = done_refuses_no_line e
-no_line_case seed seconds (Err u) e = unloaded_refuses_no_line u e
-
-pub samples_refuse_no_line : SamplesRefuseNoLine
-samples_refuse_no_line program words seed seconds file old new is = no_line_case seed seconds is.0 is.2
+complete stages form file r files out notes status told loads read write answer =
+    of (ends_as_given stages form file r status out.old out.new loads (answer.answer file told))
+  where
+    of : (status ≡ (answer_to form file r).status) ⊎ ((status ≡ Memory) ⊎ ((status ≡ ReadFault) ⊎ (status ≡ WriteFault))) →
+        (status ≡ (answer_to form file r).status) ⊎ (status ≡ Memory)
+    of (inl own) = inl own
+    of (inr (inl memory)) = inr memory
+    of (inr (inr (inl fault))) = absurd (read (answer.read_fault fault))
+    of (inr (inr (inr fault))) = absurd (write (answer.write_fault fault))

@@ -17,9 +17,8 @@ use Rattle.det_stream.specs.Stream.{stream_of}
 use Rattle.det_stream.proofs.Steps.{reads_front}
 use Rattle.signal_log.specs.Log.{record_text}
 use Rattle.junction_run.specs.Loading.{Playing}
-use Rattle.junction_run.specs.Played.{playing_of}
+use Rattle.junction_run.specs.Played.{playing_of, BeginsWith}
 use Rattle.junction_run.specs.Records.{log_of}
-use Rattle.junction_run.specs.Stop.{BeginsWith}
 use Rattle.junction_run.proofs.Logs.{past_at, next_text, log_of-more, plan_is, frames_at}
 
 -- these frames were given and made into seconds, and their records were put

@@ -5,6 +5,7 @@ use Rattle.vap_ast.specs.declared.tree.Program.{Program as Tree}
 use Rattle.vap_ast.specs.Tree.{program_of}
 use Rattle.vap_check.specs.Accepted.{Accepted}
 use Rattle.vap_check.specs.Numbers.{Meant, checked_of}
+use Rattle.vap_check.specs.Readings.{with_readings}
 use Rattle.vap_lex.specs.declared.token.Token.{Token}
 use Rattle.vap_lex.specs.declared.piece.LexWhy.{LexWhy}
 use Rattle.vap_lex.specs.declared.scan.LexRefusal.TheVariants as lex
@@ -17,10 +18,10 @@ use Rattle.vap_parse.specs.declared.program.ParseRefusal.TheVariants as parse
 use Rattle.vap_parse.specs.Grammar.{Accepts}
 use Rattle.vap_parse.specs.Refusal as parsed
 use Rattle.vap_code.specs.Codes.{CodeOf}
-use Rattle.junction_run.specs.declared.stop.Stop.{Stop}
-use Rattle.junction_run.specs.declared.stop.Stop.TheVariants.{Memory, ReadFault, WriteFault, Refused, RefusedLine, TooLong}
+use Rattle.junction_run.specs.declared.stop.LoadStop.{LoadStop}
+use Rattle.junction_run.specs.declared.stop.LoadStop.TheVariants.{Memory, ReadFault, Refused, TooLong}
 use Rattle.sig_io.specs.Outside.{Contents}
-use Rattle.junction_run.specs.Form.{SiteWords}
+use Rattle.junction_run.specs.Form.{SiteWords, ProgramFile, CodeFile}
 use Rattle.controller.specs.Past.{Site}
 use Rattle.code_file.specs.Reading.{code_of}
 use Rattle.vap_code.specs.Valid.{Valid, FirstBroken}
@@ -30,7 +31,7 @@ use Rattle.junction_run.specs.Loading.{Unloaded, Refusal, Playing, IsJudged, tex
 use Rattle.junction_run.specs.Loading as loading
 use Rattle.junction_run.specs.Programs.{ProgramIs, no_token, no_tree, is_program}
 use Rattle.junction_run.specs.Reasons.{reason_text, lex_reason, parse_reason, verify_reason}
-use Rattle.junction_run.specs.Sites.{IsRefusedProgram, IsCheckedText, IsProgramText, IsProgramFile, IsCodeText, IsCodeFile}
+use Rattle.junction_run.specs.Sites.{IsRefusedProgram, IsCheckedText, IsProgramText, IsCodeText, IsSourceFile}
 use Rattle.junction_run.specs.Stop.{IsAt, IsUnread, IsRefusedBy, IsUnloadedBy, IsLoadStop}
 
 -- a place that is no token
@@ -55,15 +56,15 @@ treeless_text text ts line why has is =
     subst (λ (r : ℕ × List ℕ). ProgramIs text (Err r)) (sym (λ j. (at j, parse_reason (for j)))) (no_tree ts is.0 is.1 has is.2)
 
 -- a tree that was checked
-pub checked_text : (r : Result Meant Stop) (text : List ℕ) (ts : List Token) (tree : Tree) → HasTokens text ts → Accepts ts (program_of tree) →
-    IfOk r (λ c. Accepted (program_of tree) × (c ≡ checked_of tree)) → IfErr r (λ stop. IsRefusedProgram text stop) → IsCheckedText text r
-checked_text (Ok c) text ts tree has accepts is wrong =
-    let same : c.tree ≡ tree = ap (λ m. m.tree) is.1 in
-    (subst (λ t. ProgramIs text (Ok (program_of t))) (sym same) (is_program ts (program_of tree) has accepts is.0), is.1 ∙ ap checked_of (sym same))
-checked_text (Err stop) text ts tree has accepts is wrong = wrong
+pub checked_text : (r : Result Meant LoadStop) (text : List ℕ) (ts : List Token) (tree : Tree) → HasTokens text ts → Accepts ts (program_of tree) →
+    IfOk r (λ c. program_of c.tree ≡ with_readings (program_of tree)) → IfOk r (λ c. Accepted (program_of c.tree) × (c ≡ checked_of c.tree)) →
+    IfErr r (λ stop. IsRefusedProgram text stop) → IsCheckedText text r
+checked_text (Ok c) text ts tree has accepts same is wrong =
+    (subst (λ p. ProgramIs text (Ok p)) (sym same) (is_program ts (program_of tree) has accepts (subst Accepted same is.0)), is.1)
+checked_text (Err stop) text ts tree has accepts same is wrong = wrong
 
 -- a code that was read and verified
-pub verified_text : (r : Result CodeOf Stop) (text : List ℕ) (code : CodeOf) → code_of text ≡ Ok code → IfOk r (λ v. (v ≡ code) × Valid code) →
+pub verified_text : (r : Result CodeOf LoadStop) (text : List ℕ) (code : CodeOf) → code_of text ≡ Ok code → IfOk r (λ v. (v ≡ code) × Valid code) →
     IfErr r (λ stop. IsRefusedBy CodeIs text stop) → IsCodeText text r
 verified_text (Ok v) text code read is wrong = subst (λ v. CodeIs text (Ok v)) (sym is.0) (is_code code read is.1)
 verified_text (Err stop) text code read is wrong = wrong
@@ -76,54 +77,49 @@ unsound_text text code why place line read is at = subst (λ n. CodeIs text (Err
 -- ---- a file
 
 -- a file that was not read
-pub unread_file : {V : Type 0} (Is : List ℕ → Result V Refusal → Type 0) (limit : ℕ) (name bytes : List ℕ) (stop : Stop) → IsUnread limit bytes stop → IsAt name stop →
+pub unread_file : {V : Type 0} (Is : List ℕ → Result V Refusal → Type 0) (limit : ℕ) (name bytes : List ℕ) (stop : LoadStop) → IsUnread limit bytes stop → IsAt name stop →
     IsUnloadedBy (IsJudged Is limit name bytes) (λ w. w ≡ name) stop
 unread_file Is limit name bytes Memory is at = tt
 unread_file Is limit name bytes (ReadFault w) is at = at
-unread_file Is limit name bytes WriteFault is at = is
 unread_file Is limit name bytes (Refused w line reason) is at = absurd is
-unread_file Is limit name bytes (RefusedLine w line why) is at = is
 unread_file Is limit name bytes (TooLong w) is at = subst (λ n. IsJudged Is limit name bytes (Err (loading.TooLong n))) (sym at) (loading.long is)
 
 -- one that is refused
-refused_file : {V : Type 0} (Is : List ℕ → Result V Refusal → Type 0) (limit : ℕ) (name bytes : List ℕ) (stop : Stop) → length bytes ≤ limit → IsRefusedBy Is bytes stop → IsAt name stop →
+refused_file : {V : Type 0} (Is : List ℕ → Result V Refusal → Type 0) (limit : ℕ) (name bytes : List ℕ) (stop : LoadStop) → length bytes ≤ limit → IsRefusedBy Is bytes stop → IsAt name stop →
     IsUnloadedBy (IsJudged Is limit name bytes) (λ w. w ≡ name) stop
 refused_file Is limit name bytes Memory short is at = tt
 refused_file Is limit name bytes (ReadFault w) short is at = absurd is
-refused_file Is limit name bytes WriteFault short is at = is
 refused_file Is limit name bytes (Refused w line reason) short is at =
     subst (λ n. IsJudged Is limit name bytes (Err (loading.Refused n line (reason_text reason)))) (sym at) (loading.refused line (reason_text reason) short is)
-refused_file Is limit name bytes (RefusedLine w line why) short is at = is
 refused_file Is limit name bytes (TooLong w) short is at = absurd is
 
-judged_program : (name bytes : List ℕ) (r : Result CodeOf Stop) → length bytes ≤ text_limit → IsProgramText bytes r → IfErr r (λ stop. IsAt name stop) → IsProgramFile name bytes r
+judged_program : (name bytes : List ℕ) (r : Result CodeOf LoadStop) → length bytes ≤ text_limit → IsProgramText bytes r → IfErr r (λ stop. IsAt name stop) →
+    IsSourceFile (ProgramFile name) bytes r
 judged_program name bytes (Ok code) short is at = (is.0, loading.accepted is.0 short is.1, is.2)
 judged_program name bytes (Err stop) short is at = refused_file ProgramIs text_limit name bytes stop short is at
 
 -- a program file that was judged so
-pub program_file : (name bytes text : List ℕ) (r : Result CodeOf Stop) → text ≡ bytes → length text ≤ text_limit → IsProgramText text r → IfErr r (λ stop. IsAt name stop) →
-    IsProgramFile name bytes r
-program_file name bytes text r same short is at = subst (λ b. IsProgramFile name b r) same (judged_program name text r short is at)
+pub program_file : (name bytes text : List ℕ) (r : Result CodeOf LoadStop) → text ≡ bytes → length text ≤ text_limit → IsProgramText text r → IfErr r (λ stop. IsAt name stop) →
+    IsSourceFile (ProgramFile name) bytes r
+program_file name bytes text r same short is at = subst (λ b. IsSourceFile (ProgramFile name) b r) same (judged_program name text r short is at)
 
-judged_code : (name bytes : List ℕ) (r : Result CodeOf Stop) → length bytes ≤ code_limit → IsCodeText bytes r → IfErr r (λ stop. IsAt name stop) → IsCodeFile name bytes r
-judged_code name bytes (Ok code) short is at = loading.accepted code short is
+judged_code : (name bytes : List ℕ) (r : Result CodeOf LoadStop) → length bytes ≤ code_limit → IsCodeText bytes r → IfErr r (λ stop. IsAt name stop) → IsSourceFile (CodeFile name) bytes r
+judged_code name bytes (Ok code) short is at = (code, loading.accepted code short is, refl)
 judged_code name bytes (Err stop) short is at = refused_file CodeIs code_limit name bytes stop short is at
 
 -- a code file that was judged so
-pub code_file : (name bytes text : List ℕ) (r : Result CodeOf Stop) → text ≡ bytes → length text ≤ code_limit → IsCodeText text r → IfErr r (λ stop. IsAt name stop) →
-    IsCodeFile name bytes r
-code_file name bytes text r same short is at = subst (λ b. IsCodeFile name b r) same (judged_code name text r short is at)
+pub code_file : (name bytes text : List ℕ) (r : Result CodeOf LoadStop) → text ≡ bytes → length text ≤ code_limit → IsCodeText text r → IfErr r (λ stop. IsAt name stop) →
+    IsSourceFile (CodeFile name) bytes r
+code_file name bytes text r same short is at = subst (λ b. IsSourceFile (CodeFile name) b r) same (judged_code name text r short is at)
 
 -- ---- a file after a site
 
 -- what stops one loading stops another that goes on from it
 pub unloaded_later : {A B : Type 0} (Gives : Result A Unloaded → Type 0) (Later : Result B Unloaded → Type 0) (Early Late : List ℕ → Type 0) →
-    ((u : Unloaded) → Gives (Err u) → Later (Err u)) → ((w : List ℕ) → Early w → Late w) → (stop : Stop) → IsUnloadedBy Gives Early stop → IsUnloadedBy Later Late stop
+    ((u : Unloaded) → Gives (Err u) → Later (Err u)) → ((w : List ℕ) → Early w → Late w) → (stop : LoadStop) → IsUnloadedBy Gives Early stop → IsUnloadedBy Later Late stop
 unloaded_later Gives Later Early Late refused reached Memory is = tt
 unloaded_later Gives Later Early Late refused reached (ReadFault w) is = reached w.now is
-unloaded_later Gives Later Early Late refused reached WriteFault is = is
 unloaded_later Gives Later Early Late refused reached (Refused w line reason) is = refused (loading.Refused w.now line (reason_text reason)) is
-unloaded_later Gives Later Early Late refused reached (RefusedLine w line why) is = is
 unloaded_later Gives Later Early Late refused reached (TooLong w) is = refused (loading.TooLong w.now) is
 
 module _ {V : Type 0} (at : Site → V → Playing) (Judged : Result V Unloaded → Type 0) (name : List ℕ) (words : SiteWords) (file : Contents) where
@@ -131,7 +127,7 @@ module _ {V : Type 0} (at : Site → V → Playing) (Judged : Result V Unloaded 
   after_no_site u is = rw is refl
 
   -- the site isn't taken
-  pub no_site : (stop : Stop) → IsLoadStop (λ w. ReachedInSite words file w) stop (site_of words file) →
+  pub no_site : (stop : LoadStop) → IsLoadStop (λ w. ReachedInSite words file w) stop (site_of words file) →
       IsUnloadedBy (λ r. AfterSite at (site_of words file) Judged r) (λ w. ReachedAfterSite name words file w) stop
   no_site stop is =
       unloaded_later (λ r. site_of words file ≡ r) (λ r. AfterSite at (site_of words file) Judged r) (λ w. ReachedInSite words file w) (λ w. ReachedAfterSite name words file w)
@@ -141,7 +137,7 @@ module _ {V : Type 0} (at : Site → V → Playing) (Judged : Result V Unloaded 
   after_site site v is judged = rw is (v, judged, refl)
 
   -- the file isn't
-  pub no_last : (site : Site) (stop : Stop) → site_of words file ≡ Ok site → IsUnloadedBy Judged (λ w. w ≡ name) stop →
+  pub no_last : (site : Site) (stop : LoadStop) → site_of words file ≡ Ok site → IsUnloadedBy Judged (λ w. w ≡ name) stop →
       IsUnloadedBy (λ r. AfterSite at (site_of words file) Judged r) (λ w. ReachedAfterSite name words file w) stop
   no_last site stop first is =
       unloaded_later Judged (λ r. AfterSite at (site_of words file) Judged r) (λ w. w ≡ name) (λ w. ReachedAfterSite name words file w)

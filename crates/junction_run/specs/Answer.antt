@@ -10,24 +10,42 @@ use Rattle.vap_ast.specs.Syntax.{Program}
 use Rattle.junction_run.specs.declared.status.Status.{Status}
 use Rattle.junction_run.specs.declared.status.Status.TheVariants as status
 use Rattle.junction_run.specs.Codes.{IsCompiled}
-use Rattle.junction_run.specs.Form.{Form, Run, Compile, Exec, Sample}
+use Rattle.junction_run.specs.Form.{Form, Play, Compile, Sample}
 use Rattle.junction_run.specs.Loading.{Unloaded, TooLong, Refused, Loaded, Loads, Playing}
 use Rattle.junction_run.specs.Reasons.{stream_reason}
 use Rattle.junction_run.specs.Records.{log_of}
 use Rattle.junction_run.specs.Sampled.{sample_text}
 
 -- What is answered where memory is found and nothing fails: the status; which text out may have gained after the first piece
--- and so many more; the number of pieces; how many of them may come before the last read; and the note.
+-- and so many more; the number of pieces; how many of them may come before the last read; the texts of which a fault of the
+-- sink may leave a front; and the note.
 pub record Answer : Type 1 where
   pub status : Status
   pub Gained : ℕ → List ℕ → Type 0
   pub pieces : ℕ
   pub before_reads : ℕ
+  pub Cut : List ℕ → Type 0
   pub note : List ℕ
 
 -- whatever the number of pieces, the text is empty
 abbrev pub nothing : ℕ → List ℕ → Type 0
 nothing k text = text ≡ []
+
+-- the text after so many pieces, none at first
+abbrev pub GainedBy : (ℕ → List ℕ → Type 0) → ℕ → List ℕ → Type 0
+GainedBy Gained zero text = text ≡ []
+GainedBy Gained (suc k) text = Gained k text
+
+-- an answer of whose whole text a fault of the sink may leave a front
+abbrev pub in_pieces : Status → (ℕ → List ℕ → Type 0) → (pieces before_reads : ℕ) → (note : List ℕ) → Answer
+in_pieces status Gained pieces before_reads note = record {
+  status = status;
+  Gained = Gained;
+  pieces = pieces;
+  before_reads = before_reads;
+  Cut = λ text. GainedBy Gained pieces text;
+  note = note;
+}
 
 -- a note, with the name of the program before it and its line feed
 abbrev pub note_of : List ℕ → List ℕ
@@ -39,7 +57,7 @@ line_note word line reason = note_of (word ++ 58 ∷ decimal line ++ codes ": " 
 
 -- a status with its note, and nothing for out
 abbrev pub stopped : Status → List ℕ → Answer
-stopped status note = record { status = status; Gained = nothing; pieces = 0; before_reads = 0; note = note }
+stopped status note = in_pieces status nothing 0 0 note
 
 -- the answer where a file is too long or is refused: its status and its note, and nothing for out
 abbrev pub unloaded_answer : Unloaded → Answer
@@ -59,39 +77,22 @@ stream_note word (Some at) = line_note word at.0 (stream_reason at.1)
 -- the log of the frames before the first refused line: the header is the first piece, and each record one more; a line is
 -- read before its record is written
 abbrev pub log_answer : (detectors : List ℕ) → Playing → Stream → Answer
-log_answer detectors playing stream = record {
-  status = stream_status stream.refusal;
-  Gained = λ k text. text ≡ log_of playing (take k stream.frames);
-  pieces = suc (length stream.frames);
-  before_reads = suc (length stream.frames);
-  note = stream_note detectors stream.refusal;
-}
+log_answer detectors playing stream =
+    in_pieces (stream_status stream.refusal) (λ k text. text ≡ log_of playing (take k stream.frames))
+    (suc (length stream.frames)) (suc (length stream.frames)) (stream_note detectors stream.refusal)
 
 -- the text of a code that does what the program does, in one piece, and no byte before the last read
 abbrev pub code_answer : Program → Answer
-code_answer program = record {
-  status = status.Done;
-  Gained = λ k text. IsCompiled program text;
-  pieces = 1;
-  before_reads = 0;
-  note = [];
-}
+code_answer program = in_pieces status.Done (λ k text. IsCompiled program text) 1 0 []
 
 -- the summary of the seconds over the drawn frames, in one piece, and no byte before the last read
 abbrev pub sample_answer : (seed seconds : ℕ) → Playing → Answer
-sample_answer seed seconds playing = record {
-  status = status.Done;
-  Gained = λ k text. text ≡ sample_text seed seconds playing;
-  pieces = 1;
-  before_reads = 0;
-  note = [];
-}
+sample_answer seed seconds playing = in_pieces status.Done (λ k text. text ≡ sample_text seed seconds playing) 1 0 []
 
 -- the answer to a form that works on this
 abbrev pub loaded_answer : (form : Form) → Contents → Loaded form → Answer
-loaded_answer (Run program site detectors) file playing = log_answer detectors playing (stream_of (file detectors))
-loaded_answer (Compile program) file source = code_answer source
-loaded_answer (Exec code site detectors) file playing = log_answer detectors playing (stream_of (file detectors))
+loaded_answer (Play source site detectors) file playing = log_answer detectors playing (stream_of (file detectors))
+loaded_answer (Compile program) file tree = code_answer tree
 loaded_answer (Sample program site seed seconds) file playing = sample_answer seed seconds playing
 
 -- this answer, or that to the first file that is not as it must be
@@ -102,11 +103,6 @@ answered loaded_to (Err unloaded) = unloaded_answer unloaded
 -- the answer to a form over these files, which give this
 abbrev pub answer_to : (form : Form) → Contents → Result (Loaded form) Unloaded → Answer
 answer_to form file r = answered (loaded_answer form file) r
-
--- the text after so many pieces, none at first
-abbrev pub GainedBy : (ℕ → List ℕ → Type 0) → ℕ → List ℕ → Type 0
-GainedBy Gained zero text = text ≡ []
-GainedBy Gained (suc k) text = Gained k text
 
 -- out gained what so many pieces give
 abbrev pub Gains : Answer → ℕ → Option (List ℕ) → Option (List ℕ) → Type 0
@@ -126,12 +122,11 @@ abbrev pub IsBroken : {A : Type 0} → (Result A Unloaded → Type 0) → (Resul
 IsBroken {A} Gives answer old new =
     (new ≡ old) ⊎ ((r : Result A Unloaded) × Gives r × (k : ℕ) × (k ≤ (answer r).before_reads) × Gains (answer r) k old new)
 
--- cut off: out gained a front of the whole text, and not all of it
+-- cut off: out gained a front of such a text, and not all of it
 abbrev pub IsCutOff : {A : Type 0} → (Result A Unloaded → Type 0) → (Result A Unloaded → Answer) → Option (List ℕ) →
     Option (List ℕ) → Type 0
 IsCutOff {A} Gives answer old new =
-    (r : Result A Unloaded) × Gives r
-    × (text : List ℕ) × GainedBy (answer r).Gained (answer r).pieces text × (n : ℕ) × IsCut old new n text
+    (r : Result A Unloaded) × Gives r × (text : List ℕ) × (answer r).Cut text × (n : ℕ) × IsCut old new n text
 
 -- A status, with what out has gained: the answer's own, or want of memory, or a fault on the way.
 abbrev pub MeetsBy : {A : Type 0} → (Result A Unloaded → Type 0) → (Result A Unloaded → Answer) → Status → Option (List ℕ) →

@@ -1,11 +1,11 @@
 -- What the top call promises.
-use Rattle.std.specs.Prelude.{◌≡◌, ℕ, List, Option, None, Some, codes}
+use Rattle.std.specs.Prelude.{◌≡◌, ℕ, Bool, true, false, List, Option, None, Some, codes}
 use Rattle.std.specs.Option.{ForSome}
 use Rattle.std.specs.Io.KnownBytes.{append_known}
 use Rattle.sig_io.specs.Outside.{Contents, Rose}
 use Rattle.junction_run.specs.declared.status.Status.{Status}
-use Rattle.junction_run.specs.declared.status.Status.TheVariants.{Words, ReadFault, WriteFault}
-use Rattle.junction_run.specs.Form.{Form, form_of, files_of}
+use Rattle.junction_run.specs.declared.status.Status.TheVariants.{Done, Memory, Words, ReadFault, WriteFault, RefusedFile, RefusedLine, TooLong}
+use Rattle.junction_run.specs.Form.{Form, form_of, files_of, reads_lines}
 use Rattle.junction_run.specs.Answer.{Meets, note_of}
 use Rattle.junction_run.specs.Guarded.{IsSafe}
 use Rattle.junction_run.specs.Notes.{IsNote, NoteMeets}
@@ -16,6 +16,21 @@ pub record Seen (T : Type 0) : Type 0 where
   pub new : Option T
   pub before : ℕ
   pub after : ℕ
+
+-- what was told, and counted, before a call and after it
+abbrev pub seen : {T : Type 0} → (old new : Option T) → (before after : ℕ) → Seen T
+seen old new before after = record { old = old; new = new; before = before; after = after }
+
+-- whether out may have gained anything with this status, where what is made of a line is written before the next is read, or not
+abbrev pub may_write : Bool → Status → Bool
+may_write lines Done = true
+may_write lines Memory = false
+may_write lines Words = false
+may_write lines ReadFault = lines
+may_write lines WriteFault = true
+may_write lines RefusedFile = false
+may_write lines RefusedLine = lines
+may_write lines TooLong = false
 
 -- The answer to words that are no form: nothing is written.
 pub record WordsAnswer (out notes : Seen (List ℕ)) (status : Status) : Type 0 where
@@ -31,6 +46,10 @@ pub record FormAnswer (form : Form) (files : Seen Contents) (out notes : Seen (L
   -- a fault has its cause
   pub read_fault : status ≡ ReadFault → Rose files.before files.after
   pub write_fault : status ≡ WriteFault → Rose out.before out.after
+  -- nothing is written but with Done, before a fault of what was begun, and before a refused line
+  pub unwritten : may_write (reads_lines form) status ≡ false → out.new ≡ out.old
+  -- a line is refused by what reads lines alone
+  pub line : status ≡ RefusedLine → reads_lines form ≡ true
   -- where the files tell what they hold, the status is the answer's and out has gained its text, but for want of memory and
   -- faults
   pub answer : ForSome files.old (λ file. Meets form file status out.old out.new)

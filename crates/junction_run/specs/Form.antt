@@ -1,5 +1,5 @@
 -- The words of a command.
-use Rattle.std.specs.Prelude.{ℕ, ◌-◌, ◌^◌, nat_eq, List, [], ◌∷◌, codes, Bool, Option, None, Some, if◌then◌else◌}
+use Rattle.std.specs.Prelude.{ℕ, ◌-◌, ◌^◌, nat_eq, List, [], ◌∷◌, codes, Bool, true, false, Option, None, Some, if◌then◌else◌}
 use lib.Pointwise.{pointwise}
 use Rattle.sig_types.specs.Text.{number_of, within}
 
@@ -9,11 +9,20 @@ pub record SiteWords : Type 0 where
   pub times : List ℕ
   pub intergreens : List ℕ
 
+-- what decides the passes of a run: the name of a program or of a code
+pub data Source : Type 0 where
+  ProgramFile : (word : List ℕ) → Source
+  CodeFile : (word : List ℕ) → Source
+
+-- the name of its file
+abbrev pub word_of : Source → List ℕ
+word_of (ProgramFile word) = word
+word_of (CodeFile word) = word
+
 -- what the words ask for
 pub data Form : Type 0 where
-  Run : (program : List ℕ) (site : SiteWords) (detectors : List ℕ) → Form
+  Play : (source : Source) (site : SiteWords) (detectors : List ℕ) → Form
   Compile : (program : List ℕ) → Form
-  Exec : (code : List ℕ) (site : SiteWords) (detectors : List ℕ) → Form
   Sample : (program : List ℕ) (site : SiteWords) (seed seconds : ℕ) → Form
 
 -- the word is this name, byte for byte
@@ -27,8 +36,8 @@ form_of_one command program = if is_word command (codes "compile") then Some (Co
 -- COMMAND FILE PUA TIMES INTERGREENS DETECTORS
 abbrev pub form_of_play : (command file : List ℕ) (site : SiteWords) (detectors : List ℕ) → Option Form
 form_of_play command file site detectors =
-    if is_word command (codes "run") then Some (Run file site detectors)
-    else (if is_word command (codes "exec") then Some (Exec file site detectors) else None)
+    if is_word command (codes "run") then Some (Play (ProgramFile file) site detectors)
+    else (if is_word command (codes "exec") then Some (Play (CodeFile file) site detectors) else None)
 
 -- a sample by its two numbers, if there are both
 abbrev pub sample_by : (program : List ℕ) (site : SiteWords) (seed seconds : Option ℕ) → Option Form
@@ -59,7 +68,12 @@ site_files site = site.plan ∷ site.times ∷ site.intergreens ∷ []
 
 -- the files that a form names
 abbrev pub files_of : Form → List (List ℕ)
-files_of (Run program site detectors) = site.plan ∷ site.times ∷ site.intergreens ∷ program ∷ detectors ∷ []
+files_of (Play source site detectors) = site.plan ∷ site.times ∷ site.intergreens ∷ word_of source ∷ detectors ∷ []
 files_of (Compile program) = program ∷ []
-files_of (Exec code site detectors) = site.plan ∷ site.times ∷ site.intergreens ∷ code ∷ detectors ∷ []
 files_of (Sample program site seed seconds) = site.plan ∷ site.times ∷ site.intergreens ∷ program ∷ []
+
+-- a form that reads lines, and writes what it makes of one before it reads the next
+abbrev pub reads_lines : Form → Bool
+reads_lines (Play source site detectors) = true
+reads_lines (Compile program) = false
+reads_lines (Sample program site seed seconds) = false

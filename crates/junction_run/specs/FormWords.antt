@@ -1,16 +1,22 @@
 -- The words of a command, as the program holds them.
 use Rattle.junction_run.specs.declared.form.SiteWords.{SiteWords as Words}
+use Rattle.junction_run.specs.declared.form.Source.{Source as Named}
+use Rattle.junction_run.specs.declared.form.Source.TheVariants as named
 use Rattle.junction_run.specs.declared.form.Form.{Form as Asked}
 use Rattle.junction_run.specs.declared.form.Form.TheVariants as asked
-use Rattle.junction_run.specs.Form.{SiteWords, Form, Run, Compile, Exec, Sample}
+use Rattle.junction_run.specs.Form.{SiteWords, Source, ProgramFile, CodeFile, Form, Play, Compile, Sample}
 
 -- the names of the files of a site, as the definitions see them
 abbrev pub site_in : Words → SiteWords
 site_in words = record { plan = words.plan.now; times = words.times.now; intergreens = words.intergreens.now }
 
--- what the words ask for, as the definitions see it
+-- what decides the passes of a run, as the definitions see it
+abbrev pub source_in : Named → Source
+source_in (named.Program word) = ProgramFile word.now
+source_in (named.Code word) = CodeFile word.now
+
+-- what the words ask for, as the definition sees it
 abbrev pub form_in : Asked → Form
-form_in (asked.Run program site detectors) = Run program.now (site_in site) detectors.now
+form_in (asked.Play source site detectors) = Play (source_in source) (site_in site) detectors.now
 form_in (asked.Compile program) = Compile program.now
-form_in (asked.Exec code site detectors) = Exec code.now (site_in site) detectors.now
 form_in (asked.Sample program site seed seconds) = Sample program.now (site_in site) seed seconds.count

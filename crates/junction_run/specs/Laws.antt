@@ -1,47 +1,52 @@
 -- Laws over the definitions alone.
 use Rattle.std.specs.Prelude.{◌≡◌, List, ℕ, Option, Some, IfSome, Result, Ok, Err, ◌⊎◌}
-use Rattle.sig_io.specs.Outside.{Contents}
+use Rattle.sig_io.specs.Outside.{Contents, Rose}
 use Rattle.sig_types.specs.Counts.{Counts}
 use Rattle.controller.specs.Guarded.{IsGuardedRun}
 use Rattle.junction_run.specs.declared.status.Status.{Status}
-use Rattle.junction_run.specs.declared.status.Status.TheVariants.{Done, Memory, ReadFault, WriteFault, RefusedFile, RefusedLine, TooLong}
-use Rattle.junction_run.specs.Form.{SiteWords, Form, Sample, form_of}
-use Rattle.junction_run.specs.Loading.{Unloaded, Loaded, Loads, plays}
+use Rattle.junction_run.specs.declared.status.Status.TheVariants.{Memory, ReadFault, WriteFault}
+use Rattle.junction_run.specs.Form.{Form}
+use Rattle.junction_run.specs.Guarded.{IsSafeOf}
+use Rattle.junction_run.specs.Loading.{Unloaded, Refusal, Loaded, Loads, plays}
+use Rattle.junction_run.specs.Programs.{ProgramIs}
+use Rattle.vap_ast.specs.Syntax.{Program}
 use Rattle.junction_run.specs.Answer.{answer_to, Meets}
+use Rattle.junction_run.specs.Answers.{Seen, FormAnswer}
 
 -- files give one thing
 abbrev pub LoadsOnce : Type 0
 LoadsOnce = (form : Form) (file : Contents) (r s : Result (Loaded form) Unloaded) → Loads form file r → Loads form file s → r ≡ s
 
--- where all files are accepted and the answer is Done, nothing else comes but want of memory and faults
+-- each text is that of one program, or is refused at one line for one reason
+abbrev pub ProgramsHaveOneAnswer : Type 0
+ProgramsHaveOneAnswer =
+    (bytes : List ℕ) → (r : Result Program Refusal) × ProgramIs bytes r
+    × ((s : Result Program Refusal) → ProgramIs bytes s → s ≡ r)
+
+-- where the files give this, the status is its answer's, but for want of memory and faults
+abbrev pub EndsAsGiven : Type 0
+EndsAsGiven =
+    (form : Form) (file : Contents) (r : Result (Loaded form) Unloaded) (status : Status) (old new : Option (List ℕ)) →
+    Loads form file r → Meets form file status old new →
+    (status ≡ (answer_to form file r).status) ⊎ ((status ≡ Memory) ⊎ ((status ≡ ReadFault) ⊎ (status ≡ WriteFault)))
+
+-- where the files give this, and no count of faults rose, the status is its answer's, or memory was wanted
 abbrev pub IsComplete : Type 0
 IsComplete =
-    (form : Form) (file : Contents) (loaded : Loaded form) (status : Status) (old new : Option (List ℕ)) →
-    Loads form file (Ok loaded) → (answer_to form file (Ok loaded)).status ≡ Done → Meets form file status old new →
-    (status ≡ Done) ⊎ ((status ≡ Memory) ⊎ ((status ≡ ReadFault) ⊎ (status ≡ WriteFault)))
+    (form : Form) (file : Contents) (r : Result (Loaded form) Unloaded) →
+    (files : Seen Contents) (out notes : Seen (List ℕ)) (status : Status) →
+    files.old ≡ Some file → Loads form file r →
+    (Rose files.before files.after → ⊥) → (Rose out.before out.after → ⊥) → FormAnswer form files out notes status →
+    (status ≡ (answer_to form file r).status) ⊎ (status ≡ Memory)
 
--- where the words are a form whose files hold this, all of them are accepted and the answer is Done, nothing else comes but want
--- of memory
-abbrev pub EndsSurely : List (List ℕ) → Contents → Status → Type 0
-EndsSurely words file status =
-    (form : Form) (loaded : Loaded form) → form_of words ≡ Some form → Loads form file (Ok loaded) →
-    (answer_to form file (Ok loaded)).status ≡ Done → (status ≡ Done) ⊎ (status ≡ Memory)
-
--- a file is refused, or too long, only where the files give that
-abbrev pub RefusedOnlyWhere : Type 0
-RefusedOnlyWhere =
-    (form : Form) (file : Contents) (old new : Option (List ℕ)) →
-    (Meets form file RefusedFile old new → (u : Unloaded) × Loads form file (Err u))
-    × (Meets form file TooLong old new → (u : Unloaded) × Loads form file (Err u))
+-- over files that tell, what a form writes of a log is a front of the log of a guarded run of what they give
+abbrev pub WritesOfTheFilesAreGuarded : Type 0
+WritesOfTheFilesAreGuarded =
+    (form : Form) (file : Contents) (status : Status) (old new : Option (List ℕ)) → Meets form file status old new →
+    IsSafeOf form file old new
 
 -- whatever a form plays of what its files give, every run of it is guarded, for all frames
 abbrev pub LoadedRunsAreGuarded : Type 0
 LoadedRunsAreGuarded =
     (form : Form) (file : Contents) (loaded : Loaded form) (frames : List Counts) → Loads form file (Ok loaded) →
     IfSome (plays form loaded) (λ playing. IsGuardedRun playing.logic playing.site playing.store frames)
-
--- a sample reads no lines: none of them is refused
-abbrev pub SamplesRefuseNoLine : Type 0
-SamplesRefuseNoLine =
-    (program : List ℕ) (words : SiteWords) (seed seconds : ℕ) (file : Contents) (old new : Option (List ℕ)) →
-    Meets (Sample program words seed seconds) file RefusedLine old new → ⊥

@@ -12,7 +12,7 @@ use Rattle.sig_tables.specs.TimesTable.{times_refusal, times_of}
 use Rattle.sig_tables.specs.IntergreenTable.{intergreens_refusal, intergreen_of}
 use Rattle.controller.specs.Past.{Site}
 use Rattle.junction_run.specs.Codes.{CodeIs}
-use Rattle.junction_run.specs.Form.{SiteWords, Form, Run, Compile, Exec, Sample}
+use Rattle.junction_run.specs.Form.{SiteWords, Source, ProgramFile, CodeFile, word_of, Form, Play, Compile, Sample}
 use Rattle.junction_run.specs.Programs.{ProgramIs, logic_of, store_of}
 use Rattle.junction_run.specs.Reasons.{plan_reason, table_reason}
 use Rattle.vap_ast.specs.Syntax.{Program}
@@ -113,6 +113,30 @@ program_at site program = record { logic = logic_of program; store = store_of pr
 abbrev pub code_at : Site → CodeOf → Playing
 code_at site code = record { logic = machine code; store = machines.first_store code; site = site }
 
+-- what the file of a source is read as
+abbrev pub Value : Source → Type 0
+Value (ProgramFile word) = Program
+Value (CodeFile word) = CodeOf
+
+-- the bytes that it may have
+abbrev pub limit_of : Source → ℕ
+limit_of (ProgramFile word) = text_limit
+limit_of (CodeFile word) = code_limit
+
+-- its text is that of a program or of a code, or is refused at a line
+abbrev pub SourceIs : (source : Source) → List ℕ → Result (Value source) Refusal → Type 0
+SourceIs (ProgramFile word) bytes r = ProgramIs bytes r
+SourceIs (CodeFile word) bytes r = CodeIs bytes r
+
+-- what is played of it at a site
+abbrev pub played_at : (source : Source) → Site → Value source → Playing
+played_at (ProgramFile word) site program = program_at site program
+played_at (CodeFile word) site code = code_at site code
+
+-- the file of a source is measured, and then judged
+abbrev pub IsSource : (source : Source) (bytes : List ℕ) → Result (Value source) Unloaded → Type 0
+IsSource source bytes v = IsJudged (SourceIs source) (limit_of source) (word_of source) bytes v
+
 -- the value that a function makes of what was loaded
 abbrev pub map_ok : {A B : Type 0} → (A → B) → Result A Unloaded → Result B Unloaded
 map_ok f (Ok x) = Ok (f x)
@@ -124,35 +148,31 @@ abbrev pub AfterSite : {V : Type 0} → (Site → V → Playing) → Result Site
 AfterSite at (Err u) Judged r = r ≡ Err u
 AfterSite {V} at (Ok site) Judged r = (v : Result V Unloaded) × Judged v × (r ≡ map_ok (at site) v)
 
+-- a source at a site
+abbrev pub LoadsSource : Source → SiteWords → Contents → Result Playing Unloaded → Type 0
+LoadsSource source words file r = AfterSite (played_at source) (site_of words file) (IsSource source (file (word_of source))) r
+
 -- a program at a site
 abbrev pub LoadsProgram : (program : List ℕ) → SiteWords → Contents → Result Playing Unloaded → Type 0
-LoadsProgram program words file r =
-    AfterSite program_at (site_of words file) (IsJudged ProgramIs text_limit program (file program)) r
-
--- a code at a site
-abbrev pub LoadsCode : (code : List ℕ) → SiteWords → Contents → Result Playing Unloaded → Type 0
-LoadsCode code words file r = AfterSite code_at (site_of words file) (IsJudged CodeIs code_limit code (file code)) r
+LoadsProgram program words file r = LoadsSource (ProgramFile program) words file r
 
 -- what a form works on
 abbrev pub Loaded : Form → Type 0
-Loaded (Run program site detectors) = Playing
+Loaded (Play source site detectors) = Playing
 Loaded (Compile program) = Program
-Loaded (Exec code site detectors) = Playing
 Loaded (Sample program site seed seconds) = Playing
 
 -- what a form plays of it, if anything
 abbrev pub plays : (form : Form) → Loaded form → Option Playing
-plays (Run program site detectors) playing = Some playing
-plays (Compile program) source = None
-plays (Exec code site detectors) playing = Some playing
+plays (Play source site detectors) playing = Some playing
+plays (Compile program) tree = None
 plays (Sample program site seed seconds) playing = Some playing
 
 -- what the files of a form give, each of which is read, measured and judged before the next one: what the form works on, or
 -- the first file that is not as it must be
 abbrev pub Loads : (form : Form) → Contents → Result (Loaded form) Unloaded → Type 0
-Loads (Run program site detectors) file r = LoadsProgram program site file r
-Loads (Compile program) file r = IsJudged ProgramIs text_limit program (file program) r
-Loads (Exec code site detectors) file r = LoadsCode code site file r
+Loads (Play source site detectors) file r = LoadsSource source site file r
+Loads (Compile program) file r = IsSource (ProgramFile program) (file program) r
 Loads (Sample program site seed seconds) file r = LoadsProgram program site file r
 
 -- ---- which file is read
@@ -177,9 +197,7 @@ pub data ReachedInPlay (word : List ℕ) (words : SiteWords) (detectors : List �
 
 -- a form comes to read this file
 abbrev pub Reached : Form → Contents → List ℕ → Type 0
-Reached (Run program site detectors) file word =
-    ReachedInPlay program site detectors file (λ playing. LoadsProgram program site file (Ok playing)) word
+Reached (Play source site detectors) file word =
+    ReachedInPlay (word_of source) site detectors file (λ playing. LoadsSource source site file (Ok playing)) word
 Reached (Compile program) file word = word ≡ program
-Reached (Exec code site detectors) file word =
-    ReachedInPlay code site detectors file (λ playing. LoadsCode code site file (Ok playing)) word
 Reached (Sample program site seed seconds) file word = ReachedAfterSite program site file word

@@ -1,8 +1,12 @@
 -- The notes.
 use Rattle.std.specs.Prelude.{◌≡◌, ℕ, ⊤, ◌++◌, [], List, Contains, Result, codes}
 use Rattle.sig_io.specs.Outside.{Contents}
+use Rattle.junction_run.specs.declared.stop.LoadStop.{LoadStop}
+use Rattle.junction_run.specs.declared.stop.LoadStop.TheVariants as load
+use Rattle.junction_run.specs.declared.stop.PlayStop.{PlayStop}
+use Rattle.junction_run.specs.declared.stop.PlayStop.TheVariants as play
 use Rattle.junction_run.specs.declared.stop.Stop.{Stop}
-use Rattle.junction_run.specs.declared.stop.Stop.TheVariants.{Memory, ReadFault, WriteFault, Refused, RefusedLine, TooLong}
+use Rattle.junction_run.specs.declared.stop.Stop.TheVariants.{Load, Play}
 use Rattle.junction_run.specs.declared.status.Status.{Status}
 use Rattle.junction_run.specs.declared.status.Status.TheVariants as status
 use Rattle.junction_run.specs.Form.{Form}
@@ -10,14 +14,23 @@ use Rattle.junction_run.specs.Loading.{Unloaded, Loads, Reached}
 use Rattle.junction_run.specs.Answer.{Answer, answer_to, note_of, line_note}
 use Rattle.junction_run.specs.Reasons.{reason_text, stream_reason}
 
+-- the note where loading stops
+abbrev pub load_note : LoadStop → List ℕ
+load_note load.Memory = note_of (codes "Memory")
+load_note (load.ReadFault word) = note_of (word.now ++ codes ": ReadFault")
+load_note (load.Refused word line reason) = line_note word.now line (reason_text reason)
+load_note (load.TooLong word) = note_of (word.now ++ codes ": TooLong")
+
+-- the note where playing stops
+abbrev pub play_note : PlayStop → List ℕ
+play_note (play.ReadFault word) = note_of (word.now ++ codes ": ReadFault")
+play_note play.WriteFault = note_of (codes "WriteFault")
+play_note (play.RefusedLine word line why) = line_note word.now line (stream_reason why)
+
 -- the note of a stop
 abbrev pub stop_note : Stop → List ℕ
-stop_note Memory = note_of (codes "Memory")
-stop_note (ReadFault word) = note_of (word.now ++ codes ": ReadFault")
-stop_note WriteFault = note_of (codes "WriteFault")
-stop_note (Refused word line reason) = line_note word.now line (reason_text reason)
-stop_note (RefusedLine word line why) = line_note word.now line (stream_reason why)
-stop_note (TooLong word) = note_of (word.now ++ codes ": TooLong")
+stop_note (Load stop) = load_note stop
+stop_note (Play stop) = play_note stop
 
 -- a note that names one of these files
 abbrev pub NamesFile : List (List ℕ) → List ℕ → List ℕ → Type 0

@@ -17,21 +17,23 @@ use Rattle.vap_check.specs.Accepted.{Accepted}
 use Rattle.vap_check.specs.Accepted as check
 use Rattle.vap_check.specs.Names.{timers, variables}
 use Rattle.vap_check.specs.Numbers.{names_of}
+use Rattle.vap_check.specs.Readings.{with_readings}
 use Rattle.vap_code.specs.Codes.{CodeOf}
 use Rattle.vap_code.specs.Machine.{machine}
 use Rattle.junction_run.specs.Reasons.{lex_reason, parse_reason, check_reason}
 
--- A text is that of a program, by its tokens, their tree and its checks; or it is refused at a line: at the first place that
--- is no token, else at the first token with which it is no front of a program, else by the first check that fails.
+-- A text is that of a program, by its tokens, their tree, the readings of the cycle in it, and its checks; or it is refused at
+-- a line: at the first place that is no token, else at the first token with which it is no front of a program, else by the first
+-- check that fails.
 pub data ProgramIs (bytes : List ℕ) : Result Program (ℕ × List ℕ) → Type 0 where
   no_token : (place : ℕ) (why : LexWhy) → IsStuck bytes place why → ProgramIs bytes (Err (line_at bytes place, lex_reason why))
   no_tree : (tokens : List Token) (rest : List Token) (why : Reason) → HasTokens bytes tokens → grammar.Refuses tokens why rest
       → ProgramIs bytes (Err (line_of tokens rest, parse_reason (why_of tokens rest why)))
   unchecked : (tokens : List Token) (program : Program) (line : ℕ) (why : CheckWhy)
       → HasTokens bytes tokens → Accepts tokens program
-      → check.Refuses program line why → ProgramIs bytes (Err (line, check_reason why))
-  is_program : (tokens : List Token) (program : Program) → HasTokens bytes tokens → Accepts tokens program → Accepted program
-      → ProgramIs bytes (Ok program)
+      → check.Refuses (with_readings program) line why → ProgramIs bytes (Err (line, check_reason why))
+  is_program : (tokens : List Token) (program : Program) → HasTokens bytes tokens → Accepts tokens program
+      → Accepted (with_readings program) → ProgramIs bytes (Ok (with_readings program))
 
 -- what a program does in a pass
 abbrev pub logic_of : Program → Logic

@@ -21,6 +21,17 @@ abbrev pub site_named : List (List ℕ) → SiteWords
 site_named (program ∷ plan ∷ times ∷ intergreens ∷ rest) = record { plan = plan; times = times; intergreens = intergreens }
 site_named _ = record { plan = []; times = []; intergreens = [] }
 
+-- a status with which loading ends before its end: memory was wanted, a file could not be read, is refused or is too long
+abbrev pub IsLoadStatus : Status → Type 0
+IsLoadStatus status.Done = ⊥
+IsLoadStatus status.Memory = Unit {0}
+IsLoadStatus status.Words = ⊥
+IsLoadStatus status.ReadFault = Unit {0}
+IsLoadStatus status.WriteFault = ⊥
+IsLoadStatus status.RefusedFile = Unit {0}
+IsLoadStatus status.RefusedLine = ⊥
+IsLoadStatus status.TooLong = Unit {0}
+
 -- the files are refused so, with this status
 abbrev pub IsRefusedLoad : List ℕ → SiteWords → Contents → Status → Type 0
 IsRefusedLoad program words file status =

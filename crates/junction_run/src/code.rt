@@ -1,24 +1,19 @@
 // The code of a command.
-ghost use Rattle.std.specs.Prelude.{◌≡◌, ◌≤◌, ◌<◌, ◌++◌, ◌∷◌, [], ℕ, List, IfOk, IfErr, Ok, length};
+ghost use Rattle.std.specs.Prelude.{◌≡◌, ◌≤◌, ◌<◌, ℕ, List, IfOk, IfErr, Ok};
 ghost use Rattle.std.specs.Option.{ForSome};
 ghost use Rattle.sig_io.specs.Outside.{Rose};
-ghost use Rattle.pua_model.specs.Plan.{groups_in};
 ghost use Rattle.code_file.specs.Reading.{code_of};
 ghost use Rattle.code_verify.specs.First.{RefusedBy};
 ghost use Rattle.vap_code.specs.Codes.{code_in};
 ghost use Rattle.vap_code.specs.Valid.{HasShape, Valid};
 ghost use Rattle.junction_run.specs.Codes.{CodeIs, instr_line};
-ghost use Rattle.junction_run.specs.Form.{site_files};
-ghost use Rattle.junction_run.specs.FormWords.{site_in};
-ghost use Rattle.junction_run.specs.Sites.{IsCodeText, IsCodeFile, IsCodeLoad};
-ghost use Rattle.junction_run.specs.Stop.{IsAt, IsAmong, IsRefusedBy, StopsWith};
+ghost use Rattle.junction_run.specs.Form.{CodeFile};
+ghost use Rattle.junction_run.specs.Sites.{IsCodeText, IsSourceFile};
+ghost use Rattle.junction_run.specs.Stop.{IsAt, IsRefusedBy, StopsWith, load_status};
 ghost use Rattle.junction_run.specs.declared.status.Status.TheVariants as status;
 
 use crate::file::{CODE_LIMIT, read_file};
-use crate::form::SiteWords;
-use crate::load::{Site, with_code};
-use crate::site::take_site;
-use crate::stop::{Reason, Stop};
+use crate::stop::{LoadStop, Reason};
 use code_file::{CodeRefusal, read_code};
 use code_verify::{Verified, VerifyRefusal, verify};
 use sig_io::Files;
@@ -36,15 +31,15 @@ fn instr_line(code: &Code, place: u32) -> u32
 }
 
 // Why a code that was read is not accepted.
-fn stop_of<'a>(code: &Code, refusal: VerifyRefusal, word: &'a str) -> Stop<'a>
+fn stop_of<'a>(code: &Code, refusal: VerifyRefusal, word: &'a str) -> LoadStop<'a>
     requires shape { HasShape (code_in code.now) }
     requires refused { RefusedBy (code_in code.now) refusal }
     ensures refused { (text : List ℕ) → code_of text ≡ Ok (code_in code.now) → IsRefusedBy CodeIs text result }
     ensures word { IsAt word.now result }
 {
     match refusal {
-        VerifyRefusal::Memory => Stop::Memory,
-        VerifyRefusal::At { place, why } => Stop::Refused {
+        VerifyRefusal::Memory => LoadStop::Memory,
+        VerifyRefusal::At { place, why } => LoadStop::Refused {
             word,
             line: instr_line(code, place),
             reason: Reason::Verify(why),
@@ -53,7 +48,7 @@ fn stop_of<'a>(code: &Code, refusal: VerifyRefusal, word: &'a str) -> Stop<'a>
 }
 
 // Verifies a code that was read.
-fn verify_code<'a>(alloc: Global, code: Code, word: &'a str) -> Result<Verified, Stop<'a>>
+fn verify_code<'a>(alloc: Global, code: Code, word: &'a str) -> Result<Verified, LoadStop<'a>>
     requires { HasShape (code_in code) }
     ensures accepted { IfOk result (λ v. (v ≡ code_in code) × Valid (code_in code)) }
     ensures refused { (text : List ℕ) → code_of text ≡ Ok (code_in code) → IfErr result (λ stop. IsRefusedBy CodeIs text stop) }
@@ -66,14 +61,14 @@ fn verify_code<'a>(alloc: Global, code: Code, word: &'a str) -> Result<Verified,
 }
 
 // Judges the text of a code: it is read, and then verified.
-fn judge_code<'a>(alloc: Global, text: &[u8], word: &'a str) -> Result<Verified, Stop<'a>>
+fn judge_code<'a>(alloc: Global, text: &[u8], word: &'a str) -> Result<Verified, LoadStop<'a>>
     ensures text { IsCodeText text.now result }
     ensures word { IfErr result (λ stop. IsAt word.now stop) }
 {
     match read_code(alloc, text) {
         Ok(code) => verify_code(alloc, code, word),
-        Err(CodeRefusal::Memory) => Err(Stop::Memory),
-        Err(CodeRefusal::At { line, why }) => Err(Stop::Refused {
+        Err(CodeRefusal::Memory) => Err(LoadStop::Memory),
+        Err(CodeRefusal::At { line, why }) => Err(LoadStop::Refused {
             word,
             line,
             reason: Reason::Code(why),
@@ -81,46 +76,21 @@ fn judge_code<'a>(alloc: Global, text: &[u8], word: &'a str) -> Result<Verified,
     }
 }
 
-// Reads and judges a code.
-fn take_code<'a, F: Files>(
+/// Reads and judges a code.
+pub(crate) fn take_code<'a, F: Files>(
     alloc: Global,
     word: &'a str,
     files: &mut F,
-) -> Result<Verified, Stop<'a>>
-    ensures code { ForSome (F.told files.old) (λ file. IsCodeFile word.now (file word.now) result) }
+) -> Result<Verified, LoadStop<'a>>
+    ensures code { ForSome (F.told files.old) (λ file. IsSourceFile (CodeFile word.now) (file word.now) result) }
     ensures word { IfErr result (λ stop. IsAt word.now stop) }
     ensures contents_stay { F.told files.new ≡ F.told files.old }
     ensures later { F.faults files.old ≤ F.faults files.new }
-    ensures cause { StopsWith status.ReadFault result → Rose (F.faults files.old) (F.faults files.new) }
+    ensures cause { StopsWith load_status status.ReadFault result → Rose (F.faults files.old) (F.faults files.new) }
 {
     let text = match read_file(alloc, files, word, CODE_LIMIT) {
         Ok(text) => text,
         Err(stop) => return Err(stop),
     };
     judge_code(alloc, &text, word)
-}
-
-/// Reads and judges the plan, the times, the intergreens and a code, one after the other.
-pub(crate) fn load_code<'a, F: Files>(
-    alloc: Global,
-    code: &'a str,
-    words: &SiteWords<'a>,
-    files: &mut F,
-) -> Result<Site, Stop<'a>>
-    ensures loaded { ForSome (F.told files.old) (λ file. IsCodeLoad code.now (site_in words.now) file result) }
-    ensures times { IfOk result (λ s. length s.times ≡ groups_in s.plan) }
-    ensures intergreens { IfOk result (λ s. s.intergreens.count ≡ groups_in s.plan) }
-    ensures word { IfErr result (λ stop. IsAmong (site_files (site_in words.now) ++ code.now ∷ []) stop) }
-    ensures contents_stay { F.told files.new ≡ F.told files.old }
-    ensures later { F.faults files.old ≤ F.faults files.new }
-    ensures cause { StopsWith status.ReadFault result → Rose (F.faults files.old) (F.faults files.new) }
-{
-    let tables = match take_site(alloc, words, files) {
-        Ok(tables) => tables,
-        Err(stop) => return Err(stop),
-    };
-    match take_code(alloc, code, files) {
-        Ok(code) => Ok(with_code(tables, code)),
-        Err(stop) => Err(stop),
-    }
 }

@@ -5,6 +5,7 @@ ghost use Rattle.junction_run.specs.Form.{form_of, form_of_one, form_of_play, fo
 ghost use Rattle.junction_run.specs.FormWords.{site_in, form_in};
 
 use crate::seconds::SampleSeconds;
+use sig_types::MOST_LINES;
 use sig_types::text::{number, number64};
 
 const RUN: &str = "run";
@@ -14,9 +15,6 @@ const COMPILE: &str = "compile";
 const EXEC: &str = "exec";
 
 const SAMPLE: &str = "sample";
-
-// The seconds of a week.
-const MOST_SAMPLED: u32 = 604800;
 
 /// The names of the files of a site.
 #[derive(Clone, Copy)]
@@ -42,21 +40,23 @@ pub(crate) fn site_words<'a>(
     }
 }
 
+/// What decides the passes of a run: the name of a program or of a code.
+#[derive(Clone, Copy)]
+pub(crate) enum Source<'a> {
+    Program(&'a str),
+    Code(&'a str),
+}
+
 /// What the words ask for.
 #[derive(Clone, Copy)]
 pub(crate) enum Form<'a> {
-    Run {
-        program: &'a str,
+    Play {
+        source: Source<'a>,
         site: SiteWords<'a>,
         detectors: &'a str,
     },
     Compile {
         program: &'a str,
-    },
-    Exec {
-        code: &'a str,
-        site: SiteWords<'a>,
-        detectors: &'a str,
     },
     Sample {
         program: &'a str,
@@ -89,14 +89,14 @@ fn form_of_play<'a>(
         (λ form. form_of_play command.now file.now (site_in site.entry) detectors.now ≡ Some (form_in form)) }
 {
     if command == RUN {
-        Some(Form::Run {
-            program: file,
+        Some(Form::Play {
+            source: Source::Program(file),
             site,
             detectors,
         })
     } else if command == EXEC {
-        Some(Form::Exec {
-            code: file,
+        Some(Form::Play {
+            source: Source::Code(file),
             site,
             detectors,
         })
@@ -110,7 +110,7 @@ fn seconds_of(word: &str) -> Option<SampleSeconds>
     ensures { MatchOption result (within 0 604800 (number_of word.now) ≡ None)
         (λ seconds. within 0 604800 (number_of word.now) ≡ Some seconds.count) }
 {
-    match number(word.as_bytes(), 0, MOST_SAMPLED) {
+    match number(word.as_bytes(), 0, MOST_LINES) {
         Some(count) => Some(SampleSeconds { count }),
         None => None,
     }

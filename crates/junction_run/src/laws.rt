@@ -1,20 +1,25 @@
 //! What follows from the definitions of what the files give and of an answer: each law is a clause of a call that does nothing.
-ghost use Rattle.junction_run.specs.Laws.{LoadsOnce, IsComplete, RefusedOnlyWhere, LoadedRunsAreGuarded, SamplesRefuseNoLine};
+ghost use Rattle.junction_run.specs.Laws.{LoadsOnce, ProgramsHaveOneAnswer, EndsAsGiven, IsComplete, LoadedRunsAreGuarded, WritesOfTheFilesAreGuarded};
 
 use code_verify::one_check_is_first;
 use vap_check::one_answer;
+use vap_lex::one_answer as one_list;
+use vap_parse::one_answer as one_tree;
 
-/// Files give one thing; where they are accepted and the answer is Done, nothing else is answered but for want of memory and
-/// faults; a file is refused only where the files give that; and each run of a program or a code that the files give, at the
-/// site that they give, is guarded: its pictures are safe, and each refusal names the very rule that would be broken. A sample
-/// never answers that a line is refused.
+/// Files give one thing, and each text of a program has one answer. The status is that of the answer to what the files give, but
+/// for want of memory and faults, and but for want of memory alone where no count of faults rose. Each run of a program or a code
+/// that the files give, at the site that they give, is guarded: its pictures are safe, and each refusal names the very rule that
+/// would be broken; and over files that tell, what is written of a log is a front of that of such a run.
 pub fn answers_are_right()
     ensures once { LoadsOnce }
+    ensures programs { ProgramsHaveOneAnswer }
+    ensures ends { EndsAsGiven }
     ensures complete { IsComplete }
-    ensures refused { RefusedOnlyWhere }
     ensures guarded { LoadedRunsAreGuarded }
-    ensures samples { SamplesRefuseNoLine }
+    ensures files { WritesOfTheFilesAreGuarded }
 {
+    one_list();
+    one_tree();
     one_answer();
     one_check_is_first();
 }

@@ -27,13 +27,11 @@ mod seconds;
 mod site;
 mod status;
 mod stop;
-mod sure;
 mod top;
 
 pub use load::{Site, load_site};
 pub use notes::{write_stop, write_words};
 pub use run::make_controller;
 pub use status::{Status, exit_status};
-pub use stop::{Reason, Stop, status_of};
-pub use sure::junction_surely;
+pub use stop::{LoadStop, PlayStop, Reason, Stop, status_of};
 pub use top::junction;

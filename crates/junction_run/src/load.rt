@@ -4,20 +4,21 @@ ghost use Rattle.std.specs.Option.{ForSome};
 ghost use Rattle.std.specs.Io.KnownBytes.{append_known};
 ghost use Rattle.sig_io.specs.Outside.{Rose};
 ghost use Rattle.pua_model.specs.Plan.{groups_in};
-ghost use Rattle.junction_run.specs.Form.{site_files};
-ghost use Rattle.junction_run.specs.FormWords.{site_in};
+ghost use Rattle.junction_run.specs.Form.{site_files, word_of};
+ghost use Rattle.junction_run.specs.FormWords.{site_in, source_in};
 ghost use Rattle.junction_run.specs.Notes.{IsNote};
-ghost use Rattle.junction_run.specs.SiteAnswer.{program_named, site_named, IsSiteLoad, IsSiteNote};
-ghost use Rattle.junction_run.specs.Sites.{IsProgramLoad};
-ghost use Rattle.junction_run.specs.Stop.{IsAmong, StopsWith};
+ghost use Rattle.junction_run.specs.SiteAnswer.{program_named, site_named, IsLoadStatus, IsSiteLoad, IsSiteNote};
+ghost use Rattle.junction_run.specs.Sites.{IsSourceFile, IsSourceLoad};
+ghost use Rattle.junction_run.specs.Stop.{IsAt, IsAmong, StopsWith, load_status};
 ghost use Rattle.junction_run.specs.declared.status.Status.TheVariants as status;
 
-use crate::form::{SiteWords, site_words};
-use crate::notes::write_stop;
+use crate::code::take_code;
+use crate::form::{SiteWords, Source, site_words};
+use crate::notes::write_load_stop;
 use crate::program::take_program;
 use crate::site::{SiteTables, take_site};
 use crate::status::Status;
-use crate::stop::{Stop, status_of};
+use crate::stop::{LoadStop, load_status};
 use code_verify::Verified;
 use pua_model::Plan;
 use sig_io::{Files, Sink};
@@ -33,8 +34,8 @@ pub struct Site {
     pub code: Verified,
 }
 
-/// The site of these tables with this code.
-pub(crate) fn with_code(tables: SiteTables, code: Verified) -> Site
+// The site of these tables with this code.
+fn with_code(tables: SiteTables, code: Verified) -> Site
     ensures { result ≡ record { plan = tables.plan; times = tables.times; intergreens = tables.intergreens; code = code } }
 {
     let SiteTables {
@@ -50,32 +51,52 @@ pub(crate) fn with_code(tables: SiteTables, code: Verified) -> Site
     }
 }
 
-/// Reads and judges the plan, the times, the intergreens and a program, one after the other.
-pub(crate) fn load_program<'a, F: Files>(
+// Reads and judges the file of a source.
+fn take_source<'a, F: Files>(
     alloc: Global,
-    program: &'a str,
-    words: &SiteWords<'a>,
+    source: &Source<'a>,
     files: &mut F,
-) -> Result<Site, Stop<'a>>
-    ensures loaded { ForSome (F.told files.old) (λ file. IsProgramLoad program.now (site_in words.now) file result) }
-    ensures times { IfOk result (λ s. length s.times ≡ groups_in s.plan) }
-    ensures intergreens { IfOk result (λ s. s.intergreens.count ≡ groups_in s.plan) }
-    ensures word { IfErr result (λ stop. IsAmong (site_files (site_in words.now) ++ program.now ∷ []) stop) }
+) -> Result<Verified, LoadStop<'a>>
+    ensures code { ForSome (F.told files.old) (λ file.
+        IsSourceFile (source_in source.now) (file (word_of (source_in source.now))) result) }
+    ensures word { IfErr result (λ stop. IsAt (word_of (source_in source.now)) stop) }
     ensures contents_stay { F.told files.new ≡ F.told files.old }
     ensures later { F.faults files.old ≤ F.faults files.new }
-    ensures cause { StopsWith status.ReadFault result → Rose (F.faults files.old) (F.faults files.new) }
+    ensures cause { StopsWith load_status status.ReadFault result → Rose (F.faults files.old) (F.faults files.new) }
+{
+    match source {
+        Source::Program(word) => take_program(alloc, word, files),
+        Source::Code(word) => take_code(alloc, word, files),
+    }
+}
+
+/// Reads and judges the plan, the times, the intergreens and a source, one after the other.
+pub(crate) fn load<'a, F: Files>(
+    alloc: Global,
+    source: &Source<'a>,
+    words: &SiteWords<'a>,
+    files: &mut F,
+) -> Result<Site, LoadStop<'a>>
+    ensures loaded { ForSome (F.told files.old) (λ file. IsSourceLoad (source_in source.now) (site_in words.now) file result) }
+    ensures times { IfOk result (λ s. length s.times ≡ groups_in s.plan) }
+    ensures intergreens { IfOk result (λ s. s.intergreens.count ≡ groups_in s.plan) }
+    ensures word { IfErr result (λ stop.
+        IsAmong (site_files (site_in words.now) ++ word_of (source_in source.now) ∷ []) stop) }
+    ensures contents_stay { F.told files.new ≡ F.told files.old }
+    ensures later { F.faults files.old ≤ F.faults files.new }
+    ensures cause { StopsWith load_status status.ReadFault result → Rose (F.faults files.old) (F.faults files.new) }
 {
     let tables = match take_site(alloc, words, files) {
         Ok(tables) => tables,
         Err(stop) => return Err(stop),
     };
-    match take_program(alloc, program, files) {
+    match take_source(alloc, source, files) {
         Ok(code) => Ok(with_code(tables, code)),
         Err(stop) => Err(stop),
     }
 }
 
-// The same, with the note of a stop.
+// The same of a program, with the note of a stop.
 fn load_named<'a, F: Files, N: Sink>(
     alloc: Global,
     program: &'a str,
@@ -88,8 +109,7 @@ fn load_named<'a, F: Files, N: Sink>(
     ensures intergreens { IfOk result (λ s. s.intergreens.count ≡ groups_in s.plan) }
     ensures quiet { IfOk result (λ s. notes.new ≡ notes.old) }
     ensures read_fault { IfErr result (λ s. s ≡ Status.ReadFault → Rose (F.faults files.old) (F.faults files.new)) }
-    ensures no_words { IfErr result (λ s. s ≡ Status.Words → ⊥) }
-    ensures no_write { IfErr result (λ s. s ≡ Status.WriteFault → ⊥) }
+    ensures statuses { IfErr result IsLoadStatus }
     ensures note { IfErr result (λ s. (Rose (N.faults notes.old) (N.faults notes.new) → ⊥) →
         (note : List ℕ) × (N.taken notes.new ≡ append_known (N.taken notes.old) note)
         × IsNote (site_files (site_in words.now) ++ program.now ∷ []) s note
@@ -97,11 +117,11 @@ fn load_named<'a, F: Files, N: Sink>(
     ensures contents_stay { F.told files.new ≡ F.told files.old }
     ensures later { F.faults files.old ≤ F.faults files.new }
 {
-    match load_program(alloc, program, words, files) {
+    match load(alloc, &Source::Program(program), words, files) {
         Ok(site) => Ok(site),
         Err(stop) => {
-            write_stop(&stop, notes);
-            Err(status_of(&stop))
+            write_load_stop(&stop, notes);
+            Err(load_status(&stop))
         }
     }
 }
@@ -124,9 +144,8 @@ pub fn load_site<F: Files, N: Sink>(
     ensures intergreens { IfOk result (λ s. s.intergreens.count ≡ groups_in s.plan) }
     ensures quiet { IfOk result (λ s. notes.new ≡ notes.old) }
     ensures read_fault { IfErr result (λ s. s ≡ Status.ReadFault → Rose (F.faults files.old) (F.faults files.new)) }
-    // It judges no words and writes no log, whether the files tell or not.
-    ensures no_words { IfErr result (λ s. s ≡ Status.Words → ⊥) }
-    ensures no_write { IfErr result (λ s. s ≡ Status.WriteFault → ⊥) }
+    // Nothing else is answered, whether the files tell or not.
+    ensures statuses { IfErr result IsLoadStatus }
     // Notes has taken the status's note, unless it failed; where the files tell what they hold, it is theirs.
     ensures note { IfErr result (λ s. (Rose (N.faults notes.old) (N.faults notes.new) → ⊥) →
         (note : List ℕ) × (N.taken notes.new ≡ append_known (N.taken notes.old) note)

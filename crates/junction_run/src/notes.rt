@@ -5,10 +5,10 @@ ghost use Rattle.std.specs.List.{flat_map};
 ghost use Rattle.std.specs.Io.KnownBytes.{append_known};
 ghost use Rattle.sig_io.specs.Outside.{Rose};
 ghost use Rattle.junction_run.specs.Answer.{note_of};
-ghost use Rattle.junction_run.specs.Notes.{stop_note};
+ghost use Rattle.junction_run.specs.Notes.{load_note, play_note, stop_note};
 
 use crate::reasons::{Told, reason, stream_reason};
-use crate::stop::Stop;
+use crate::stop::{LoadStop, PlayStop, Stop};
 use itoa::Buffer;
 use sig_io::{Sink, put_all};
 
@@ -68,16 +68,15 @@ fn write_refusal<N: Sink>(word: &[u8], line: u32, told: &Told<'_>, notes: &mut N
     write_pieces(&pieces, notes);
 }
 
-/// Writes the note of a stop. A note that fails changes nothing else.
-pub fn write_stop<N: Sink>(stop: &Stop<'_>, notes: &mut N)
+/// Writes the note where loading stops. A note that fails changes nothing else.
+pub(crate) fn write_load_stop<N: Sink>(stop: &LoadStop<'_>, notes: &mut N)
     ensures { (Rose (N.faults notes.old) (N.faults notes.new) → ⊥) →
-        N.taken notes.new ≡ append_known (N.taken notes.old) (stop_note stop.now) }
+        N.taken notes.new ≡ append_known (N.taken notes.old) (load_note stop.now) }
 {
     match stop {
-        Stop::Memory => write_pieces(&[b"junction: Memory\n"], notes),
-        Stop::ReadFault(word) => write_about(word.as_bytes(), b": ReadFault\n", notes),
-        Stop::WriteFault => write_pieces(&[b"junction: WriteFault\n"], notes),
-        Stop::Refused {
+        LoadStop::Memory => write_pieces(&[b"junction: Memory\n"], notes),
+        LoadStop::ReadFault(word) => write_about(word.as_bytes(), b": ReadFault\n", notes),
+        LoadStop::Refused {
             word,
             line,
             reason: why,
@@ -85,7 +84,19 @@ pub fn write_stop<N: Sink>(stop: &Stop<'_>, notes: &mut N)
             let mut digits = Buffer::new();
             write_refusal(word.as_bytes(), *line, &reason(why, &mut digits), notes)
         }
-        Stop::RefusedLine { word, line, why } => {
+        LoadStop::TooLong(word) => write_about(word.as_bytes(), b": TooLong\n", notes),
+    }
+}
+
+// Writes the note where playing stops.
+fn write_play_stop<N: Sink>(stop: &PlayStop<'_>, notes: &mut N)
+    ensures { (Rose (N.faults notes.old) (N.faults notes.new) → ⊥) →
+        N.taken notes.new ≡ append_known (N.taken notes.old) (play_note stop.now) }
+{
+    match stop {
+        PlayStop::ReadFault(word) => write_about(word.as_bytes(), b": ReadFault\n", notes),
+        PlayStop::WriteFault => write_pieces(&[b"junction: WriteFault\n"], notes),
+        PlayStop::RefusedLine { word, line, why } => {
             let mut digits = Buffer::new();
             write_refusal(
                 word.as_bytes(),
@@ -94,6 +105,16 @@ pub fn write_stop<N: Sink>(stop: &Stop<'_>, notes: &mut N)
                 notes,
             )
         }
-        Stop::TooLong(word) => write_about(word.as_bytes(), b": TooLong\n", notes),
+    }
+}
+
+/// Writes the note of a stop. A note that fails changes nothing else.
+pub fn write_stop<N: Sink>(stop: &Stop<'_>, notes: &mut N)
+    ensures { (Rose (N.faults notes.old) (N.faults notes.new) → ⊥) →
+        N.taken notes.new ≡ append_known (N.taken notes.old) (stop_note stop.now) }
+{
+    match stop {
+        Stop::Load(stop) => write_load_stop(stop, notes),
+        Stop::Play(stop) => write_play_stop(stop, notes),
     }
 }

@@ -9,12 +9,12 @@ ghost use Rattle.controller.specs.Past.{opening};
 ghost use Rattle.controller.specs.Controls.{StandsFor, site_of};
 ghost use Rattle.det_stream.specs.Answers.{Gave, Reads, is_live, name_of, second_of};
 ghost use Rattle.det_stream.specs.Stream.{stream_of};
-ghost use Rattle.junction_run.specs.Played.{playing_of};
+ghost use Rattle.junction_run.specs.Played.{playing_of, IsPlayed, IsPlayStop, IsWritten};
 ghost use Rattle.junction_run.specs.Records.{log_of};
-ghost use Rattle.junction_run.specs.Stop.{IsPlayed, IsPlayStop, IsWritten, StopsAt, StopsWith};
+ghost use Rattle.junction_run.specs.Stop.{PlaysAt, StopsWith, play_status};
 ghost use Rattle.junction_run.specs.declared.status.Status.TheVariants as status;
 
-use crate::stop::Stop;
+use crate::stop::PlayStop;
 use controller::Controller;
 use det_stream::{Lines, StreamRefusal};
 use sig_io::{Draft, Files, Sink};
@@ -29,7 +29,7 @@ fn put_seconds<'a, F: Files, O: Sink>(
     files: &mut F,
     draft: &mut Draft,
     out: &mut O,
-) -> Result<(), Stop<'a>>
+) -> Result<(), PlayStop<'a>>
     requires begun { (store : Store) × StandsFor controller.old (opening (site_of controller.old) store) }
     requires live { is_live lines.old ≡ true }
     requires none_given { second_of lines.old ≡ 0 }
@@ -45,7 +45,7 @@ fn put_seconds<'a, F: Files, O: Sink>(
     ensures stops { IfErr result (λ stop. IsPlayStop word.now draft.new.failed stop) }
     ensures contents_stay { F.told files.new ≡ F.told files.old }
     ensures later { F.faults files.old ≤ F.faults files.new }
-    ensures read { StopsWith status.ReadFault result → Rose (F.faults files.old) (F.faults files.new) }
+    ensures read { StopsWith play_status status.ReadFault result → Rose (F.faults files.old) (F.faults files.new) }
     ensures cause { FailsOnly (O.faults out.old) (O.faults out.new) draft.old.failed draft.new.failed }
 {
     loop {
@@ -53,15 +53,15 @@ fn put_seconds<'a, F: Files, O: Sink>(
             Ok(true) => {}
             Ok(false) => return Ok(()),
             Err(StreamRefusal::Memory) => unreachable!(),
-            Err(StreamRefusal::Fault) => return Err(Stop::ReadFault(word)),
+            Err(StreamRefusal::Fault) => return Err(PlayStop::ReadFault(word)),
             Err(StreamRefusal::At { line, why }) => {
-                return Err(Stop::RefusedLine { word, line, why });
+                return Err(PlayStop::RefusedLine { word, line, why });
             }
         }
         controller.second(lines.frame());
         put_second(controller.last(), controller.plan(), draft, out);
         if draft.failed() {
-            return Err(Stop::WriteFault);
+            return Err(PlayStop::WriteFault);
         }
     }
 }
@@ -74,7 +74,7 @@ pub(crate) fn play<'a, F: Files, O: Sink>(
     word: &'a str,
     files: &mut F,
     out: &mut O,
-) -> Result<(), Stop<'a>>
+) -> Result<(), PlayStop<'a>>
     requires begun { (store : Store) × StandsFor controller.old (opening (site_of controller.old) store) }
     requires live { is_live lines.old ≡ true }
     requires none_given { second_of lines.old ≡ 0 }
@@ -84,21 +84,21 @@ pub(crate) fn play<'a, F: Files, O: Sink>(
         (frames : List Counts)
         × IsWritten result (log_of (playing_of controller.old store) frames) (O.taken out.old) (O.taken out.new)
         × ForSome (F.told files.old) (λ file. IsPlayed word.now result (stream_of (file (name_of lines.old))) frames) }
-    ensures word { IfErr result (λ stop. StopsAt word.now stop) }
+    ensures word { IfErr result (λ stop. PlaysAt word.now stop) }
     ensures contents_stay { F.told files.new ≡ F.told files.old }
     ensures later_files { F.faults files.old ≤ F.faults files.new }
     ensures later_out { O.faults out.old ≤ O.faults out.new }
-    ensures read { StopsWith status.ReadFault result → Rose (F.faults files.old) (F.faults files.new) }
-    ensures write { StopsWith status.WriteFault result → Rose (O.faults out.old) (O.faults out.new) }
+    ensures read { StopsWith play_status status.ReadFault result → Rose (F.faults files.old) (F.faults files.new) }
+    ensures write { StopsWith play_status status.WriteFault result → Rose (O.faults out.old) (O.faults out.new) }
 {
     let mut draft = Draft::new();
     put_header(controller.plan(), &mut draft, out);
     let end = put_seconds(controller, lines, word, files, &mut draft, out);
     if draft.failed() {
-        return Err(Stop::WriteFault);
+        return Err(PlayStop::WriteFault);
     }
     match draft.finish(out) {
         Ok(()) => end,
-        Err(_fault) => Err(Stop::WriteFault),
+        Err(_fault) => Err(PlayStop::WriteFault),
     }
 }

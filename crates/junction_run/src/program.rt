@@ -6,16 +6,18 @@ ghost use Rattle.vap_ast.specs.Parsed.{Parsed, IsLine};
 ghost use Rattle.vap_ast.specs.Tree.{program_of};
 ghost use Rattle.vap_check.specs.Accepted.{Accepted};
 ghost use Rattle.vap_check.specs.Numbers.{checked_of};
+ghost use Rattle.vap_check.specs.Readings.{with_readings};
 ghost use Rattle.vap_lex.specs.Kept.{HasLine};
 ghost use Rattle.vap_lex.specs.Tokens.{HasTokens};
 ghost use Rattle.vap_lex.specs.declared.token.Token.{Token};
 ghost use Rattle.vap_parse.specs.Grammar.{Accepts};
-ghost use Rattle.junction_run.specs.Sites.{IsRefusedProgram, IsCheckedText, IsProgramText, IsProgramFile};
-ghost use Rattle.junction_run.specs.Stop.{IsAt, StopsWith};
+ghost use Rattle.junction_run.specs.Form.{ProgramFile};
+ghost use Rattle.junction_run.specs.Sites.{IsRefusedProgram, IsCheckedText, IsProgramText, IsSourceFile};
+ghost use Rattle.junction_run.specs.Stop.{IsAt, StopsWith, load_status};
 ghost use Rattle.junction_run.specs.declared.status.Status.TheVariants as status;
 
 use crate::file::{TEXT_LIMIT, read_file};
-use crate::stop::{Reason, Stop};
+use crate::stop::{LoadStop, Reason};
 use code_verify::Verified;
 use sig_io::Files;
 use std::alloc::Global;
@@ -25,7 +27,7 @@ use vap_compile::compile;
 use vap_lex::{LexRefusal, Tokens, tokens};
 use vap_parse::{ParseRefusal, parse};
 
-fn judge_tokens<'a>(alloc: Global, text: &[u8], word: &'a str) -> Result<Tokens, Stop<'a>>
+fn judge_tokens<'a>(alloc: Global, text: &[u8], word: &'a str) -> Result<Tokens, LoadStop<'a>>
     requires { length text.now ≤ 1048576 }
     ensures tokens { IfOk result (λ ts. HasTokens text.now ts) }
     ensures lines { IfOk result (λ ts. All (λ t. HasLine (length text.now) t) ts) }
@@ -34,8 +36,8 @@ fn judge_tokens<'a>(alloc: Global, text: &[u8], word: &'a str) -> Result<Tokens,
 {
     match tokens(alloc, text) {
         Ok(tokens) => Ok(tokens),
-        Err(LexRefusal::Memory) => Err(Stop::Memory),
-        Err(LexRefusal::At { line, why }) => Err(Stop::Refused {
+        Err(LexRefusal::Memory) => Err(LoadStop::Memory),
+        Err(LexRefusal::At { line, why }) => Err(LoadStop::Refused {
             word,
             line,
             reason: Reason::Lex(why),
@@ -43,7 +45,7 @@ fn judge_tokens<'a>(alloc: Global, text: &[u8], word: &'a str) -> Result<Tokens,
     }
 }
 
-fn judge_tree<'a>(alloc: Global, tokens: &Tokens, word: &'a str) -> Result<Program, Stop<'a>>
+fn judge_tree<'a>(alloc: Global, tokens: &Tokens, word: &'a str) -> Result<Program, LoadStop<'a>>
     ensures tree { IfOk result (λ p. Accepts tokens.now (program_of p)) }
     ensures parsed { (most : ℕ) → All (λ t. IsLine most t.line) tokens.now → IfOk result (λ p. Parsed most (program_of p)) }
     ensures refused { (text : List ℕ) → HasTokens text tokens.now → IfErr result (λ stop. IsRefusedProgram text stop) }
@@ -51,8 +53,8 @@ fn judge_tree<'a>(alloc: Global, tokens: &Tokens, word: &'a str) -> Result<Progr
 {
     match parse(alloc, tokens) {
         Ok(program) => Ok(program),
-        Err(ParseRefusal::Memory) => Err(Stop::Memory),
-        Err(ParseRefusal::At { line, why }) => Err(Stop::Refused {
+        Err(ParseRefusal::Memory) => Err(LoadStop::Memory),
+        Err(ParseRefusal::At { line, why }) => Err(LoadStop::Refused {
             word,
             line,
             reason: Reason::Parse(why),
@@ -60,17 +62,18 @@ fn judge_tree<'a>(alloc: Global, tokens: &Tokens, word: &'a str) -> Result<Progr
     }
 }
 
-fn check_tree<'a>(alloc: Global, program: Program, word: &'a str) -> Result<Checked, Stop<'a>>
+fn check_tree<'a>(alloc: Global, program: Program, word: &'a str) -> Result<Checked, LoadStop<'a>>
     requires { Parsed 1048577 (program_of program) }
-    ensures accepted { IfOk result (λ c. Accepted (program_of program) × (c ≡ checked_of program)) }
+    ensures tree { IfOk result (λ c. program_of c.tree ≡ with_readings (program_of program)) }
+    ensures accepted { IfOk result (λ c. Accepted (program_of c.tree) × (c ≡ checked_of c.tree)) }
     ensures refused { (text : List ℕ) (tokens : List Token) → HasTokens text tokens → Accepts tokens (program_of program) →
         IfErr result (λ stop. IsRefusedProgram text stop) }
     ensures word { IfErr result (λ stop. IsAt word.now stop) }
 {
     match check(alloc, program) {
         Ok(checked) => Ok(checked),
-        Err(CheckRefusal::Memory) => Err(Stop::Memory),
-        Err(CheckRefusal::At { line, why }) => Err(Stop::Refused {
+        Err(CheckRefusal::Memory) => Err(LoadStop::Memory),
+        Err(CheckRefusal::At { line, why }) => Err(LoadStop::Refused {
             word,
             line,
             reason: Reason::Check(why),
@@ -78,12 +81,12 @@ fn check_tree<'a>(alloc: Global, program: Program, word: &'a str) -> Result<Chec
     }
 }
 
-/// The checked program of a text: its tokens, their tree, and the checks.
+/// The checked program of a text: its tokens, their tree, its readings of the cycle, and the checks.
 pub(crate) fn judge_source<'a>(
     alloc: Global,
     text: &[u8],
     word: &'a str,
-) -> Result<Checked, Stop<'a>>
+) -> Result<Checked, LoadStop<'a>>
     requires { length text.now ≤ 1048576 }
     ensures text { IsCheckedText text.now result }
     ensures word { IfErr result (λ stop. IsAt word.now stop) }
@@ -100,7 +103,7 @@ pub(crate) fn judge_source<'a>(
 }
 
 // Judges the text of a program, and compiles it.
-fn judge_program<'a>(alloc: Global, text: &[u8], word: &'a str) -> Result<Verified, Stop<'a>>
+fn judge_program<'a>(alloc: Global, text: &[u8], word: &'a str) -> Result<Verified, LoadStop<'a>>
     requires { length text.now ≤ 1048576 }
     ensures text { IsProgramText text.now result }
     ensures word { IfErr result (λ stop. IsAt word.now stop) }
@@ -111,7 +114,7 @@ fn judge_program<'a>(alloc: Global, text: &[u8], word: &'a str) -> Result<Verifi
     };
     match compile(alloc, &checked) {
         Ok(code) => Ok(code),
-        Err(_memory) => Err(Stop::Memory),
+        Err(_memory) => Err(LoadStop::Memory),
     }
 }
 
@@ -120,12 +123,12 @@ pub(crate) fn take_program<'a, F: Files>(
     alloc: Global,
     word: &'a str,
     files: &mut F,
-) -> Result<Verified, Stop<'a>>
-    ensures program { ForSome (F.told files.old) (λ file. IsProgramFile word.now (file word.now) result) }
+) -> Result<Verified, LoadStop<'a>>
+    ensures program { ForSome (F.told files.old) (λ file. IsSourceFile (ProgramFile word.now) (file word.now) result) }
     ensures word { IfErr result (λ stop. IsAt word.now stop) }
     ensures contents_stay { F.told files.new ≡ F.told files.old }
     ensures later { F.faults files.old ≤ F.faults files.new }
-    ensures cause { StopsWith status.ReadFault result → Rose (F.faults files.old) (F.faults files.new) }
+    ensures cause { StopsWith load_status status.ReadFault result → Rose (F.faults files.old) (F.faults files.new) }
 {
     let text = match read_file(alloc, files, word, TEXT_LIMIT) {
         Ok(text) => text,

@@ -1,5 +1,5 @@
 // The commands that play a detector file.
-ghost use Rattle.std.specs.Prelude.{◌≡◌, ◌≤◌, IfOk, IfErr, length};
+ghost use Rattle.std.specs.Prelude.{true, false, ◌≡◌, ◌≤◌, IfOk, IfErr, length};
 ghost use Rattle.std.specs.Option.{ForSome};
 ghost use Rattle.sig_io.specs.Outside.{Rose};
 ghost use Rattle.sig_types.specs.Rules.{IsTwoWay};
@@ -10,20 +10,20 @@ ghost use Rattle.vap_code.specs.Stores.{first_store};
 ghost use Rattle.controller.specs.Past.{opening};
 ghost use Rattle.controller.specs.Controls.{StandsFor, site_of, logic_of};
 ghost use Rattle.det_stream.specs.Stream.{stream_of};
+ghost use Rattle.junction_run.specs.Answers.{may_write};
 ghost use Rattle.junction_run.specs.Ended.{IsEnded};
-ghost use Rattle.junction_run.specs.Form.{Run, Exec, files_of};
-ghost use Rattle.junction_run.specs.FormWords.{site_in};
+ghost use Rattle.junction_run.specs.Form.{Play, files_of};
+ghost use Rattle.junction_run.specs.FormWords.{site_in, source_in};
 ghost use Rattle.junction_run.specs.Guarded.{IsGuardedLog};
 ghost use Rattle.junction_run.specs.Played.{IsPlayedAt};
 ghost use Rattle.junction_run.specs.Sites as sites;
-ghost use Rattle.junction_run.specs.Stop.{StopsAt, StopsAmong, StopsWith};
+ghost use Rattle.junction_run.specs.Stop.{StopsAt, StopsAmong, StopsWith, status_of};
 ghost use Rattle.junction_run.specs.declared.status.Status.TheVariants as status;
 
-use crate::code::load_code;
-use crate::form::SiteWords;
-use crate::load::{Site, load_program};
+use crate::form::{SiteWords, Source};
+use crate::load::{Site, load};
 use crate::play::play;
-use crate::stop::Stop;
+use crate::stop::{LoadStop, Stop};
 use controller::Controller;
 use det_stream::Lines;
 use sig_io::{Files, Sink};
@@ -67,72 +67,52 @@ fn play_site<'a, F: Files, O: Sink>(
         result (O.taken out.old) (O.taken out.new)) }
     ensures valid { Valid site.code }
     ensures guarded { IsGuardedLog (O.taken out.old) (O.taken out.new) }
+    ensures unwritten { IfErr result (λ stop. may_write true (status_of stop) ≡ false → O.taken out.new ≡ O.taken out.old) }
     ensures word { IfErr result (λ stop. StopsAt detectors.now stop) }
     ensures contents_stay { F.told files.new ≡ F.told files.old }
     ensures later_files { F.faults files.old ≤ F.faults files.new }
     ensures later_out { O.faults out.old ≤ O.faults out.new }
-    ensures read { StopsWith status.ReadFault result → Rose (F.faults files.old) (F.faults files.new) }
-    ensures write { StopsWith status.WriteFault result → Rose (O.faults out.old) (O.faults out.new) }
+    ensures read { StopsWith status_of status.ReadFault result → Rose (F.faults files.old) (F.faults files.new) }
+    ensures write { StopsWith status_of status.WriteFault result → Rose (O.faults out.old) (O.faults out.new) }
 {
     let mut controller = match make_controller(alloc, site) {
         Ok(controller) => controller,
-        Err(_memory) => return Err(Stop::Memory),
+        Err(_memory) => return Err(Stop::Load(LoadStop::Memory)),
     };
     let mut lines = match Lines::make(alloc, detectors) {
         Ok(lines) => lines,
-        Err(_memory) => return Err(Stop::Memory),
+        Err(_memory) => return Err(Stop::Load(LoadStop::Memory)),
     };
-    play(&mut controller, &mut lines, detectors, files, out)
+    match play(&mut controller, &mut lines, detectors, files, out) {
+        Ok(()) => Ok(()),
+        Err(stop) => Err(Stop::Play(stop)),
+    }
 }
 
-/// Loads a program at its site, and plays a detector file. All memory is taken before the first byte is written.
+/// Loads a program or a code at its site, and plays a detector file. All memory is taken before the first byte is written.
 pub(crate) fn run<'a, F: Files, O: Sink>(
     alloc: Global,
-    program: &'a str,
+    source: &Source<'a>,
     words: &SiteWords<'a>,
     detectors: &'a str,
     files: &mut F,
     out: &mut O,
 ) -> Result<(), Stop<'a>>
     ensures ended { ForSome (F.told files.old) (λ file.
-        IsEnded (Run program.now (site_in words.now) detectors.now) file result (O.taken out.old) (O.taken out.new)) }
+        IsEnded (Play (source_in source.now) (site_in words.now) detectors.now) file result (O.taken out.old) (O.taken out.new)) }
     ensures guarded { IsGuardedLog (O.taken out.old) (O.taken out.new) }
-    ensures word { IfErr result (λ stop. StopsAmong (files_of (Run program.now (site_in words.now) detectors.now)) stop) }
+    ensures unwritten { IfErr result (λ stop. may_write true (status_of stop) ≡ false → O.taken out.new ≡ O.taken out.old) }
+    ensures word { IfErr result (λ stop.
+        StopsAmong (files_of (Play (source_in source.now) (site_in words.now) detectors.now)) stop) }
     ensures contents_stay { F.told files.new ≡ F.told files.old }
     ensures later_files { F.faults files.old ≤ F.faults files.new }
     ensures later_out { O.faults out.old ≤ O.faults out.new }
-    ensures read { StopsWith status.ReadFault result → Rose (F.faults files.old) (F.faults files.new) }
-    ensures write { StopsWith status.WriteFault result → Rose (O.faults out.old) (O.faults out.new) }
+    ensures read { StopsWith status_of status.ReadFault result → Rose (F.faults files.old) (F.faults files.new) }
+    ensures write { StopsWith status_of status.WriteFault result → Rose (O.faults out.old) (O.faults out.new) }
 {
-    let site = match load_program(alloc, program, words, files) {
+    let site = match load(alloc, source, words, files) {
         Ok(site) => site,
-        Err(stop) => return Err(stop),
-    };
-    play_site(alloc, site, detectors, files, out)
-}
-
-/// Loads a code at its site, and plays a detector file. All memory is taken before the first byte is written.
-pub(crate) fn exec<'a, F: Files, O: Sink>(
-    alloc: Global,
-    code: &'a str,
-    words: &SiteWords<'a>,
-    detectors: &'a str,
-    files: &mut F,
-    out: &mut O,
-) -> Result<(), Stop<'a>>
-    ensures ended { ForSome (F.told files.old) (λ file.
-        IsEnded (Exec code.now (site_in words.now) detectors.now) file result (O.taken out.old) (O.taken out.new)) }
-    ensures guarded { IsGuardedLog (O.taken out.old) (O.taken out.new) }
-    ensures word { IfErr result (λ stop. StopsAmong (files_of (Exec code.now (site_in words.now) detectors.now)) stop) }
-    ensures contents_stay { F.told files.new ≡ F.told files.old }
-    ensures later_files { F.faults files.old ≤ F.faults files.new }
-    ensures later_out { O.faults out.old ≤ O.faults out.new }
-    ensures read { StopsWith status.ReadFault result → Rose (F.faults files.old) (F.faults files.new) }
-    ensures write { StopsWith status.WriteFault result → Rose (O.faults out.old) (O.faults out.new) }
-{
-    let site = match load_code(alloc, code, words, files) {
-        Ok(site) => site,
-        Err(stop) => return Err(stop),
+        Err(stop) => return Err(Stop::Load(stop)),
     };
     play_site(alloc, site, detectors, files, out)
 }

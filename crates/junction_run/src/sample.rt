@@ -1,5 +1,5 @@
 // A sample: what the seconds of a controller add up to, over frames that are drawn from a seed.
-ghost use Rattle.std.specs.Prelude.{◌≡◌, ◌≤◌, List, OnOk, IfErr};
+ghost use Rattle.std.specs.Prelude.{◌≡◌, ◌≤◌, false, List, OnOk, IfErr};
 ghost use Rattle.std.specs.Option.{ForSome};
 ghost use Rattle.std.specs.Io.KnownBytes.{append_known};
 ghost use Rattle.sig_io.specs.Draft.{IsCut};
@@ -10,21 +10,22 @@ ghost use Rattle.pua_model.specs.Plan.{groups_in};
 ghost use Rattle.controller.specs.Past.{opening};
 ghost use Rattle.controller.specs.Controls.{StandsFor, site_of, plan_of};
 ghost use Rattle.signal_log.specs.Summary.{StandsFor as SummaryStands, summary_text};
+ghost use Rattle.junction_run.specs.Answers.{may_write};
 ghost use Rattle.junction_run.specs.Drawn.{drawn};
 ghost use Rattle.junction_run.specs.Ended.{IsEnded};
 ghost use Rattle.junction_run.specs.Form.{Sample, files_of};
 ghost use Rattle.junction_run.specs.FormWords.{site_in};
 ghost use Rattle.junction_run.specs.Played.{playing_of};
 ghost use Rattle.junction_run.specs.Records.{records_of};
-ghost use Rattle.junction_run.specs.Stop.{StopsAmong, StopsWith};
+ghost use Rattle.junction_run.specs.Stop.{StopsAmong, StopsWith, status_of};
 ghost use Rattle.junction_run.specs.declared.status.Status.TheVariants as status;
 
 use crate::draw::{draw_frame, generator_of};
-use crate::form::SiteWords;
-use crate::load::load_program;
+use crate::form::{SiteWords, Source};
+use crate::load::load;
 use crate::run::make_controller;
 use crate::seconds::SampleSeconds;
-use crate::stop::Stop;
+use crate::stop::{LoadStop, PlayStop, Stop};
 use controller::Controller;
 use pua_model::Plan;
 use sig_io::{Draft, Files, PutFault, Sink};
@@ -84,24 +85,26 @@ pub(crate) fn sample<'a, F: Files, O: Sink>(
 ) -> Result<(), Stop<'a>>
     ensures ended { ForSome (F.told files.old) (λ file.
         IsEnded (Sample program.now (site_in words.now) seed seconds.count) file result (O.taken out.old) (O.taken out.new)) }
+    ensures unwritten { IfErr result (λ stop. may_write false (status_of stop) ≡ false → O.taken out.new ≡ O.taken out.old) }
+    ensures line { StopsWith status_of status.RefusedLine result → ⊥ }
     ensures word { IfErr result (λ stop. StopsAmong (files_of (Sample program.now (site_in words.now) seed seconds.count)) stop) }
     ensures contents_stay { F.told files.new ≡ F.told files.old }
     ensures later_files { F.faults files.old ≤ F.faults files.new }
     ensures later_out { O.faults out.old ≤ O.faults out.new }
-    ensures read { StopsWith status.ReadFault result → Rose (F.faults files.old) (F.faults files.new) }
-    ensures write { StopsWith status.WriteFault result → Rose (O.faults out.old) (O.faults out.new) }
+    ensures read { StopsWith status_of status.ReadFault result → Rose (F.faults files.old) (F.faults files.new) }
+    ensures write { StopsWith status_of status.WriteFault result → Rose (O.faults out.old) (O.faults out.new) }
 {
-    let site = match load_program(alloc, program, words, files) {
+    let site = match load(alloc, &Source::Program(program), words, files) {
         Ok(site) => site,
-        Err(stop) => return Err(stop),
+        Err(stop) => return Err(Stop::Load(stop)),
     };
     let mut controller = match make_controller(alloc, site) {
         Ok(controller) => controller,
-        Err(_memory) => return Err(Stop::Memory),
+        Err(_memory) => return Err(Stop::Load(LoadStop::Memory)),
     };
     let summary = sample_seconds(&mut controller, seed, seconds.count);
     match write_summary(&summary, controller.plan(), seed, seconds.count, out) {
         Ok(()) => Ok(()),
-        Err(_fault) => Err(Stop::WriteFault),
+        Err(_fault) => Err(Stop::Play(PlayStop::WriteFault)),
     }
 }

@@ -11,12 +11,12 @@ ghost use Rattle.junction_run.specs.Form.{site_files};
 ghost use Rattle.junction_run.specs.FormWords.{site_in};
 ghost use Rattle.junction_run.specs.Loading.{plan_refusal, table_refusal, plan_at, times_at, intergreens_at, site_of, ReachedInSite};
 ghost use Rattle.junction_run.specs.Sites.{site_of_tables};
-ghost use Rattle.junction_run.specs.Stop.{IsLoading, IsRefusedText, IsAt, IsAmong, StopsWith};
+ghost use Rattle.junction_run.specs.Stop.{IsLoading, IsRefusedText, IsAt, IsAmong, StopsWith, load_status};
 ghost use Rattle.junction_run.specs.declared.status.Status.TheVariants as status;
 
 use crate::file::{TEXT_LIMIT, read_file};
 use crate::form::SiteWords;
-use crate::stop::{Reason, Stop};
+use crate::stop::{LoadStop, Reason};
 use pua_model::Plan;
 use pua_reader::{PuaRefusal, read_plan};
 use sig_io::Files;
@@ -31,7 +31,7 @@ pub(crate) struct SiteTables {
     pub(crate) intergreens: Intergreens,
 }
 
-fn judge_plan<'a>(alloc: Global, text: &[u8], word: &'a str) -> Result<Plan, Stop<'a>>
+fn judge_plan<'a>(alloc: Global, text: &[u8], word: &'a str) -> Result<Plan, LoadStop<'a>>
     requires { length text.now ≤ 1048576 }
     ensures accepted { IfOk result (λ plan. plan_refusal (refusal_of text.now) ≡ None) }
     ensures plan { IfOk result (λ plan. plan ≡ plan_of_text text.now) }
@@ -40,8 +40,8 @@ fn judge_plan<'a>(alloc: Global, text: &[u8], word: &'a str) -> Result<Plan, Sto
 {
     match read_plan(alloc, text) {
         Ok(plan) => Ok(plan),
-        Err(PuaRefusal::Memory) => Err(Stop::Memory),
-        Err(PuaRefusal::At { line, why }) => Err(Stop::Refused {
+        Err(PuaRefusal::Memory) => Err(LoadStop::Memory),
+        Err(PuaRefusal::At { line, why }) => Err(LoadStop::Refused {
             word,
             line,
             reason: Reason::Pua(why),
@@ -54,7 +54,7 @@ fn judge_times<'a>(
     text: &[u8],
     plan: Plan,
     word: &'a str,
-) -> Result<(Plan, Times), Stop<'a>>
+) -> Result<(Plan, Times), LoadStop<'a>>
     ensures accepted { IfOk result (λ r. table_refusal plan (times_refusal plan text.now) ≡ None) }
     ensures plan { IfOk result (λ r. r.0 ≡ plan) }
     ensures times { IfOk result (λ r. r.1 ≡ times_of plan text.now) }
@@ -64,8 +64,8 @@ fn judge_times<'a>(
 {
     match read_times(alloc, text, &plan) {
         Ok(times) => Ok((plan, times)),
-        Err(TableRefusal::Memory) => Err(Stop::Memory),
-        Err(TableRefusal::At { line, why }) => Err(Stop::Refused {
+        Err(TableRefusal::Memory) => Err(LoadStop::Memory),
+        Err(TableRefusal::At { line, why }) => Err(LoadStop::Refused {
             word,
             line,
             reason: Reason::Table(why, plan),
@@ -78,7 +78,7 @@ fn judge_intergreens<'a>(
     text: &[u8],
     plan: Plan,
     word: &'a str,
-) -> Result<(Plan, Intergreens), Stop<'a>>
+) -> Result<(Plan, Intergreens), LoadStop<'a>>
     ensures accepted { IfOk result (λ r. table_refusal plan (intergreens_refusal plan text.now) ≡ None) }
     ensures plan { IfOk result (λ r. r.0 ≡ plan) }
     ensures seconds { IfOk result (λ r. (i g : ℕ) → between r.1 i g ≡ intergreen_of plan text.now i g) }
@@ -88,8 +88,8 @@ fn judge_intergreens<'a>(
 {
     match read_intergreens(alloc, text, &plan) {
         Ok(intergreens) => Ok((plan, intergreens)),
-        Err(TableRefusal::Memory) => Err(Stop::Memory),
-        Err(TableRefusal::At { line, why }) => Err(Stop::Refused {
+        Err(TableRefusal::Memory) => Err(LoadStop::Memory),
+        Err(TableRefusal::At { line, why }) => Err(LoadStop::Refused {
             word,
             line,
             reason: Reason::Table(why, plan),
@@ -98,13 +98,17 @@ fn judge_intergreens<'a>(
 }
 
 // Reads and judges the plan.
-fn take_plan<'a, F: Files>(alloc: Global, word: &'a str, files: &mut F) -> Result<Plan, Stop<'a>>
+fn take_plan<'a, F: Files>(
+    alloc: Global,
+    word: &'a str,
+    files: &mut F,
+) -> Result<Plan, LoadStop<'a>>
     ensures plan { ForSome (F.told files.old)
         (λ file. IsLoading (λ w. w ≡ word.now) (λ plan. plan) result (plan_at file word.now)) }
     ensures word { IfErr result (λ stop. IsAt word.now stop) }
     ensures contents_stay { F.told files.new ≡ F.told files.old }
     ensures later { F.faults files.old ≤ F.faults files.new }
-    ensures cause { StopsWith status.ReadFault result → Rose (F.faults files.old) (F.faults files.new) }
+    ensures cause { StopsWith load_status status.ReadFault result → Rose (F.faults files.old) (F.faults files.new) }
 {
     let text = match read_file(alloc, files, word, TEXT_LIMIT) {
         Ok(text) => text,
@@ -119,7 +123,7 @@ fn take_times<'a, F: Files>(
     word: &'a str,
     files: &mut F,
     plan: Plan,
-) -> Result<(Plan, Times), Stop<'a>>
+) -> Result<(Plan, Times), LoadStop<'a>>
     ensures times { ForSome (F.told files.old)
         (λ file. IsLoading (λ w. w ≡ word.now) (λ r. r.1) result (times_at file word.now plan)) }
     ensures plan { IfOk result (λ r. r.0 ≡ plan) }
@@ -127,7 +131,7 @@ fn take_times<'a, F: Files>(
     ensures word { IfErr result (λ stop. IsAt word.now stop) }
     ensures contents_stay { F.told files.new ≡ F.told files.old }
     ensures later { F.faults files.old ≤ F.faults files.new }
-    ensures cause { StopsWith status.ReadFault result → Rose (F.faults files.old) (F.faults files.new) }
+    ensures cause { StopsWith load_status status.ReadFault result → Rose (F.faults files.old) (F.faults files.new) }
 {
     let text = match read_file(alloc, files, word, TEXT_LIMIT) {
         Ok(text) => text,
@@ -142,7 +146,7 @@ fn take_intergreens<'a, F: Files>(
     word: &'a str,
     files: &mut F,
     plan: Plan,
-) -> Result<(Plan, Intergreens), Stop<'a>>
+) -> Result<(Plan, Intergreens), LoadStop<'a>>
     ensures intergreens { ForSome (F.told files.old)
         (λ file. IsLoading (λ w. w ≡ word.now) (λ r. between r.1) result (intergreens_at file word.now plan)) }
     ensures plan { IfOk result (λ r. r.0 ≡ plan) }
@@ -150,7 +154,7 @@ fn take_intergreens<'a, F: Files>(
     ensures word { IfErr result (λ stop. IsAt word.now stop) }
     ensures contents_stay { F.told files.new ≡ F.told files.old }
     ensures later { F.faults files.old ≤ F.faults files.new }
-    ensures cause { StopsWith status.ReadFault result → Rose (F.faults files.old) (F.faults files.new) }
+    ensures cause { StopsWith load_status status.ReadFault result → Rose (F.faults files.old) (F.faults files.new) }
 {
     let text = match read_file(alloc, files, word, TEXT_LIMIT) {
         Ok(text) => text,
@@ -164,7 +168,7 @@ pub(crate) fn take_site<'a, F: Files>(
     alloc: Global,
     words: &SiteWords<'a>,
     files: &mut F,
-) -> Result<SiteTables, Stop<'a>>
+) -> Result<SiteTables, LoadStop<'a>>
     ensures site { ForSome (F.told files.old)
         (λ file. IsLoading (λ w. ReachedInSite (site_in words.now) file w) site_of_tables result
         (site_of (site_in words.now) file)) }
@@ -173,7 +177,7 @@ pub(crate) fn take_site<'a, F: Files>(
     ensures word { IfErr result (λ stop. IsAmong (site_files (site_in words.now)) stop) }
     ensures contents_stay { F.told files.new ≡ F.told files.old }
     ensures later { F.faults files.old ≤ F.faults files.new }
-    ensures cause { StopsWith status.ReadFault result → Rose (F.faults files.old) (F.faults files.new) }
+    ensures cause { StopsWith load_status status.ReadFault result → Rose (F.faults files.old) (F.faults files.new) }
 {
     let plan = match take_plan(alloc, words.plan, files) {
         Ok(plan) => plan,

@@ -1,19 +1,19 @@
 // The top call.
-ghost use Rattle.std.specs.Prelude.{◌≡◌, ◌≤◌, Some, IfErr, map, string_bytes};
+ghost use Rattle.std.specs.Prelude.{◌≡◌, ◌≤◌, true, false, Some, IfErr, map, string_bytes};
 ghost use Rattle.std.specs.Option.{ForSome};
 ghost use Rattle.sig_io.specs.Outside.{Rose};
-ghost use Rattle.junction_run.specs.Answers.{FormAnswer, JunctionAnswers};
+ghost use Rattle.junction_run.specs.Answers.{FormAnswer, JunctionAnswers, may_write, seen};
 ghost use Rattle.junction_run.specs.Ended.{IsEnded};
-ghost use Rattle.junction_run.specs.Form.{files_of};
+ghost use Rattle.junction_run.specs.Form.{files_of, reads_lines};
 ghost use Rattle.junction_run.specs.FormWords.{form_in};
 ghost use Rattle.junction_run.specs.Guarded.{IsSafe};
-ghost use Rattle.junction_run.specs.Stop.{StopsAmong, StopsWith};
+ghost use Rattle.junction_run.specs.Stop.{StopsAmong, StopsWith, status_of};
 ghost use Rattle.junction_run.specs.declared.status.Status.TheVariants as status;
 
 use crate::compile::compile_file;
 use crate::form::{Form, form_of};
 use crate::notes::{write_stop, write_words};
-use crate::run::{exec, run};
+use crate::run::run;
 use crate::sample::sample;
 use crate::status::Status;
 use crate::stop::{Stop, status_of};
@@ -30,25 +30,23 @@ fn do_form<'a, F: Files, O: Sink>(
     ensures ended { ForSome (F.told files.old) (λ file.
         IsEnded (form_in form.now) file result (O.taken out.old) (O.taken out.new)) }
     ensures safe { IsSafe (form_in form.now) (O.taken out.old) (O.taken out.new) }
+    ensures unwritten { IfErr result (λ stop.
+        may_write (reads_lines (form_in form.now)) (status_of stop) ≡ false → O.taken out.new ≡ O.taken out.old) }
+    ensures line { StopsWith status_of status.RefusedLine result → reads_lines (form_in form.now) ≡ true }
     ensures word { IfErr result (λ stop. StopsAmong (files_of (form_in form.now)) stop) }
     ensures contents_stay { F.told files.new ≡ F.told files.old }
     ensures later_files { F.faults files.old ≤ F.faults files.new }
     ensures later_out { O.faults out.old ≤ O.faults out.new }
-    ensures read { StopsWith status.ReadFault result → Rose (F.faults files.old) (F.faults files.new) }
-    ensures write { StopsWith status.WriteFault result → Rose (O.faults out.old) (O.faults out.new) }
+    ensures read { StopsWith status_of status.ReadFault result → Rose (F.faults files.old) (F.faults files.new) }
+    ensures write { StopsWith status_of status.WriteFault result → Rose (O.faults out.old) (O.faults out.new) }
 {
     match form {
-        Form::Run {
-            program,
+        Form::Play {
+            source,
             site,
             detectors,
-        } => run(alloc, program, site, detectors, files, out),
+        } => run(alloc, source, site, detectors, files, out),
         Form::Compile { program } => compile_file(alloc, program, files, out),
-        Form::Exec {
-            code,
-            site,
-            detectors,
-        } => exec(alloc, code, site, detectors, files, out),
         Form::Sample {
             program,
             site,
@@ -67,9 +65,9 @@ fn answer_form<F: Files, O: Sink, N: Sink>(
     notes: &mut N,
 ) -> Status
     ensures answer { FormAnswer (form_in form.now)
-        (record { old = F.told files.old; new = F.told files.new; before = F.faults files.old; after = F.faults files.new })
-        (record { old = O.taken out.old; new = O.taken out.new; before = O.faults out.old; after = O.faults out.new })
-        (record { old = N.taken notes.old; new = N.taken notes.new; before = N.faults notes.old; after = N.faults notes.new })
+        (seen (F.told files.old) (F.told files.new) (F.faults files.old) (F.faults files.new))
+        (seen (O.taken out.old) (O.taken out.new) (O.faults out.old) (O.faults out.new))
+        (seen (N.taken notes.old) (N.taken notes.new) (N.faults notes.old) (N.faults notes.new))
         result }
     ensures no_words { result ≡ Status.Words → ⊥ }
     ensures contents_stay { F.told files.new ≡ F.told files.old }
@@ -106,9 +104,9 @@ pub fn junction<F: Files, O: Sink, N: Sink>(
     notes: &mut N,
 ) -> Status
     ensures answers { JunctionAnswers (map string_bytes words.now)
-        (record { old = F.told files.old; new = F.told files.new; before = F.faults files.old; after = F.faults files.new })
-        (record { old = O.taken out.old; new = O.taken out.new; before = O.faults out.old; after = O.faults out.new })
-        (record { old = N.taken notes.old; new = N.taken notes.new; before = N.faults notes.old; after = N.faults notes.new })
+        (seen (F.told files.old) (F.told files.new) (F.faults files.old) (F.faults files.new))
+        (seen (O.taken out.old) (O.taken out.new) (O.faults out.old) (O.faults out.new))
+        (seen (N.taken notes.old) (N.taken notes.new) (N.faults notes.old) (N.faults notes.new))
         result }
     ensures unread { result ≡ Status.Words → files.new ≡ files.old }
     ensures unwritten { result ≡ Status.Words → out.new ≡ out.old }

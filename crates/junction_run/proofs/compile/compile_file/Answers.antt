@@ -5,7 +5,7 @@ use Rattle.junction_run.specs.Form.{Compile}
 use Rattle.junction_run.specs.Loading.{IsJudged, text_limit, Reached}
 use Rattle.junction_run.specs.Programs.{ProgramIs}
 use Rattle.junction_run.proofs.Agree.{compiled_text}
-use Rattle.junction_run.proofs.Ends.{stopped_loading, stops_among, no_write, among}
+use Rattle.junction_run.proofs.Ends.{stopped_loading, no_write, no_line, among}
 use Rattle.junction_run.proofs.compile.compile_file.Goals as goal
 
 pub returns-in-Err-clause-ended : goal.returns-in-Err-clause-ended
@@ -16,12 +16,13 @@ returns-in-Err-clause-ended g c = λ file e.
 pub returns-in-Err-clause-word : goal.returns-in-Err-clause-word
 returns-in-Err-clause-word g c =
     let zeroth : 0 < 1 = omega arith in
-    stops_among (c.args.program.now ∷ []) [] c.in-Err.stop (among (c.args.program.now ∷ []) c.args.program.now c.in-Err.stop (0, zeroth, refl) c.in-Err.ensures.word)
+    among (c.args.program.now ∷ []) c.args.program.now c.in-Err.stop (0, zeroth, refl) c.in-Err.ensures.word
 
 pub returns-in-Err-clause-write : goal.returns-in-Err-clause-write
-returns-in-Err-clause-write g c = λ is.
-    let zeroth : 0 < 1 = omega arith in
-    absurd (no_write (c.args.program.now ∷ []) c.in-Err.stop (among (c.args.program.now ∷ []) c.args.program.now c.in-Err.stop (0, zeroth, refl) c.in-Err.ensures.word) is)
+returns-in-Err-clause-write g c = λ is. absurd (no_write c.in-Err.stop is)
+
+pub returns-in-Err-clause-line : goal.returns-in-Err-clause-line
+returns-in-Err-clause-line g c = no_line c.in-Err.stop
 
 pub returns-in-Ok-write_code-clause-ended : goal.returns-in-Ok-write_code-clause-ended
 returns-in-Ok-write_code-clause-ended g c = λ file e.

@@ -38,8 +38,8 @@ returns-in-Ok-clause-played g c = λ store s.
 pub returns-in-Ok-clause-word : goal.returns-in-Ok-clause-word
 returns-in-Ok-clause-word g c = play_stops c.args.word.now c.put_seconds-end.new.draft.failed c.put_seconds-end.result c.put_seconds-end.ensures.stops
 
-pub returns-clause-played : goal.returns-clause-played
-returns-clause-played g c = λ store s.
+pub returns-in-Err-clause-played : goal.returns-in-Err-clause-played
+returns-in-Err-clause-played g c = λ store s.
     let start : Option (List ℕ) = g.O.Sink.taken c.args.out.now in
     let names : c.plan.result.now.names ≡ (site_of c.args.controller.now).plan.names = ap (λ q. q.names) (c.plan.ensures ∙ plan_is c.args.controller.now) in
     let begun = subst (λ t. IsDraft start (g.O.Sink.taken c.put_header.new.sink) c.put_header.new.draft t) (ap header_text names ∙ sym (log_of-none (playing_of c.args.controller.now store)))

@@ -13,7 +13,7 @@ use Rattle.junction_run.specs.Played.{playing_of}
 use Rattle.junction_run.specs.Records.{records_of}
 use Rattle.junction_run.specs.Sampled.{sample_text}
 use Rattle.junction_run.specs.Sites as sites
-use Rattle.junction_run.proofs.Ends.{stopped_loading, stops_among, no_write}
+use Rattle.junction_run.proofs.Ends.{stopped_loading, no_write, no_line}
 use Rattle.junction_run.proofs.Sampling.{sample_is, same_cut}
 use Rattle.junction_run.proofs.sample.sample.Goals as goal
 
@@ -24,15 +24,11 @@ returns-in-Err-clause-ended g c = λ file e.
     let form = Sample name site c.args.seed c.args.seconds.count in
     stopped_loading (LoadsProgram name site file) (loaded_answer form file) (Reached form file) c.in-Err.stop _ _ (c.in-Err.ensures.loaded file e) refl
 
-pub returns-in-Err-clause-word : goal.returns-in-Err-clause-word
-returns-in-Err-clause-word g c =
-    let site = c.args.words.now in
-    stops_among (site.plan.now ∷ site.times.now ∷ site.intergreens.now ∷ c.args.program.now ∷ []) [] c.in-Err.stop c.in-Err.ensures.word
-
 pub returns-in-Err-clause-write : goal.returns-in-Err-clause-write
-returns-in-Err-clause-write g c = λ is.
-    let site = c.args.words.now in
-    absurd (no_write (site.plan.now ∷ site.times.now ∷ site.intergreens.now ∷ c.args.program.now ∷ []) c.in-Err.stop c.in-Err.ensures.word is)
+returns-in-Err-clause-write g c = λ is. absurd (no_write c.in-Err.stop is)
+
+pub returns-in-Err-clause-line : goal.returns-in-Err-clause-line
+returns-in-Err-clause-line g c = no_line c.in-Err.stop
 
 pub returns-in-Ok-write_summary-clause-ended : goal.returns-in-Ok-write_summary-clause-ended
 returns-in-Ok-write_summary-clause-ended g c = λ file e.

@@ -1,6 +1,7 @@
-use Rattle.std.proofs.Common.{◌≡◌, ◌∙◌, [], sym, subst, refl}
+use Rattle.std.proofs.Common.{◌≡◌, ◌∙◌, false, [], sym, subst, refl}
 use Rattle.junction_run.specs.Answer.{Meets}
-use Rattle.junction_run.specs.Form.{Form, files_of}
+use Rattle.junction_run.specs.Answers.{may_write}
+use Rattle.junction_run.specs.Form.{Form, files_of, reads_lines}
 use Rattle.junction_run.specs.FormWords.{form_in}
 use Rattle.junction_run.specs.Notes.{IsNote, NoteMeets, stop_note}
 use Rattle.junction_run.specs.Stop.{status_of}
@@ -12,6 +13,8 @@ returns-in-Ok-clause-answer g c = record {
   not_words = λ is. absurd cc;
   read_fault = λ is. absurd cc;
   write_fault = λ is. absurd cc;
+  unwritten = λ none. absurd cc;
+  line = λ is. absurd cc;
   answer = λ file e. c.in-Ok.ensures.ended file e;
   safe = c.do_form.ensures.safe;
   note = λ clean. ([], sym (append_known-nil (g.N.Sink.taken c.args.notes.now)), refl, λ file e. tt);
@@ -25,6 +28,8 @@ returns-in-Err-clause-answer g c =
       not_words = λ at. no_words c.in-Err.stop (sym is ∙ at);
       read_fault = λ at. c.in-Err.ensures.read (sym is ∙ at);
       write_fault = λ at. c.in-Err.ensures.write (sym is ∙ at);
+      unwritten = λ none. c.in-Err.ensures.unwritten (subst (λ s. may_write (reads_lines form) s ≡ false) is none);
+      line = λ at. c.in-Err.ensures.line (sym is ∙ at);
       answer = λ file e. subst (λ s. Meets form file s (g.O.Sink.taken c.args.out.now) (g.O.Sink.taken c.do_form.new.out)) (sym is) (c.in-Err.ensures.ended file e).0;
       safe = c.do_form.ensures.safe;
       note = λ clean. (
