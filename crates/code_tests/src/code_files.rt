@@ -4,9 +4,10 @@ use code_verify::verify;
 use sig_io::MemSink;
 use std::test::Fail;
 
-const TEXTS: [&[u8]; 2] = [
+const TEXTS: [&[u8]; 3] = [
     b"VAPCODE 1\nVARS 1\nTIMERS 0\nARRAYS 0\nROUTINES 1\n0\nCODE 5\ntick 1\npush -2147483648\nstore 0\njump 4\nret\nEND\n",
     b"VAPCODE 1\nVARS 0\nTIMERS 1\nARRAYS 2\n-7 0 12\n5\nROUTINES 2\n0\n3\nCODE 8\ntick 1\nstart 0\nret\ntick 2\ncall 0\ntick 3\nstop 0\nret\nEND\n",
+    b"VAPCODE 2\nVARS 1\nTIMERS 0\nARRAYS 0\nROUTINES 1\n0\nCODE 7\ntick 1\nread cycle_second\nstore 0\ntick 2\npush 60\ndo set_cycle\nret\nEND\n",
 ];
 
 #[test]
