@@ -6,7 +6,7 @@ use Rattle.std.proofs.lemmas.List.Sums.{sum_by-append}
 use Rattle.std.proofs.lemmas.List.{take_all, take-append-le}
 use Rattle.std.proofs.lemmas.Option.{slice_get_within}
 use native.Mathlib.Decide.{dec_le}
-use Rattle.det_board.specs.Passes.{Boarded, Feeding, Ticking, IsOpening, AreAll, Closes}
+use Rattle.det_board.specs.Passes.{Boarded, Feeding, Ticking, IsOpening, AreAll, Closes, fronts_read, rears_read}
 use Rattle.sig_types.specs.Counts.{Counts, Takes}
 use Rattle.junction_live.specs.Play.{Loaded, Played, NeverAhead, SameSums, NoMore, all_fronts, all_rears, fronts_in, rears_in}
 use Rattle.junction_live.proofs.Bridge.{takes_from}
@@ -45,7 +45,8 @@ own board fs old new tick tick' made closing r d low =
     let is : Played fs first p = subst (λ (q : Feeding). Played fs q p) was (r.played d first low) in
     let pf : p.fronts ≡ all_fronts d fs = ap (λ (q : Feeding). q.fronts) is in
     let pr : p.rears ≡ all_rears d fs = ap (λ (q : Feeding). q.rears) is in
-    let rest = r.closes.rest d p got in
+    let place : p.place ≡ d = ap (λ (q : Feeding). q.place) is in
+    let rest = subst (λ (k : ℕ). ((slice_index_or closing k (0, 0)).0 + fronts_read tick' k ≡ p.fronts) × ((slice_index_or closing k (0, 0)).1 + rears_read tick' k ≡ p.rears)) place (r.closes.rest d p got) in
     let ord = r.closes.ordered d p got in
     let sf = fronts_sum tick' made d low r.loaded in
     let sr = rears_sum tick' made d low r.loaded in
@@ -85,14 +86,24 @@ closed_printable board fs old new tick tick' made closing r =
     printable_push made closing (loaded_printable tick' made r.loaded) (printable_frame closing r.closes.size (λ d low.
     let o = own board fs old new tick tick' made closing r d low in (omega (arith, o.0, o.3), omega (arith, o.1, o.2, o.3))))
 
+-- passes in the order of the detectors are all of the board
+in_order : (board : Boarded) (feeders : List Feeding) (tick : Ticking) → length feeders ≡ board.detectors → ((k : ℕ) (p : Feeding) → slice_get feeders k ≡ Some p → (p.table ≡ board.table) × (p.place ≡ k)) →
+    tick.table ≡ board.table → AreAll board feeders tick
+in_order board feeders tick count each of_tick = record {
+  of_board = λ k p got. (each k p got).0;
+  each = λ d low.
+      let first : Feeding = record { table = board.table; place = d; fronts = 0; rears = 0 } in
+      let got = get_of feeders d first (omega (arith, low, count)) in
+      (d, slice_index_or feeders d first, got, (each d (slice_index_or feeders d first) got).1);
+  once = λ k l p q at at' same. sym (each k p at).1 ∙ same ∙ (each l q at').1;
+  of_tick = of_tick;
+}
+
 -- the passes are still the board's, in order
 pub all_passes : (board : Boarded) (fs : List Counts) (old new : List Feeding) (tick tick' : Ticking) → IsOpening 64 board old tick →
     ((k : ℕ) (d : Feeding) → k < 64 → Played fs (slice_index_or old k d) (slice_index_or new k d)) → length new ≡ 64 → tick'.table ≡ tick.table → AreAll board new tick'
-all_passes board fs old new tick tick' opening played count same = record {
-  count = count ∙ sym opening.detectors_are;
-  each = λ k p got. each k p got (slice_get_within new k p got);
-  of_tick = same ∙ opening.of_tick;
-}
+all_passes board fs old new tick tick' opening played count same =
+    in_order board new tick' (count ∙ sym opening.detectors_are) (λ k p got. each k p got (slice_get_within new k p got)) (same ∙ opening.of_tick)
   where
     each : (k : ℕ) (p : Feeding) → slice_get new k ≡ Some p → k < length new → (p.table ≡ board.table) × (p.place ≡ k)
     each k p got inside =
@@ -105,12 +116,11 @@ all_passes board fs old new tick tick' opening played count same = record {
 
 -- the passes of a board as it is made are all of it
 pub opening_all : (board : Boarded) (feeders : List Feeding) (tick : Ticking) → IsOpening 64 board feeders tick → AreAll board feeders tick
-opening_all board feeders tick opening = record {
-  count = opening.count ∙ sym opening.detectors_are;
-  each = λ k p got.
-      let first : Feeding = record { table = board.table; place = k; fronts = 0; rears = 0 } in
-      let low : k < 64 = (let inside = slice_get_within feeders k p got in omega (arith, inside, opening.count)) in
-      let here : p ≡ first = sym (index_of feeders k p first got) ∙ index_of feeders k first first (opening.each k low) in
-      (ap (λ (q : Feeding). q.table) here, ap (λ (q : Feeding). q.place) here);
-  of_tick = opening.of_tick;
-}
+opening_all board feeders tick opening = in_order board feeders tick (opening.count ∙ sym opening.detectors_are) each opening.of_tick
+  where
+    each : (k : ℕ) (p : Feeding) → slice_get feeders k ≡ Some p → (p.table ≡ board.table) × (p.place ≡ k)
+    each k p got =
+        let first : Feeding = record { table = board.table; place = k; fronts = 0; rears = 0 } in
+        let low : k < 64 = (let inside = slice_get_within feeders k p got in omega (arith, inside, opening.count)) in
+        let here : p ≡ first = sym (index_of feeders k p first got) ∙ index_of feeders k first first (opening.each k low) in
+        (ap (λ (q : Feeding). q.table) here, ap (λ (q : Feeding). q.place) here)

@@ -5,11 +5,11 @@ use Rattle.std.specs.Io.KnownBytes.{append_known}
 use Rattle.sig_io.specs.Outside.{Contents, Rose}
 use Rattle.junction_run.specs.declared.status.Status.{Status}
 use Rattle.junction_run.specs.declared.status.Status.TheVariants.{Words, ReadFault, WriteFault}
-use Rattle.junction_run.specs.Answers.{Seen, WordsAnswer}
+use Rattle.junction_run.specs.Answers.{Seen, WordsAnswer, may_write}
 use Rattle.junction_run.specs.Guarded.{IsGuardedLog}
 use Rattle.junction_run.specs.Notes.{IsNote}
 use Rattle.junction_live.specs.Form.{LiveWords, live_form, files_of}
-use Rattle.junction_live.specs.Answer.{Meets, NoteMeets, may_write}
+use Rattle.junction_live.specs.Answer.{Meets, NoteMeets}
 
 -- The answer to the form of a live run.
 pub record LiveAnswer (form : LiveWords) (files : Seen Contents) (out notes : Seen (List ℕ)) (status : Status) : Type 0 where
@@ -19,12 +19,13 @@ pub record LiveAnswer (form : LiveWords) (files : Seen Contents) (out notes : Se
   pub read_fault : status ≡ ReadFault → Rose files.before files.after
   pub write_fault : status ≡ WriteFault → Rose out.before out.after
   -- nothing is written but with Done, and before a fault of the sink
-  pub unwritten : may_write status ≡ false → out.new ≡ out.old
-  -- where the files tell what they hold, the status is theirs and out has gained its log, but for want of memory and faults
+  pub unwritten : may_write false status ≡ false → out.new ≡ out.old
+  -- where the files tell what they hold, the status is the answer's and out has gained its log, but for want of memory and
+  -- faults
   pub answer : ForSome files.old (λ file. Meets form file status out.old out.new)
   -- what was written keeps the guard's rules, whatever the files tell
   pub safe : IsGuardedLog out.old out.new
-  -- notes has taken the status's note, unless it failed; where the files tell what they hold, it is theirs
+  -- notes has taken the status's note, unless it failed; where the files tell what they hold, it is the answer's
   pub note : (Rose notes.before notes.after → ⊥) →
       (note : List ℕ) × (notes.new ≡ append_known notes.old note) × IsNote (files_of form) status note
       × ForSome files.old (λ file. NoteMeets form file status note)

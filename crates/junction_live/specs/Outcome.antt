@@ -1,5 +1,5 @@
 -- What a status says of the seconds that were made and of what was written.
-use Rattle.std.specs.Prelude.{◌≡◌, ℕ, ◌+◌, ◌≤◌, Bool, true, false, List, [], length, Option}
+use Rattle.std.specs.Prelude.{◌≡◌, ℕ, ◌+◌, ◌≤◌, Bool, true, false, List, [], length, Option, Result, Ok, Err}
 use Rattle.std.specs.Io.KnownBytes.{append_known}
 use Rattle.sig_io.specs.Draft.{IsCut, Held, IsDraft}
 use Rattle.sig_types.specs.Counts.{Counts}
@@ -65,21 +65,15 @@ SecondsPut seconds start now tick first later old new =
     IsDraft begin new later (log_of (logic_of start) (site_of start) past made)))
 
 -- a whole live run over these frames: each of their events is in one of the seconds, and none is ahead of its time
-abbrev pub Live : Status → List Counts → Logic → Site → Past → Option (List ℕ) → Option (List ℕ) → Type 0
-Live Done frames logic site past old new =
+abbrev pub Live : {A E : Type 0} → Result A E → List Counts → Logic → Site → Past → Option (List ℕ) → Option (List ℕ) → Type 0
+Live (Ok x) frames logic site past old new =
     (made : List Counts) × (length made ≡ length frames + 1) × ArePrintable made
     × (new ≡ append_known old (log_of logic site past made)) × NeverAhead made × SameSums frames made
-Live WriteFault frames logic site past old new =
+Live (Err fault) frames logic site past old new =
     (made : List Counts) × (length made ≤ length frames + 1) × ((n : ℕ) × IsCut old new n (log_of logic site past made))
     × NeverAhead made × NoMore frames made
-Live Memory frames logic site past old new = ⊥
-Live Words frames logic site past old new = ⊥
-Live ReadFault frames logic site past old new = ⊥
-Live RefusedFile frames logic site past old new = ⊥
-Live RefusedLine frames logic site past old new = ⊥
-Live TooLong frames logic site past old new = ⊥
 
 -- a live run of a controller that had made no second
-abbrev pub IsLiveLog : Status → List Counts → Controller → Option (List ℕ) → Option (List ℕ) → Type 0
-IsLiveLog status frames start old new =
-    (past : Past) → StandsFor start past → past.frames ≡ [] → Live status frames (logic_of start) (site_of start) past old new
+abbrev pub IsLiveLog : {A E : Type 0} → Result A E → List Counts → Controller → Option (List ℕ) → Option (List ℕ) → Type 0
+IsLiveLog r frames start old new =
+    (past : Past) → StandsFor start past → past.frames ≡ [] → Live r frames (logic_of start) (site_of start) past old new

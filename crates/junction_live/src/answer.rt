@@ -5,23 +5,24 @@ ghost use Rattle.sig_io.specs.Outside.{Rose};
 ghost use Rattle.sig_types.specs.Counts.{AreFrames};
 ghost use Rattle.pua_model.specs.Plan.{groups_in};
 ghost use Rattle.vap_ast.specs.Syntax.{Program};
+ghost use Rattle.det_stream.specs.Stream.{stream_of};
+ghost use Rattle.junction_run.specs.Answers.{may_write, seen};
 ghost use Rattle.junction_run.specs.Guarded.{IsGuardedLog};
 ghost use Rattle.junction_run.specs.Loading.{program_at};
 ghost use Rattle.junction_run.specs.Sites.{Runs, site_in};
-ghost use Rattle.junction_run.specs.Stop.{status_of as status_of_stop, IsAt, StopsAt, StopsWith};
+ghost use Rattle.junction_run.specs.Stop.{status_of as status_of_stop, StopsAt, StopsWith};
 ghost use Rattle.junction_run.specs.declared.status.Status.TheVariants as status;
-ghost use Rattle.junction_live.specs.Answer.{may_write};
 ghost use Rattle.junction_live.specs.Answers.{LiveAnswer, LiveAnswers};
 ghost use Rattle.junction_live.specs.Ended.{IsTaken, IsPlayed};
 ghost use Rattle.junction_live.specs.FormWords.{form_in};
 
-use crate::closing::is_done;
 use crate::form::{LiveWords, live_form};
 use crate::log::write_live;
 use det_board::make_board;
 use det_stream::{Frames, StreamRefusal, read_all};
 use junction_run::{
-    Site, Status, Stop, load_site, make_controller, status_of, write_stop, write_words,
+    LoadStop, PlayStop, Site, Status, Stop, load_site, make_controller, status_of, write_stop,
+    write_words,
 };
 use sig_io::{Files, Gate, Sink};
 use std::alloc::Global;
@@ -35,16 +36,19 @@ fn take_frames<'a, F: Files>(
 ) -> Result<Frames, Stop<'a>>
     ensures frames { IfOk result (λ f. AreFrames f) }
     ensures taken { ForSome (F.told files.old) (λ file. IsTaken word.now (file word.now) result) }
-    ensures word { IfErr result (λ stop. IsAt word.now stop) }
+    ensures word { IfErr result (λ stop. StopsAt word.now stop) }
+    ensures no_write { StopsWith status_of_stop status.WriteFault result → ⊥ }
     ensures contents_stay { F.told files.new ≡ F.told files.old }
     ensures later { F.faults files.old ≤ F.faults files.new }
-    ensures cause { StopsWith status.ReadFault result → Rose (F.faults files.old) (F.faults files.new) }
+    ensures cause { StopsWith status_of_stop status.ReadFault result → Rose (F.faults files.old) (F.faults files.new) }
 {
     match read_all(alloc, files, word) {
         Ok(frames) => Ok(frames),
-        Err(StreamRefusal::Memory) => Err(Stop::Memory),
-        Err(StreamRefusal::Fault) => Err(Stop::ReadFault(word)),
-        Err(StreamRefusal::At { line, why }) => Err(Stop::RefusedLine { word, line, why }),
+        Err(StreamRefusal::Memory) => Err(Stop::Load(LoadStop::Memory)),
+        Err(StreamRefusal::Fault) => Err(Stop::Play(PlayStop::ReadFault(word))),
+        Err(StreamRefusal::At { line, why }) => {
+            Err(Stop::Play(PlayStop::RefusedLine { word, line, why }))
+        }
     }
 }
 
@@ -61,16 +65,16 @@ fn play_site<'a, R: Threads + Sync, F: Files, O: Sink + Send, G: Gate>(
     requires times { length site.times ≡ groups_in site.plan }
     requires intergreens { site.intergreens.count ≡ groups_in site.plan }
     ensures played { (program : Program) → Runs site.code program → ForSome (F.told files.old) (λ file.
-        IsPlayed detectors.now (file detectors.now) (program_at (site_in site) program)
+        IsPlayed detectors.now (stream_of (file detectors.now)) (program_at (site_in site) program)
         result (O.taken out.old) (O.taken out.new)) }
-    ensures unwritten { IfErr result (λ stop. may_write (status_of_stop stop) ≡ false → O.taken out.new ≡ O.taken out.old) }
+    ensures unwritten { IfErr result (λ stop. may_write false (status_of_stop stop) ≡ false → O.taken out.new ≡ O.taken out.old) }
     ensures guarded { IsGuardedLog (O.taken out.old) (O.taken out.new) }
     ensures word { IfErr result (λ stop. StopsAt detectors.now stop) }
     ensures contents_stay { F.told files.new ≡ F.told files.old }
     ensures later_files { F.faults files.old ≤ F.faults files.new }
     ensures later_out { O.faults out.old ≤ O.faults out.new }
-    ensures read { StopsWith status.ReadFault result → Rose (F.faults files.old) (F.faults files.new) }
-    ensures write { StopsWith status.WriteFault result → Rose (O.faults out.old) (O.faults out.new) }
+    ensures read { StopsWith status_of_stop status.ReadFault result → Rose (F.faults files.old) (F.faults files.new) }
+    ensures write { StopsWith status_of_stop status.WriteFault result → Rose (O.faults out.old) (O.faults out.new) }
 {
     let frames = match take_frames(alloc, detectors, files) {
         Ok(frames) => frames,
@@ -78,17 +82,15 @@ fn play_site<'a, R: Threads + Sync, F: Files, O: Sink + Send, G: Gate>(
     };
     let controller = match make_controller(alloc, site) {
         Ok(controller) => controller,
-        Err(_memory) => return Err(Stop::Memory),
+        Err(_memory) => return Err(Stop::Load(LoadStop::Memory)),
     };
     let (board, feeders, tick) = match make_board(alloc, 64) {
         Ok(made) => made,
-        Err(_memory) => return Err(Stop::Memory),
+        Err(_memory) => return Err(Stop::Load(LoadStop::Memory)),
     };
-    let status = write_live(rt, controller, &frames, board, feeders, tick, out, gate);
-    if is_done(status) {
-        Ok(())
-    } else {
-        Err(Stop::WriteFault)
+    match write_live(rt, controller, &frames, board, feeders, tick, out, gate) {
+        Ok(()) => Ok(()),
+        Err(_fault) => Err(Stop::Play(PlayStop::WriteFault)),
     }
 }
 
@@ -104,9 +106,9 @@ fn answer_form<R: Threads + Sync, F: Files, O: Sink + Send, N: Sink, G: Gate>(
 ) -> Status
     requires { length form.now.names.now ≡ 4 }
     ensures answer { LiveAnswer (form_in form.now)
-        (record { old = F.told files.old; new = F.told files.new; before = F.faults files.old; after = F.faults files.new })
-        (record { old = O.taken out.old; new = O.taken out.new; before = O.faults out.old; after = O.faults out.new })
-        (record { old = N.taken notes.old; new = N.taken notes.new; before = N.faults notes.old; after = N.faults notes.new })
+        (seen (F.told files.old) (F.told files.new) (F.faults files.old) (F.faults files.new))
+        (seen (O.taken out.old) (O.taken out.new) (O.faults out.old) (O.faults out.new))
+        (seen (N.taken notes.old) (N.taken notes.new) (N.faults notes.old) (N.faults notes.new))
         result }
     ensures no_words { result ≡ Status.Words → ⊥ }
     ensures contents_stay { F.told files.new ≡ F.told files.old }
@@ -143,9 +145,9 @@ pub fn live<R: Threads + Sync, F: Files, O: Sink + Send, N: Sink, G: Gate>(
     gate: &G,
 ) -> Status
     ensures answers { LiveAnswers (map string_bytes words.now)
-        (record { old = F.told files.old; new = F.told files.new; before = F.faults files.old; after = F.faults files.new })
-        (record { old = O.taken out.old; new = O.taken out.new; before = O.faults out.old; after = O.faults out.new })
-        (record { old = N.taken notes.old; new = N.taken notes.new; before = N.faults notes.old; after = N.faults notes.new })
+        (seen (F.told files.old) (F.told files.new) (F.faults files.old) (F.faults files.new))
+        (seen (O.taken out.old) (O.taken out.new) (O.faults out.old) (O.faults out.new))
+        (seen (N.taken notes.old) (N.taken notes.new) (N.faults notes.old) (N.faults notes.new))
         result }
     ensures unread { result ≡ Status.Words → files.new ≡ files.old }
     ensures unwritten { result ≡ Status.Words → out.new ≡ out.old }

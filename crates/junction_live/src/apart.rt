@@ -24,7 +24,7 @@ struct ControllerSide {
 }
 
 /// Plays as `play` does, with the controller and the tick's pass in cache lines of their own.
-pub fn play_apart<R: Threads + Sync, O: Sink + Send, G: Gate>(
+pub(crate) fn play_apart<R: Threads + Sync, O: Sink + Send, G: Gate>(
     rt: &R,
     controller: Controller,
     frames: &Frames,

@@ -1,6 +1,6 @@
 // All seconds of a live run, the closing one with them, over frames that were read.
 ghost use Rattle.std.specs.Prelude.{◌≡◌, ◌≤◌, []};
-ghost use Rattle.sig_io.specs.Outside.{Rose};
+ghost use Rattle.sig_io.specs.Outside.{HasCause};
 ghost use Rattle.sig_types.specs.Counts.{AreFrames};
 ghost use Rattle.controller.specs.Past.{Past};
 ghost use Rattle.det_board.specs.Passes.{IsOpening};
@@ -11,12 +11,12 @@ use controller::Controller;
 use det_board::{Board, FeederPass, TickPass, end_board};
 use det_stream::Frames;
 use junction_run::Status;
-use sig_io::{Gate, Sink};
+use sig_io::{Failed, Gate, Sink};
 use signal_log::write_second;
 use std::thread::Threads;
 
-/// Whether all seconds were made, and their records written.
-pub(crate) fn is_done(status: Status) -> bool
+// Whether all seconds were made, and their records written.
+fn is_done(status: Status) -> bool
     ensures { result ≡ is_done_spec status }
 {
     match status {
@@ -32,7 +32,7 @@ pub(crate) fn is_done(status: Status) -> bool
 }
 
 /// Plays the frames beside the controller, and makes one second more, of all events that no take has read.
-pub fn play_out<R: Threads + Sync, O: Sink + Send, G: Gate>(
+pub(crate) fn play_out<R: Threads + Sync, O: Sink + Send, G: Gate>(
     rt: &R,
     controller: Controller,
     frames: &Frames,
@@ -41,13 +41,12 @@ pub fn play_out<R: Threads + Sync, O: Sink + Send, G: Gate>(
     tick: TickPass,
     out: &mut O,
     gate: &G,
-) -> Status
+) -> Result<(), Failed>
     requires none_made { HasMadeNone controller }
     requires opening { IsOpening 64 board feeders.items tick }
     requires frames { AreFrames frames.now }
     ensures live { IsLiveLog result frames.now controller (O.taken out.old) (O.taken out.new) }
-    ensures later { O.faults out.old ≤ O.faults out.new }
-    ensures cause { result ≡ Status.WriteFault → Rose (O.faults out.old) (O.faults out.new) }
+    ensures cause { HasCause (O.faults out.old) (O.faults out.new) result }
 {
     let mut feeders = feeders;
     let (status, mut controller, tick) = play_apart(
@@ -62,11 +61,11 @@ pub fn play_out<R: Threads + Sync, O: Sink + Send, G: Gate>(
     );
     let closing = end_board(board, feeders, tick);
     if !is_done(status) {
-        return status;
+        return Err(Failed);
     }
     controller.second(&closing);
     match write_second(controller.last(), controller.plan(), out) {
-        Ok(()) => Status::Done,
-        Err(_) => Status::WriteFault,
+        Ok(()) => Ok(()),
+        Err(_fault) => Err(Failed),
     }
 }

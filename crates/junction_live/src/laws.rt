@@ -3,8 +3,7 @@ ghost use Rattle.junction_live.specs.Laws.{IsComplete};
 
 use junction_run::laws::answers_are_right;
 
-/// Where the files are accepted, each line of the detector file is a frame and neither count of faults rose, a live run
-/// answers Done or wants memory.
+/// Where neither count of faults rose, the status of a live run is that of what its files give, or memory was wanted.
 pub fn live_answers_are_complete()
     ensures { IsComplete }
 {

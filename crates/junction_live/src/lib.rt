@@ -16,7 +16,5 @@ mod log;
 mod seconds;
 
 pub use answer::live;
-pub use apart::play_apart;
 pub use beside::play;
-pub use closing::play_out;
 pub use form::begins_live;

@@ -1,41 +1,45 @@
-use Rattle.std.proofs.Common.{◌≡◌, ◌∙◌, ◌<◌, ◌++◌, ◌∷◌, [], Result, Err, sym, ap, subst, refl, arith}
+use Rattle.std.proofs.Common.{◌≡◌, ◌∙◌, ◌<◌, ◌++◌, ◌∷◌, [], false, Result, Ok, Err, sym, ap, subst, refl, arith}
 use Rattle.std.specs.Io.KnownBytes.{append_known}
 use Rattle.sig_io.specs.Outside.{Rose}
+use Rattle.det_stream.specs.Stream.{stream_of}
 use Rattle.junction_run.specs.declared.stop.Stop.{Stop}
+use Rattle.junction_run.specs.Answers.{may_write}
 use Rattle.junction_run.specs.Form.{site_files}
 use Rattle.junction_run.specs.Guarded.{unwritten}
-use Rattle.junction_run.specs.Loading.{program_at}
+use Rattle.junction_run.specs.Loading.{program_at, ReachedInPlay}
 use Rattle.junction_run.specs.Notes.{IsNote, stop_note}
 use Rattle.junction_run.specs.Sites as sites
 use Rattle.junction_run.specs.Stop.{status_of}
 use Rattle.junction_run.proofs.Ends.{append_known-nil, note_is, no_words, stops_playing}
-use Rattle.junction_live.specs.Answer.{Meets, NoteMeets, may_write}
+use Rattle.junction_live.specs.Answer.{Loads, Reached, Meets, NoteMeets}
 use Rattle.junction_live.specs.Form.{LiveWords, files_of}
 use Rattle.junction_live.specs.FormWords.{form_in}
-use Rattle.junction_live.proofs.Answering.{site_meets, site_note_meets, note_more, played_meets}
+use Rattle.junction_live.proofs.Answering.{site_meets, site_note_meets, site_ends, note_more, ended}
 use Rattle.junction_live.proofs.answer.answer_form.Goals as goal
 
 pub returns-in-Err-clause-answer : goal.returns-in-Err-clause-answer
 returns-in-Err-clause-answer g c =
     let form : LiveWords = form_in c.args.form.now in
     let e = c.in-Err.ensures in
+    let s = c.in-Err.status in
     record {
-      not_words = e.no_words;
+      not_words = λ at. (site_ends s e.statuses).0 at;
       read_fault = e.read_fault;
-      write_fault = λ at. absurd (e.no_write at);
+      write_fault = λ at. absurd ((site_ends s e.statuses).1 at);
       unwritten = λ none. refl;
-      answer = λ file told. site_meets form file c.in-Err.status _ (e.loaded file told);
+      answer = λ file told. site_meets form file s _ (e.loaded file told);
       safe = unwritten refl;
       note = λ clean.
           let n = e.note clean in
-          (n.0, n.1, note_more (site_files form.site ++ form.program ∷ []) (form.detectors ∷ []) c.in-Err.status n.0 n.2, λ file told. site_note_meets form file c.in-Err.status n.0 (n.3 file told));
+          (n.0, n.1, note_more (site_files form.site ++ form.program ∷ []) (form.detectors ∷ []) s n.0 n.2, λ file told. site_note_meets form file s n.0 (n.3 file told));
     }
 
 pub returns-in-Err-clause-no_words : goal.returns-in-Err-clause-no_words
-returns-in-Err-clause-no_words g c = c.in-Err.ensures.no_words
+returns-in-Err-clause-no_words g c = (site_ends c.in-Err.status c.in-Err.ensures.statuses).0
 
 pub returns-in-Ok-play_site-clause-answer : goal.returns-in-Ok-play_site-clause-answer
 returns-in-Ok-play_site-clause-answer g c =
+    let form : LiveWords = form_in c.args.form.now in
     let loaded = c.in-Ok.ensures.loaded in
     record {
       not_words = λ at. cc;
@@ -44,8 +48,10 @@ returns-in-Ok-play_site-clause-answer g c =
       unwritten = λ none. absurd cc;
       answer = λ file told.
           let l = loaded file told in
-          let is = c.in-Ok-play_site.ensures.played l.0 l.2 file (c.load_site.ensures.contents_stay ∙ told) in
-          (program_at (sites.site_in c.in-Ok.site) l.0, l.1, is.0, is.1);
+          let playing = program_at (sites.site_in c.in-Ok.site) l.0 in
+          let done : Result (Unit {0}) Stop = Ok (tt {0}) in
+          ended (Loads form file) (Reached form file) form.detectors (stream_of (file form.detectors)) playing done (g.O.Sink.taken c.args.out.now) (g.O.Sink.taken c.play_site.new.out) l.1 (ReachedInPlay.at_detectors playing l.1)
+          (c.in-Ok-play_site.ensures.played l.0 l.2 file (c.load_site.ensures.contents_stay ∙ told));
       safe = c.play_site.ensures.guarded;
       note = λ clean. ([], ap (λ n. g.N.Sink.taken n) c.in-Ok.ensures.quiet ∙ sym (append_known-nil (g.N.Sink.taken c.args.notes.now)), refl, λ file told. tt);
     }
@@ -65,11 +71,13 @@ returns-in-Err-play_site-clause-answer g c =
       not_words = λ at. no_words stop (sym is ∙ at);
       read_fault = λ at. (let rose = e.read (sym is ∙ at) in omega (arith, rose, c.load_site.ensures.later));
       write_fault = λ at. e.write (sym is ∙ at);
-      unwritten = λ none. e.unwritten (sym (ap may_write is) ∙ none);
+      unwritten = λ none. e.unwritten (subst (λ s. may_write false s ≡ false) is none);
       answer = λ file told.
           let l = loaded file told in
+          let playing = program_at (sites.site_in c.in-Ok.site) l.0 in
           subst (λ s. Meets form file s (g.O.Sink.taken c.args.out.now) (g.O.Sink.taken c.play_site.new.out)) (sym is)
-          (played_meets (Unit {0}) form file (program_at (sites.site_in c.in-Ok.site) l.0) stop _ _ l.1 e.unwritten (e.played l.0 l.2 file (c.load_site.ensures.contents_stay ∙ told))).0;
+          (ended (Loads form file) (Reached form file) form.detectors (stream_of (file form.detectors)) playing named _ _ l.1 (ReachedInPlay.at_detectors playing l.1)
+          (e.played l.0 l.2 file (c.load_site.ensures.contents_stay ∙ told))).0;
       safe = c.play_site.ensures.guarded;
       note = λ clean. (
         stop_note stop,
@@ -77,7 +85,9 @@ returns-in-Err-play_site-clause-answer g c =
         subst (λ s. IsNote (files_of form) s (stop_note stop)) (sym is) (note_is (files_of form) stop (stops_playing (files_of form) form.detectors named (4, last, refl) e.word)),
         λ file told.
             let l = loaded file told in
+            let playing = program_at (sites.site_in c.in-Ok.site) l.0 in
             subst (λ s. NoteMeets form file s (stop_note stop)) (sym is)
-            (played_meets (Unit {0}) form file (program_at (sites.site_in c.in-Ok.site) l.0) stop _ _ l.1 e.unwritten (e.played l.0 l.2 file (c.load_site.ensures.contents_stay ∙ told))).1,
+            (ended (Loads form file) (Reached form file) form.detectors (stream_of (file form.detectors)) playing named (g.O.Sink.taken c.args.out.now) (g.O.Sink.taken c.play_site.new.out) l.1
+            (ReachedInPlay.at_detectors playing l.1) (e.played l.0 l.2 file (c.load_site.ensures.contents_stay ∙ told))).1,
       );
     }

@@ -3,7 +3,7 @@ use Rattle.sig_types.specs.Counts.{Takes}
 use Rattle.controller.specs.Controls.{site_of, logic_of}
 use Rattle.controller.specs.Second.{past_of}
 use Rattle.junction_live.specs.Outcome.{Written}
-use Rattle.junction_live.proofs.Ended.{cut_live, done_is}
+use Rattle.junction_live.proofs.Ended.{cut_is, cut_live, done_is}
 use Rattle.junction_live.proofs.ClosingSecond.{Ready, takes_close, same_sums, no_more, ahead_closed, closed_printable, all_passes}
 use Rattle.junction_live.proofs.Loads.{never_ahead}
 use Rattle.junction_live.proofs.Running.{Made, frames_are, written_more, cut_more}
@@ -37,7 +37,17 @@ returns-then-not-is_done-clause-live g c = λ past s none.
     let f = c.end_board-closing.result in
     let ready : Ready c.args.board c.args.frames.now c.args.feeders.items p.new.feeders.items c.args.tick p.result.2 m.0 f =
     record { opening = c.requires.opening; played = e.feeders; count = e.feeders_count; loaded = m.1; closes = c.end_board-closing.ensures } in
-    cut_live p.result.0 c.args.frames.now m.0 _ _ past _ _ (sym c.is_done.ensures ∙ c.if-not-is_done.true) (m.3 past s none).1 (never_ahead p.result.2 m.0 m.1) (no_more _ _ _ _ _ _ m.0 f ready)
+    cut_live (Unit {0}) {E = Unit {0}} p.result.0 (tt {0}) c.args.frames.now m.0 _ _ past _ _ (sym c.is_done.ensures ∙ c.if-not-is_done.true) (m.3 past s none).1 (never_ahead p.result.2 m.0 m.1) (no_more _ _ _ _ _ _ m.0 f ready)
+
+pub returns-then-not-is_done-clause-cause : goal.returns-then-not-is_done-clause-cause
+returns-then-not-is_done-clause-cause g c =
+    let p = c.play_apart-status in
+    let st = c.requires.none_made in
+    let m = p.ensures.made in
+    record {
+      later = p.ensures.later;
+      failed = p.ensures.cause (cut_is p.result.0 _ m.0 _ _ st.0 _ _ (sym c.is_done.ensures ∙ c.if-not-is_done.true) (m.3 st.0 st.1 st.2).1);
+    }
 
 pub returns-in-Ok-clause-live : goal.returns-in-Ok-clause-live
 returns-in-Ok-clause-live g c = λ past s none.
