@@ -7,3 +7,4 @@ pub mod Loads
 pub mod Printable
 pub mod Running
 pub mod Sums
+pub mod Showing

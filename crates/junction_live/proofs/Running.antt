@@ -59,7 +59,7 @@ cut_later start mid new n front piece whole so_far is cut =
           ∙ ap (λ bs. append_known start bs) (sym taken);
     }
 
-pub running_none : (tick : Ticking) (c : Controller) (out : Option (List ℕ)) (draft : Held) → ((w : ℕ) → slice_index_or tick.loads w [] ≡ []) →
+unfoldable pub running_none : (tick : Ticking) (c : Controller) (out : Option (List ℕ)) (draft : Held) → ((w : ℕ) → slice_index_or tick.loads w [] ≡ []) →
     Running 0 tick c c out out draft draft
 running_none tick c out draft unread = record {
   made = [];
@@ -86,7 +86,7 @@ pub record Made (now after : Controller) (f : Counts) : Type 0 where
   pub logic_is : logic_of after ≡ logic_of now
 
 -- the text that a second's record has
-text_is : (start now after : Controller) (f : Counts) (past : Past) (rec : Record) (names : List (List ℕ)) → Made now after f → site_of now ≡ site_of start → logic_of now ≡ logic_of start → StandsFor now past →
+pub text_is : (start now after : Controller) (f : Counts) (past : Past) (rec : Record) (names : List (List ℕ)) → Made now after f → site_of now ≡ site_of start → logic_of now ≡ logic_of start → StandsFor now past →
     rec ≡ last_record after → names ≡ (plan_of after).names → record_text names rec ≡ record_text (site_of start).plan.names (record_of (logic_of start) (site_of start) past f)
 text_is start now after f past rec names m site logic s is named =
     let names_are : names ≡ (site_of start).plan.names = named ∙ ap (λ p. p.names) (plan_is after) ∙ ap (λ (x : Site). x.plan.names) (m.site ∙ site) in
@@ -119,7 +119,7 @@ cut_more start now after past made f rec names old mid new n m site logic s is n
     )
 
 -- one second more
-pub running_more : (k : ℕ) (tick tick' : Ticking) (start now after : Controller) (old new new' : Option (List ℕ)) (first held later : Held) (f : Counts) (rec : Record) (names : List (List ℕ)) →
+unfoldable pub running_more : (k : ℕ) (tick tick' : Ticking) (start now after : Controller) (old new new' : Option (List ℕ)) (first held later : Held) (f : Counts) (rec : Record) (names : List (List ℕ)) →
     Running k tick start now old new first held → TickTakes 64 tick tick' f → Made now after f → rec ≡ last_record after → names ≡ (plan_of after).names →
     ((begin : Option (List ℕ)) (text : List ℕ) → IsDraft begin new held text → IsDraft begin new' later (text ++ record_text names rec)) →
     Running (k + 1) tick' start after old new' first later

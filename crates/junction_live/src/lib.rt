@@ -7,6 +7,7 @@
 mod answer;
 mod apart;
 mod beside;
+mod both;
 mod closing;
 mod feed;
 mod feeders;
@@ -14,7 +15,12 @@ mod form;
 pub mod laws;
 mod log;
 mod seconds;
+mod watch;
+mod watched;
+mod watched_play;
+mod watchers;
 
 pub use answer::live;
 pub use beside::play;
 pub use form::begins_live;
+pub use watched_play::play_watched;
