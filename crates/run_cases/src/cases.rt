@@ -28,6 +28,8 @@ pub const EXEC: &[&str] = &["exec", "c.code", "p.pua", "t.csv", "g.csv", "d.txt"
 /// A command with a program or a code as its first file, and what it must answer.
 #[derive(Clone, Copy)]
 pub struct Case<'a> {
+    /// What the case shows.
+    pub name: &'static str,
     /// The words of the command line.
     pub words: &'static [&'static str],
     /// The bytes of the file that the second word names: a program or a code.
@@ -52,6 +54,7 @@ pub struct Case<'a> {
 
 /// A run of no second, which is done.
 pub const DONE: Case<'static> = Case {
+    name: "no second",
     words: RUN,
     program: EMPTY,
     plan: DARK,
@@ -66,6 +69,7 @@ pub const DONE: Case<'static> = Case {
 
 /// A run over a file that is refused, so that nothing is written.
 pub const REFUSED: Case<'static> = Case {
+    name: "a refused file",
     status: Status::RefusedFile,
     records: None,
     ..DONE
@@ -73,6 +77,7 @@ pub const REFUSED: Case<'static> = Case {
 
 /// A program with a decimal number, before a detector file that is none.
 pub const DECIMAL_RUN: Case<'static> = Case {
+    name: "a decimal number",
     program: DECIMAL,
     detectors: b"x\n",
     note: b"junction: p.vap:2: Decimal\n",
@@ -81,6 +86,7 @@ pub const DECIMAL_RUN: Case<'static> = Case {
 
 /// Intergreens of one way alone.
 pub const ONE_WAY_RUN: Case<'static> = Case {
+    name: "intergreens of one way",
     intergreens: ONE_WAY,
     note: b"junction: g.csv:2: OneWay K1 K2\n",
     ..REFUSED
@@ -88,6 +94,7 @@ pub const ONE_WAY_RUN: Case<'static> = Case {
 
 /// A rear without its front after six seconds.
 pub const REARS_AHEAD_RUN: Case<'static> = Case {
+    name: "a rear ahead of its front",
     detectors: b"\n\n\n\n\n\n1:0:1\n",
     status: Status::RefusedLine,
     records: Some(
@@ -99,6 +106,7 @@ pub const REARS_AHEAD_RUN: Case<'static> = Case {
 
 /// A run whose log is cut where the output has no room.
 pub const CUT_RUN: Case<'static> = Case {
+    name: "an output without room",
     plan: TWO_STAGES,
     detectors: b"\n\n\n\n",
     room: 50,
@@ -110,6 +118,7 @@ pub const CUT_RUN: Case<'static> = Case {
 
 /// The junction of four arms, without a second.
 pub const FOUR_ARMS_RUN: Case<'static> = Case {
+    name: "four arms",
     program: FOUR_ARMS,
     plan: FOUR_ARMS_PLAN,
     times: FOUR_ARMS_TIMES,
@@ -119,6 +128,7 @@ pub const FOUR_ARMS_RUN: Case<'static> = Case {
 
 /// A jump into a branch.
 pub const JUMP_RUN: Case<'static> = Case {
+    name: "a jump into a branch",
     program: JUMP,
     plan: TWO_STAGES,
     detectors: b"\n\n\n\n\n\n\n\n\n\n\n\n\n\n\n\n\n\n\n\n",
@@ -130,11 +140,26 @@ pub const JUMP_RUN: Case<'static> = Case {
 
 /// A timer that two fronts start.
 pub const TIMER_RUN: Case<'static> = Case {
+    name: "a timer",
     program: TIMER,
     plan: TWO_STAGES,
     detectors: b"1:2:1\n1:0:1\n\n\n\n",
     records: Some(
         b"1|S1|RR|1:2:1|K1:Intergreen:K2|-\n2|S1|RR|1:0:1|K1:Intergreen:K2|-\n3|S1|UR|-|-|-\n4|S1|GR|-|2-1:WrongStage|-\n5|S1|GR|-|-|-\n",
+    ),
+    ..DONE
+};
+
+const CYCLE: &[u8] =
+    b"PROGRAM y;\nIF Tc = 0 THEN Set_cycle(3); END;\nIF T = 3 THEN Interstage(1, 1); END;\nPROG_ENDE: .\n";
+
+/// A cycle of three seconds, with a command in its last one.
+pub const CYCLE_RUN: Case<'static> = Case {
+    name: "a cycle of three seconds",
+    program: CYCLE,
+    detectors: b"\n\n\n\n\n\n\n",
+    records: Some(
+        b"1|S1|RR|-|-|-\n2|S1|RR|-|-|-\n3|S1|RR|-|-|-\n4|S1|RR|-|1-1:NoInterstage|-\n5|S1|RR|-|-|-\n6|S1|RR|-|-|-\n7|S1|RR|-|1-1:NoInterstage|-\n",
     ),
     ..DONE
 };
@@ -226,6 +251,19 @@ pub fn is_log_front(bytes: &[u8], records: Option<&[u8]>) -> bool
 pub fn fails_with(alloc: Global, case: &Case<'_>, note: &[u8]) -> Result<bool, Fail> {
     let (status, out, notes) = run_over(alloc, case)?;
     Ok(status != case.status || !is_log(out.bytes(), case.records) || notes.bytes() != note)
+}
+
+/// The detector line of a second in the traffic of the four arms, without its line feed: a front and a rear of each detector d
+/// of 1 to 12 for which d + 5 divides the second's number and 7 d.
+pub fn traffic_line(alloc: Global, second: u32) -> Result<String, Fail> {
+    let mut line = String::new(alloc);
+    for detector in 1..13u32 {
+        if (second % (detector + 5) + 7 * detector) % (detector + 5) == 0 {
+            let blank = if line.is_empty() { "" } else { " " };
+            write!(line, "{blank}{detector}:1:1")?;
+        }
+    }
+    Ok(line)
 }
 
 /// Whether a case answers otherwise than it must.

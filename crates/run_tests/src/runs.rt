@@ -1,8 +1,9 @@
 // Worked runs, byte for byte.
 use junction_run::Status;
 use run_cases::cases::{
-    CUT_RUN, Case, DECIMAL_RUN, DONE, FOUR_ARMS_RUN, JUMP_RUN, ONE_WAY_RUN, REARS_AHEAD_RUN,
-    REFUSED, RUN, TIMER_RUN, answer, fails, fails_with, files, run_over,
+    CUT_RUN, CYCLE_RUN, Case, DECIMAL_RUN, DONE, FOUR_ARMS_RUN, JUMP_RUN, ONE_WAY_RUN,
+    REARS_AHEAD_RUN, REFUSED, RUN, TIMER_RUN, answer, fails, fails_with, files, run_over,
+    traffic_line,
 };
 use run_cases::watched::WatchedFiles;
 use sig_io::{MemFiles, MemSink};
@@ -21,6 +22,7 @@ use test_texts::sites::{
 const SIGNALS: [Case<'static>; 8] = [
     DONE,
     Case {
+        name: "a start that waits for its intergreen",
         plan: TWO_STAGES,
         detectors: b"\n\n\n\n",
         records: Some(
@@ -29,6 +31,7 @@ const SIGNALS: [Case<'static>; 8] = [
         ..DONE
     },
     Case {
+        name: "an end that waits for its minimum green",
         program: ENDS_EARLY,
         plan: TWO_STAGES,
         detectors: b"\n\n\n\n\n\n\n\n\n\n\n\n\n\n\n\n\n",
@@ -38,6 +41,7 @@ const SIGNALS: [Case<'static>; 8] = [
         ..DONE
     },
     Case {
+        name: "two groups in conflict",
         program: BOTH_GREEN,
         detectors: b"\n\n\n\n\n\n",
         records: Some(
@@ -46,6 +50,7 @@ const SIGNALS: [Case<'static>; 8] = [
         ..DONE
     },
     Case {
+        name: "an end before a start",
         program: TURNS,
         times: NO_WAIT_TIMES,
         intergreens: NO_WAIT_INTERGREENS,
@@ -55,30 +60,38 @@ const SIGNALS: [Case<'static>; 8] = [
     },
     JUMP_RUN,
     TIMER_RUN,
-    Case { plan: ROWS, ..DONE },
+    Case {
+        name: "all forms of rows",
+        plan: ROWS,
+        ..DONE
+    },
 ];
 
 // How the passes of the program end.
 const PASSES: [Case<'static>; 6] = [
     Case {
+        name: "a pass without an end",
         program: ENDLESS,
         detectors: b"\n\n",
         records: Some(b"1|S1|RR|-|-|Budget@3\n2|S1|RR|-|-|Budget@3\n"),
         ..DONE
     },
     Case {
+        name: "all units of a pass",
         program: ALL_UNITS,
         detectors: b"\n",
         records: Some(b"1|S1|RR|-|-|-\n"),
         ..DONE
     },
     Case {
+        name: "one unit more",
         program: ONE_UNIT_MORE,
         detectors: b"\n",
         records: Some(b"1|S1|RR|-|-|Budget@6\n"),
         ..DONE
     },
     Case {
+        name: "the faults",
         program: FAULTS,
         detectors: b"1:1:1\n2:1:1\n3:1:1\n4:1:1\n\n\n",
         records: Some(
@@ -87,15 +100,72 @@ const PASSES: [Case<'static>; 6] = [
         ..DONE
     },
     Case {
+        name: "both sides of AND",
         program: BOTH_SIDES,
         detectors: b"\n",
         records: Some(b"1|S1|RR|-|-|ZeroDivisor@2\n"),
         ..DONE
     },
     Case {
+        name: "calls without an end",
         program: CALLS,
         detectors: b"\n",
         records: Some(b"1|S1|RR|-|-|Budget@5\n"),
+        ..DONE
+    },
+];
+
+const RED_TIMES: &[u8] = b"group,min_green,red_amber,amber,min_red\nK1,1,0,0,4\nK2,1,0,0,1\n";
+
+const RED_PROGRAM: &[u8] =
+    b"PROGRAM m;\nSg_green(1);\nn := n + 1;\nIF n = 5 THEN Sg_red(1); END;\nPROG_ENDE: .\n";
+
+// Minimum reds.
+const REDS: [Case<'static>; 3] = [
+    Case {
+        name: "a second start that waits for its minimum red",
+        program: RED_PROGRAM,
+        times: RED_TIMES,
+        intergreens: b"from,to,seconds\n",
+        detectors: b"\n\n\n\n\n\n\n\n\n",
+        records: Some(
+            b"1|S1|RR|-|K1:MinRed|-\n2|S1|RR|-|K1:MinRed|-\n3|S1|RR|-|K1:MinRed|-\n4|S1|GR|-|-|-\n5|S1|RR|-|-|-\n6|S1|RR|-|K1:MinRed|-\n7|S1|RR|-|K1:MinRed|-\n8|S1|RR|-|K1:MinRed|-\n9|S1|GR|-|-|-\n",
+        ),
+        ..DONE
+    },
+    Case {
+        name: "a minimum red named before an intergreen",
+        plan: TWO_STAGES,
+        times: b"group,min_green,red_amber,amber,min_red\nK1,10,1,3,4\nK2,8,1,3,1\n",
+        detectors: b"\n\n\n\n\n",
+        records: Some(
+            b"1|S1|RR|-|K1:MinRed|-\n2|S1|RR|-|K1:MinRed|-\n3|S1|RR|-|K1:MinRed|-\n4|S1|UR|-|-|-\n5|S1|GR|-|-|-\n",
+        ),
+        ..DONE
+    },
+    Case {
+        name: "a row without its minimum red",
+        times: b"group,min_green,red_amber,amber,min_red\nK1,10,1,3\nK2,8,1,3,1\n",
+        note: b"junction: t.csv:2: Fields\n",
+        ..REFUSED
+    },
+];
+
+// The cycle's second and length.
+const CYCLES: [Case<'static>; 3] = [
+    CYCLE_RUN,
+    Case {
+        name: "a variable of the name t",
+        program: b"PROGRAM y;\nT := T + 1;\nIF T = 2 THEN Interstage(1, 1); END;\nPROG_ENDE: .\n",
+        detectors: b"\n\n\n",
+        records: Some(b"1|S1|RR|-|-|-\n2|S1|RR|-|1-1:NoInterstage|-\n3|S1|RR|-|-|-\n"),
+        ..DONE
+    },
+    Case {
+        name: "a cycle that is too long",
+        program: b"PROGRAM y;\nSet_cycle(10000);\nPROG_ENDE: .\n",
+        detectors: b"\n",
+        records: Some(b"1|S1|RR|-|-|Number@2\n"),
         ..DONE
     },
 ];
@@ -114,6 +184,7 @@ const STOPPED: [Case<'static>; 4] = [
 // Of several wrong files the first one that is read is told.
 const ORDER: [Case<'static>; 4] = [
     Case {
+        name: "the plan before all others",
         program: DECIMAL,
         plan: WRONG_ROWS,
         times: ONE_WAY,
@@ -122,6 +193,7 @@ const ORDER: [Case<'static>; 4] = [
         ..REFUSED
     },
     Case {
+        name: "the times before the intergreens",
         program: DECIMAL,
         times: b"group,min_green,red_amber,amber\nK1,10,1,3\n",
         intergreens: ONE_WAY,
@@ -129,17 +201,18 @@ const ORDER: [Case<'static>; 4] = [
         ..REFUSED
     },
     Case {
+        name: "the intergreens before the program",
         program: DECIMAL,
         ..ONE_WAY_RUN
     },
     DECIMAL_RUN,
 ];
 
-// The first case that answers otherwise than it must.
-fn first_failing(alloc: Global, cases: &[Case<'_>]) -> Result<Option<usize>, Fail> {
-    for (i, case) in cases.iter().enumerate() {
+// The name of the first case that answers otherwise than it must.
+fn first_failing(alloc: Global, cases: &[Case<'_>]) -> Result<Option<&'static str>, Fail> {
+    for case in cases {
         if fails(alloc, case)? {
-            return Ok(Some(i));
+            return Ok(Some(case.name));
         }
     }
     Ok(None)
@@ -154,6 +227,18 @@ fn signals_are_logged(rt: HostRuntime) -> Result<(), Fail> {
 #[test]
 fn ends_of_passes_are_logged(rt: HostRuntime) -> Result<(), Fail> {
     assert_eq!(rt; first_failing(rt.alloc(), &PASSES)?, None);
+    Ok(())
+}
+
+#[test]
+fn minimum_reds_are_kept(rt: HostRuntime) -> Result<(), Fail> {
+    assert_eq!(rt; first_failing(rt.alloc(), &REDS)?, None);
+    Ok(())
+}
+
+#[test]
+fn cycles_are_counted(rt: HostRuntime) -> Result<(), Fail> {
+    assert_eq!(rt; first_failing(rt.alloc(), &CYCLES)?, None);
     Ok(())
 }
 
@@ -255,8 +340,13 @@ fn arms_log(alloc: Global) -> Result<MemSink, Fail> {
         room: 200000,
         ..FOUR_ARMS_RUN
     };
-    let (status, out, _notes) = run_over(alloc, &case)?;
-    if status != Status::Done {
+    log_of_hour(alloc, &case)
+}
+
+// The log of a case that is done without a note.
+fn log_of_hour(alloc: Global, case: &Case<'_>) -> Result<MemSink, Fail> {
+    let (status, out, notes) = run_over(alloc, case)?;
+    if status != Status::Done || !notes.bytes().is_empty() {
         return Err(Fail::new("not done"));
     }
     Ok(out)
@@ -279,14 +369,55 @@ fn four_arms_run_an_hour(rt: HostRuntime) -> Result<(), Fail> {
     Ok(())
 }
 
-// The bytes of the header and of a record of 13 bytes and its number's digits for each of the seconds from 1 to 604800.
-const LOG_OF_MOST: usize = 15
-    + 604800 * 13
-    + (9 + 2 * 90 + 3 * 900 + 4 * 9000 + 5 * 90000 + 6 * 504801);
+// Whether a record is that of this second with these counts, and its pass ended without a fault.
+fn is_record(alloc: Global, record: &[u8], second: u32, counts: &str) -> Result<bool, Fail> {
+    let number = format!(in alloc; "{second}")?;
+    let counts = if counts.is_empty() { "-" } else { counts };
+    let mut fields = record.split(|byte| *byte == b'|');
+    let told = fields.next();
+    let _stage = fields.next();
+    let _picture = fields.next();
+    let counted = fields.next();
+    let _refused = fields.next();
+    let fault = fields.next();
+    Ok(
+        told == Some(number.as_bytes())
+            && counted == Some(counts.as_bytes())
+            && fault == Some(b"-".as_slice())
+            && fields.next().is_none(),
+    )
+}
 
 #[test]
-fn the_longest_run_ends(rt: HostRuntime) -> Result<(), Fail> {
+fn four_arms_take_an_hour_of_traffic(rt: HostRuntime) -> Result<(), Fail> {
     let alloc = rt.alloc();
+    let mut traffic = Vec::new(alloc);
+    for second in 1..3601 {
+        traffic.extend_from_slice(traffic_line(alloc, second)?.as_bytes())?;
+        traffic.push(b'\n')?;
+    }
+    let case = Case {
+        detectors: traffic.as_slice(),
+        room: 400000,
+        ..FOUR_ARMS_RUN
+    };
+    let out = log_of_hour(alloc, &case)?;
+    let mut records = out.bytes().split(|byte| *byte == b'\n');
+    assert!(rt; records.next() == Some(b"VAPLOG 1 K1 K2 K3 K4 K5 K6 K7 K8".as_slice()));
+    for second in 1..3601 {
+        let line = traffic_line(alloc, second)?;
+        let record = records.next().unwrap_or_default();
+        assert!(rt;
+            is_record(alloc, record, second, line.as_str())?,
+            "second {second}"
+        );
+    }
+    assert!(rt; records.next() == Some(b"".as_slice()) && records.next().is_none());
+    Ok(())
+}
+
+// The log of a run over more seconds than a detector file may have.
+fn longest_log(alloc: Global) -> Result<MemSink, Fail> {
     let seconds = vec![in alloc; b'\n'; 604801]?;
     let case = Case {
         detectors: seconds.as_slice(),
@@ -294,12 +425,27 @@ fn the_longest_run_ends(rt: HostRuntime) -> Result<(), Fail> {
         ..DONE
     };
     let (status, out, notes) = run_over(alloc, &case)?;
-    assert_eq!(rt; status, Status::RefusedLine);
-    assert_eq!(rt;
-        notes.bytes(),
-        b"junction: d.txt:604801: TooManySeconds\n".as_slice()
-    );
-    assert_eq!(rt; out.bytes().len(), LOG_OF_MOST);
+    let note = b"junction: d.txt:604801: TooManySeconds\n".as_slice();
+    if status != Status::RefusedLine || notes.bytes() != note {
+        return Err(Fail::new("not refused"));
+    }
+    Ok(out)
+}
+
+#[test]
+fn the_longest_run_ends(rt: HostRuntime) -> Result<(), Fail> {
+    let alloc = rt.alloc();
+    let out = longest_log(alloc)?;
+    let mut rest = strip(b"VAPLOG 1 K1 K2\n", out.bytes());
+    for second in 1..604801 {
+        let record = format!(in alloc; "{second}|S1|RR|-|-|-\n")?;
+        rest = match rest {
+            Some(rest) => strip(record.as_bytes(), rest),
+            None => None,
+        };
+        assert!(rt; rest.is_some(), "second {second}");
+    }
+    assert!(rt; rest == Some(b"".as_slice()));
     Ok(())
 }
 
@@ -308,6 +454,7 @@ fn asked(alloc: Global, case: &Case<'_>) -> Result<(Status, Vec<u8>), Fail> {
     let mut files = WatchedFiles {
         files: MemFiles::new(files(alloc, case)?, Vec::new(alloc), 65536),
         asked: Vec::new(alloc),
+        calls: 0,
     };
     let mut out = MemSink::new(alloc, 2000, Vec::new(alloc))?;
     let (status, _notes) = answer(alloc, case.words, &mut files, &mut out)?;

@@ -6,10 +6,10 @@ use std::test::Fail;
 
 // No interstage begins in nine seconds, so the seed doesn't matter.
 const NINE: &[u8] =
-    b"SAMPLE 7 9\nGREENS K1:1 K2:1 K3:0 K4:0 K5:0 K6:0 K7:0 K8:0\nREFUSED Sequence:0 MinGreen:0 Conflict:0 Intergreen:6 Running:0 WrongStage:0 NoInterstage:0\nFAULTS Budget:0 Overflow:0 ZeroDivisor:0 Index:0 Number:0\n";
+    b"SAMPLE 7 9\nGREENS K1:1 K2:1 K3:0 K4:0 K5:0 K6:0 K7:0 K8:0\nREFUSED Sequence:0 MinGreen:0 MinRed:0 Conflict:0 Intergreen:6 Running:0 WrongStage:0 NoInterstage:0\nFAULTS Budget:0 Overflow:0 ZeroDivisor:0 Index:0 Number:0\n";
 
 const LAST_LINES: &[u8] =
-    b"REFUSED Sequence:0 MinGreen:0 Conflict:0 Intergreen:6 Running:0 WrongStage:0 NoInterstage:0\nFAULTS Budget:0 Overflow:0 ZeroDivisor:0 Index:0 Number:0\n";
+    b"REFUSED Sequence:0 MinGreen:0 MinRed:0 Conflict:0 Intergreen:6 Running:0 WrongStage:0 NoInterstage:0\nFAULTS Budget:0 Overflow:0 ZeroDivisor:0 Index:0 Number:0\n";
 
 const NINE_SECONDS: &[&str] = &["sample", "p.vap", "p.pua", "t.csv", "g.csv", "7", "9"];
 
