@@ -32,7 +32,7 @@ fn both_tables_are_read(rt: HostRuntime) -> Result<(), Fail> {
 const WRONG_TIMES: [(&[u8], u32, TableWhy); 6] = [
     (b"", 1, TableWhy::Header),
     (
-        b"group,min_green,red_amber,amber,min_red",
+        b"group,min_green,red_amber,amber,min_green",
         1,
         TableWhy::Header,
     ),
