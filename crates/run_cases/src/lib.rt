@@ -1,5 +1,7 @@
-//! What the tests of whole runs share: cases over files in memory, and files and sinks that watch how they are called.
+//! What the tests of whole runs share: cases over files in memory, files and sinks that watch how they are called, and gates in
+//! which the actors of a live run wait for one another.
 #![tactic(auto)]
 
 pub mod cases;
+pub mod gates;
 pub mod watched;
