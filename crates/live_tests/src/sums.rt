@@ -1,5 +1,6 @@
-// Counts of detectors, added up over the lines of a file or of a log.
+// Counts of detectors, added up over the lines of a file or of a log, and the log without them.
 use sig_types::text::cut_at;
+use std::alloc::{AllocError, Global};
 
 /// The fronts and the rears of each detector.
 pub(crate) type Sums = [(u32, u32); 64];
@@ -65,4 +66,21 @@ pub(crate) fn first_sums(bytes: &[u8]) -> Sums {
         add_counts(counts, &mut sums);
     }
     sums
+}
+
+/// A log without its third bars and the counts behind them.
+pub(crate) fn without_counts(alloc: Global, log: &[u8]) -> Result<Vec<u8>, AllocError> {
+    let mut kept = Vec::new(alloc);
+    let mut bars = 0u32;
+    for byte in log {
+        match *byte {
+            b'|' => bars = bars.wrapping_add(1),
+            b'\n' => bars = 0,
+            _ => {}
+        }
+        if bars != 3 {
+            kept.push(*byte)?;
+        }
+    }
+    Ok(kept)
 }
