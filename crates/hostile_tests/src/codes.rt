@@ -1,9 +1,10 @@
 // Code files: of a compiled program, of whoever wrote them, and hostile ones.
 use junction_run::Status;
-use run_cases::cases::{Case, DONE, EXEC, JUMP_RUN, REFUSED, fails, fails_with, run_over};
+use run_cases::cases::{
+    CYCLE_RUN, Case, DONE, EXEC, JUMP_RUN, REFUSED, fails, fails_with, run_over,
+};
 use std::alloc::{AllocError, Global};
 use std::test::Fail;
-use test_texts::programs::JUMP;
 
 const COMPILE: &[&str] = &["compile", "p.vap"];
 
@@ -24,12 +25,26 @@ pub(crate) fn compiled(alloc: Global, program: &[u8]) -> Result<Vec<u8>, Fail> {
 
 #[test]
 fn compiled_code_runs_as_its_program(rt: HostRuntime) -> Result<(), Fail> {
-    let code = compiled(rt.alloc(), JUMP)?;
+    let code = compiled(rt.alloc(), JUMP_RUN.program)?;
     let case = Case {
         words: EXEC,
         program: &code,
         ..JUMP_RUN
     };
+    assert!(rt; code.starts_with(b"VAPCODE 1\n"));
+    assert!(rt; !fails(rt.alloc(), &case)?);
+    Ok(())
+}
+
+#[test]
+fn compiled_cycles_run_as_their_program(rt: HostRuntime) -> Result<(), Fail> {
+    let code = compiled(rt.alloc(), CYCLE_RUN.program)?;
+    let case = Case {
+        words: EXEC,
+        program: &code,
+        ..CYCLE_RUN
+    };
+    assert!(rt; code.starts_with(b"VAPCODE 2\n"));
     assert!(rt; !fails(rt.alloc(), &case)?);
     Ok(())
 }
@@ -87,7 +102,8 @@ fn changed(alloc: Global, change: Change) -> Result<Vec<u8>, AllocError> {
 }
 
 // Each change with the line and the reason that the file is refused for.
-const WRONG: [(Change, u32, &str); 16] = [
+const WRONG: [(Change, u32, &str); 18] = [
+    (Change::Line(1, "VAPCODE 2"), 1, "Header"),
     (Change::Line(1, "VAPCODE 3"), 1, "Header"),
     (Change::Line(2, "VARS 01"), 2, "Line"),
     (Change::Line(2, "VARS 257"), 2, "Limit"),
@@ -95,6 +111,7 @@ const WRONG: [(Change, u32, &str); 16] = [
     (Change::Line(7, "CODE 65536"), 7, "Limit"),
     (Change::Line(8, "tick 0"), 8, "Range"),
     (Change::Line(9, "push 2147483648"), 9, "Range"),
+    (Change::Line(9, "read cycle_length"), 9, "Line"),
     (Change::Without(13), 13, "MissingEnd"),
     (Change::Unended, 13, "Line"),
     (Change::Added, 14, "Line"),
