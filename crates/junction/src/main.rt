@@ -6,7 +6,7 @@
 
 mod top;
 
-use junction_run::{Status, Stop, exit_status, write_stop};
+use junction_run::{LoadStop, Status, Stop, exit_status, write_stop};
 use sig_io::{DiskFiles, ErrSink, FreeGate, OutSink};
 use std::alloc::{AllocError, Global};
 use std::env::Args;
@@ -36,7 +36,7 @@ fn main(rt: HostRuntime) -> ExitCode {
             &rt, alloc, &words, &mut files, &mut out, &mut notes, &FreeGate,
         ),
         Err(_) => {
-            write_stop(&Stop::Memory, &mut notes);
+            write_stop(&Stop::Load(LoadStop::Memory), &mut notes);
             Status::Memory
         }
     };

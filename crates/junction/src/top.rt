@@ -1,6 +1,6 @@
 // The top call.
 ghost use Rattle.std.specs.Prelude.{◌≡◌, true, false, map, string_bytes};
-ghost use Rattle.junction_run.specs.Answers.{JunctionAnswers};
+ghost use Rattle.junction_run.specs.Answers.{JunctionAnswers, seen};
 ghost use Rattle.junction_live.specs.Answers.{LiveAnswers};
 ghost use Rattle.junction_live.specs.Form.{begins_live};
 
@@ -23,14 +23,14 @@ pub fn program<R: Threads + Sync, F: Files, O: Sink + Send, N: Sink, G: Gate>(
     gate: &G,
 ) -> Status
     ensures live { begins_live (map string_bytes words.now) ≡ true → LiveAnswers (map string_bytes words.now)
-        (record { old = F.told files.old; new = F.told files.new; before = F.faults files.old; after = F.faults files.new })
-        (record { old = O.taken out.old; new = O.taken out.new; before = O.faults out.old; after = O.faults out.new })
-        (record { old = N.taken notes.old; new = N.taken notes.new; before = N.faults notes.old; after = N.faults notes.new })
+        (seen (F.told files.old) (F.told files.new) (F.faults files.old) (F.faults files.new))
+        (seen (O.taken out.old) (O.taken out.new) (O.faults out.old) (O.faults out.new))
+        (seen (N.taken notes.old) (N.taken notes.new) (N.faults notes.old) (N.faults notes.new))
         result }
     ensures others { begins_live (map string_bytes words.now) ≡ false → JunctionAnswers (map string_bytes words.now)
-        (record { old = F.told files.old; new = F.told files.new; before = F.faults files.old; after = F.faults files.new })
-        (record { old = O.taken out.old; new = O.taken out.new; before = O.faults out.old; after = O.faults out.new })
-        (record { old = N.taken notes.old; new = N.taken notes.new; before = N.faults notes.old; after = N.faults notes.new })
+        (seen (F.told files.old) (F.told files.new) (F.faults files.old) (F.faults files.new))
+        (seen (O.taken out.old) (O.taken out.new) (O.faults out.old) (O.faults out.new))
+        (seen (N.taken notes.old) (N.taken notes.new) (N.faults notes.old) (N.faults notes.new))
         result }
     ensures unread { result ≡ Status.Words → files.new ≡ files.old }
     ensures unwritten { result ≡ Status.Words → out.new ≡ out.old }
