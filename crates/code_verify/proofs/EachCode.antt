@@ -4,12 +4,14 @@ use Rattle.std.specs.Prelude.{ℤ, IsTrue, IfSome, max, sum}
 use Rattle.std.specs.List.{All}
 use Rattle.std.proofs.lemmas.Bool.{cases_lt}
 use Rattle.std.proofs.lemmas.List.Elements.{All-nil, All-cons, All-head, All-tail}
-use Rattle.vap_code.specs.declared.Instr.{Instr}
-use Rattle.vap_code.specs.declared.Instr.TheVariants.{Load, Store, Cell, SetCell, Timer, Start, Stop, Reset, Call}
+use Rattle.vap_code.specs.declared.operands.Operand.{Operand}
+use Rattle.vap_code.specs.declared.operands.Operand.TheVariants as operand
+use Rattle.vap_code.specs.Operands.{operand_of}
+use Rattle.sig_types.specs.Limits.{most_instrs, most_routines, most_variables, most_timers, most_arrays, most_array_cells, most_cells}
 use Rattle.vap_code.specs.Codes.{CodeOf}
 use Rattle.vap_code.specs.declared.VerifyWhy.{VerifyWhy}
 use Rattle.vap_code.specs.declared.VerifyWhy.TheVariants.{JumpOut, BackToNoTick, Height, Slot, CallOrder, EdgeToNoTick, FallsOff, Stretch, Shape, Commands}
-use Rattle.vap_code.specs.Valid.{FitsCheck, HasShape, HeightFits, SlotFits, CallFits, EdgeFits, Passed, FirstBroken, check_rank, heights, stretches, command_counts, instr_at, pops, leaves, target, goes_on, stands_clear, has_next, begins, routine_of, is_tick, is_call, is_ret, rise, line_fits}
+use Rattle.vap_code.specs.Valid.{FitsCheck, HasShape, HeightFits, OperandFits, StandsAbove, EdgeFits, Passed, FirstBroken, check_rank, heights, stretches, command_counts, instr_at, pops, leaves, target, goes_on, stands_clear, has_next, begins, routine_of, is_tick, is_call, is_ret, rise, line_fits}
 use Rattle.code_verify.specs.First.{SomeIsFirst}
 use Rattle.code_verify.proofs.Checked.{check_at, rank_at, passed_more, passed_all}
 
@@ -106,30 +108,25 @@ module _ (code : CodeOf) where
       (λ h. record { after_call = h.0; at_start = h.1 })
       (λ f. (f.after_call, f.at_start))
 
-  slot_known : (i : Instr) → Known (SlotFits code i)
-  slot_known (Load x) = lt_known x code.vars
-  slot_known (Store x) = lt_known x code.vars
-  slot_known (Cell a) = lt_known a (length code.arrays)
-  slot_known (SetCell a) = lt_known a (length code.arrays)
-  slot_known (Timer t) = lt_known t code.timers
-  slot_known (Start t) = lt_known t code.timers
-  slot_known (Stop t) = lt_known t code.timers
-  slot_known (Reset t) = lt_known t code.timers
+  slot_known : (o : Operand) → Known (OperandFits code o)
+  slot_known (operand.Variable x) = lt_known x code.vars
+  slot_known (operand.Array a) = lt_known a (length code.arrays)
+  slot_known (operand.Timer t) = lt_known t code.timers
   slot_known _ = inl tt
 
-  call_known : (p : ℕ) (i : Instr) → Known (CallFits code.starts p i)
-  call_known p (Call r) = lt_known r (routine_of code.starts p)
+  call_known : (p : ℕ) (o : Operand) → Known (StandsAbove code.starts p o)
+  call_known p (operand.Routine r) = lt_known r (routine_of code.starts p)
   call_known p _ = inl tt
 
   shape_known : Known (HasShape code)
   shape_known =
-      need (le_known (length code.instrs) 65535) (λ (f : HasShape code). f.instrs) (λ instrs.
-      need (le_known (length code.starts) 65) (λ (f : HasShape code). f.routines) (λ routines.
-      need (le_known code.vars 256) (λ (f : HasShape code). f.variables) (λ variables.
-      need (le_known code.timers 64) (λ (f : HasShape code). f.timers) (λ timers.
-      need (le_known (length code.arrays) 32) (λ (f : HasShape code). f.arrays) (λ arrays.
-      need (all_known (λ (a : List ℤ). (1 ≤ length a) × (length a ≤ 1024)) (λ a. both_known (le_known 1 (length a)) (le_known (length a) 1024)) code.arrays) (λ (f : HasShape code). f.cells) (λ cells.
-      need (le_known (sum (map length code.arrays)) 4096) (λ (f : HasShape code). f.all_cells) (λ all_cells.
+      need (le_known (length code.instrs) most_instrs) (λ (f : HasShape code). f.instrs) (λ instrs.
+      need (le_known (length code.starts) most_routines) (λ (f : HasShape code). f.routines) (λ routines.
+      need (le_known code.vars most_variables) (λ (f : HasShape code). f.variables) (λ variables.
+      need (le_known code.timers most_timers) (λ (f : HasShape code). f.timers) (λ timers.
+      need (le_known (length code.arrays) most_arrays) (λ (f : HasShape code). f.arrays) (λ arrays.
+      need (all_known (λ (a : List ℤ). (1 ≤ length a) × (length a ≤ most_array_cells)) (λ a. both_known (le_known 1 (length a)) (le_known (length a) most_array_cells)) code.arrays) (λ (f : HasShape code). f.cells) (λ cells.
+      need (le_known (sum (map length code.arrays)) most_cells) (λ (f : HasShape code). f.all_cells) (λ all_cells.
       need (eq_known (get_or code.starts 0 1) 0) (λ (f : HasShape code). f.first) (λ first.
       need (true_known (rise code.starts)) (λ (f : HasShape code). f.rising) (λ rising.
       need (below_known (λ k. get_or code.starts k 0 < length code.instrs) (λ k. lt_known (get_or code.starts k 0) (length code.instrs)) (length code.starts)) (λ (f : HasShape code). f.inside) (λ inside.
@@ -152,8 +149,8 @@ module _ (code : CodeOf) where
   fits_known JumpOut p = some_known (λ t. (t < length code.instrs) × (routine_of code.starts t ≡ routine_of code.starts p)) (λ t. both_known (lt_known t (length code.instrs)) (eq_known (routine_of code.starts t) (routine_of code.starts p))) (target (instr_at code.instrs p))
   fits_known BackToNoTick p = some_known (λ t. t ≤ p → IsTrue (is_tick (instr_at code.instrs t))) (λ t. asked_known (le_known t p) (true_known (is_tick (instr_at code.instrs t)))) (target (instr_at code.instrs p))
   fits_known Height p = height_known p
-  fits_known Slot p = slot_known (instr_at code.instrs p)
-  fits_known CallOrder p = call_known p (instr_at code.instrs p)
+  fits_known Slot p = slot_known (operand_of (instr_at code.instrs p))
+  fits_known CallOrder p = call_known p (operand_of (instr_at code.instrs p))
   fits_known EdgeToNoTick p = edge_known p
   fits_known FallsOff p = asked_known (true_known (goes_on (instr_at code.instrs p))) (true_known (has_next code.starts (length code.instrs) p))
   fits_known Stretch p = le_known (get_or (stretches code) p 0) 1022

@@ -6,6 +6,7 @@ use Rattle.std.proofs.lemmas.List.Elements.{All-nil, All-cons, All-head, All-tai
 use Rattle.std.proofs.lemmas.List.Sums.{sum-map, sum_by_more_le}
 use Rattle.std.proofs.Math.ListN.{length-map}
 use Rattle.std.specs.Prelude.{ℤ}
+use Rattle.sig_types.specs.Limits.{most_arrays, most_array_cells, most_cells}
 use Rattle.vap_code.specs.Valid.{rise}
 use Rattle.code_verify.specs.Shape.{ArraysFit}
 
@@ -31,23 +32,23 @@ map_map g f (x ∷ xs) = ap (λ ys. g (f x) ∷ ys) (map_map g f xs)
 -- what the arrays of a code are asked, from what holds of their rows
 module _ {A : Type 0} (cells : A → List ℤ) (arrays : List A) where
   abbrev pub RowsFit : Type 0
-  RowsFit = All (λ a. (1 ≤ length (cells a)) × (length (cells a) ≤ 1024)) arrays
+  RowsFit = All (λ a. (1 ≤ length (cells a)) × (length (cells a) ≤ most_array_cells)) arrays
 
   abbrev pub SumFits : Type 0
-  SumFits = sum (map (λ a. length (cells a)) arrays) ≤ 4096
+  SumFits = sum (map (λ a. length (cells a)) arrays) ≤ most_cells
 
-  pub fit_arrays : length arrays ≤ 32 → RowsFit → SumFits → ArraysFit (map cells arrays)
+  pub fit_arrays : length arrays ≤ most_arrays → RowsFit → SumFits → ArraysFit (map cells arrays)
   fit_arrays count rows all = record {
     at_most = omega (arith, length-map arrays cells);
-    cells = All-map (λ c. (1 ≤ length c) × (length c ≤ 1024)) cells arrays rows;
+    cells = All-map (λ c. (1 ≤ length c) × (length c ≤ most_array_cells)) cells arrays rows;
     all_cells = omega (arith, all, ap sum (map_map length cells arrays));
   }
 
-  pub fit_count : ArraysFit (map cells arrays) → length arrays ≤ 32
+  pub fit_count : ArraysFit (map cells arrays) → length arrays ≤ most_arrays
   fit_count fit = omega (arith, fit.at_most, length-map arrays cells)
 
   pub fit_rows : ArraysFit (map cells arrays) → RowsFit
-  fit_rows fit = all_images (λ c. (1 ≤ length c) × (length c ≤ 1024)) cells arrays fit.cells
+  fit_rows fit = all_images (λ c. (1 ≤ length c) × (length c ≤ most_array_cells)) cells arrays fit.cells
 
   pub fit_sum : ArraysFit (map cells arrays) → SumFits
   fit_sum fit = omega (arith, fit.all_cells, ap sum (map_map length cells arrays))

@@ -1,15 +1,16 @@
 // The checks of one place.
 
 ghost use Rattle.std.specs.Prelude.{◌≡◌, ℕ, ◌+◌, ◌<◌, ◌≤◌, ◌^◌, ◌↔◌, length, slice_index, slice_index_or, IsTrue, IfSome};
+ghost use Rattle.sig_types.specs.Limits.{most_instrs};
 ghost use Rattle.vap_code.specs.Codes.{code_in};
 ghost use Rattle.vap_code.specs.Valid.{heights as heights_of, FitsCheck, HasShape, HeightFits, SlotFits, CallFits, EdgeFits, Passed, check_rank};
 ghost use Rattle.code_verify.specs.Tables.{IsTables};
 ghost use Rattle.vap_code.specs.declared.VerifyWhy.TheVariants.{JumpOut, BackToNoTick, Height, Slot, CallOrder, EdgeToNoTick, FallsOff, Stretch, Commands};
 
-use crate::instrs::{goes_on, is_call, is_ret, is_tick, leaves, pops, stands_clear, target};
+use crate::instrs::{goes_on, is_call, is_ret, is_tick, leaves, stands_clear, target};
 use crate::places::{begins, has_next, routine_of};
 use crate::tables::Tables;
-use vap_code::{Code, Instr, VerifyWhy};
+use vap_code::{Code, Instr, Operand, VerifyWhy, effect_of, operand_of};
 
 /// Whether a place fits one of the checks that are made with the tables.
 pub fn fits(code: &Code, tables: &Tables, why: VerifyWhy, p: usize) -> bool
@@ -68,7 +69,7 @@ pub fn jumps_back_to_tick(code: &Code, p: usize) -> bool
 // Whether the operands that stand at a place are enough, and those that it leaves stand where it leads.
 fn height_fits(code: &Code, heights: &[usize], p: usize) -> bool
     requires place { p < length code.now.instrs.items }
-    requires at_most { length code.now.instrs.items ≤ 65535 }
+    requires at_most { length code.now.instrs.items ≤ most_instrs }
     requires table { heights.now ≡ heights_of (code_in code.now) }
     requires low { (k : ℕ) → k < length heights.now → slice_index heights.now k ≤ k }
     requires whole { length heights.now ≡ length code.now.instrs.items }
@@ -80,7 +81,7 @@ fn height_fits(code: &Code, heights: &[usize], p: usize) -> bool
     let instr = code.instrs[p];
     let height = heights[p];
     let left = leaves(height, instr);
-    pops(instr) <= height
+    effect_of(instr).takes <= height
         && left <= 256
         && (!stands_clear(instr) || height == 0)
         && stands_at(heights, target(instr), left)
@@ -104,32 +105,12 @@ fn stands_at(heights: &[usize], place: Option<usize>, height: usize) -> bool
 fn slot_fits(code: &Code, instr: Instr) -> bool
     ensures { IsTrue result ↔ SlotFits (code_in code.now) instr }
 {
-    match instr {
-        Instr::Load(x) | Instr::Store(x) => x < code.vars,
-        Instr::Cell(a) | Instr::SetCell(a) => (a as usize) < code.arrays.len(),
-        Instr::Timer(t) | Instr::Start(t) | Instr::Stop(t) | Instr::Reset(t) => t < code.timers,
-        Instr::Tick(_)
-        | Instr::Push(_)
-        | Instr::Neg
-        | Instr::Not
-        | Instr::Add
-        | Instr::Sub
-        | Instr::Mul
-        | Instr::Div
-        | Instr::Eq
-        | Instr::Ne
-        | Instr::Lt
-        | Instr::Le
-        | Instr::Gt
-        | Instr::Ge
-        | Instr::And
-        | Instr::Or
-        | Instr::Read(_)
-        | Instr::Do(_)
-        | Instr::Jump(_)
-        | Instr::JumpZero(_)
-        | Instr::Call(_)
-        | Instr::Ret => true,
+    match operand_of(instr) {
+        Operand::Variable(x) => x < code.vars,
+        Operand::Array(a) => (a as usize) < code.arrays.len(),
+        Operand::Timer(t) => t < code.timers,
+        Operand::Nothing | Operand::Line(_) | Operand::Value(_) | Operand::Place(_) => true,
+        Operand::Routine(_) | Operand::Reading(_) | Operand::Command(_) => true,
     }
 }
 
@@ -137,37 +118,11 @@ fn slot_fits(code: &Code, instr: Instr) -> bool
 fn call_fits(starts: &[u16], p: usize, instr: Instr) -> bool
     ensures { IsTrue result ↔ CallFits starts.now p instr }
 {
-    match instr {
-        Instr::Call(r) => (r as usize) < routine_of(starts, p),
-        Instr::Tick(_)
-        | Instr::Push(_)
-        | Instr::Load(_)
-        | Instr::Store(_)
-        | Instr::Cell(_)
-        | Instr::SetCell(_)
-        | Instr::Timer(_)
-        | Instr::Neg
-        | Instr::Not
-        | Instr::Add
-        | Instr::Sub
-        | Instr::Mul
-        | Instr::Div
-        | Instr::Eq
-        | Instr::Ne
-        | Instr::Lt
-        | Instr::Le
-        | Instr::Gt
-        | Instr::Ge
-        | Instr::And
-        | Instr::Or
-        | Instr::Read(_)
-        | Instr::Do(_)
-        | Instr::Start(_)
-        | Instr::Stop(_)
-        | Instr::Reset(_)
-        | Instr::Jump(_)
-        | Instr::JumpZero(_)
-        | Instr::Ret => true,
+    match operand_of(instr) {
+        Operand::Routine(r) => (r as usize) < routine_of(starts, p),
+        Operand::Nothing | Operand::Line(_) | Operand::Value(_) | Operand::Place(_) => true,
+        Operand::Variable(_) | Operand::Array(_) | Operand::Timer(_) => true,
+        Operand::Reading(_) | Operand::Command(_) => true,
     }
 }
 

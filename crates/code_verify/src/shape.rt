@@ -2,30 +2,16 @@
 
 ghost use Rattle.std.specs.Prelude.{◌≡◌, ℕ, ◌≤◌, ◌<◌, ◌↔◌, length, map, sum, IsTrue, slice_index};
 ghost use Rattle.std.specs.List.{All};
+ghost use Rattle.sig_types.specs.Limits.{most_array_cells, most_cells};
 ghost use Rattle.code_verify.specs.Shape.{CountsFit, ArraysFit, StartsFit};
 ghost use Rattle.vap_code.specs.Codes.{code_in};
 ghost use Rattle.vap_code.specs.Valid.{HasShape, rise as rise_of, line_fits as line_fits_of, instr_at};
 
-use vap_code::{Code, Instr};
-
-const MOST_INSTRS: usize = 65_535;
-
-const MOST_ROUTINES: usize = 65;
-
-const MOST_VARIABLES: u16 = 256;
-
-const MOST_TIMERS: u16 = 64;
-
-const MOST_ARRAYS: usize = 32;
-
-// The cells of one array.
-const MOST_ARRAY_CELLS: usize = 1024;
-
-// The cells of all arrays together.
-const MOST_CELLS: usize = 4096;
-
-// The last line that a program can have.
-const LAST_LINE: u32 = 1_048_577;
+use sig_types::limits::{
+    LAST_LINE, MOST_ARRAY_CELLS, MOST_ARRAYS, MOST_CELLS, MOST_INSTRS, MOST_ROUTINES, MOST_TIMERS,
+    MOST_VARIABLES,
+};
+use vap_code::{Code, Instr, Operand, operand_of};
 
 /// Whether all counts are within their limits, the starts begin with 0, rise and lie in the code, and each tick has a line
 /// that a program can have, 1 to 1,048,577.
@@ -41,8 +27,8 @@ pub fn has_shape(code: &Code) -> bool
 fn counts_fit(code: &Code) -> bool
     ensures { IsTrue result ↔ CountsFit (code_in code.now) }
 {
-    code.instrs.len() <= MOST_INSTRS
-        && code.starts.len() <= MOST_ROUTINES
+    code.instrs.len() <= usize::from(MOST_INSTRS)
+        && code.starts.len() <= usize::from(MOST_ROUTINES)
         && code.vars <= MOST_VARIABLES
         && code.timers <= MOST_TIMERS
 }
@@ -50,15 +36,15 @@ fn counts_fit(code: &Code) -> bool
 fn arrays_fit(arrays: &[Vec<i32>]) -> bool
     ensures { IsTrue result ↔ ArraysFit (map (λ a. a.items) arrays.now) }
 {
-    arrays.len() <= MOST_ARRAYS && cells_fit(arrays) && all_cells_fit(arrays)
+    arrays.len() <= usize::from(MOST_ARRAYS) && cells_fit(arrays) && all_cells_fit(arrays)
 }
 
 // Whether each array has 1 to 1,024 cells.
 fn cells_fit(arrays: &[Vec<i32>]) -> bool
-    ensures { IsTrue result ↔ All (λ a. (1 ≤ length a.items) × (length a.items ≤ 1024)) arrays.now }
+    ensures { IsTrue result ↔ All (λ a. (1 ≤ length a.items) × (length a.items ≤ most_array_cells)) arrays.now }
 {
     for array in arrays {
-        if array.len() < 1 || array.len() > MOST_ARRAY_CELLS {
+        if array.len() < 1 || array.len() > usize::from(MOST_ARRAY_CELLS) {
             return false;
         }
     }
@@ -67,9 +53,9 @@ fn cells_fit(arrays: &[Vec<i32>]) -> bool
 
 // Whether all arrays together have at most 4,096 cells.
 fn all_cells_fit(arrays: &[Vec<i32>]) -> bool
-    ensures { IsTrue result ↔ (sum (map (λ a. length a.items) arrays.now) ≤ 4096) }
+    ensures { IsTrue result ↔ (sum (map (λ a. length a.items) arrays.now) ≤ most_cells) }
 {
-    let mut room = MOST_CELLS;
+    let mut room = usize::from(MOST_CELLS);
     for array in arrays {
         if array.len() > room {
             return false;
@@ -123,36 +109,10 @@ fn lines_fit(instrs: &[Instr]) -> bool
 fn line_fits(instr: Instr) -> bool
     ensures { result ≡ line_fits_of instr }
 {
-    match instr {
-        Instr::Tick(line) => 1 <= line && line <= LAST_LINE,
-        Instr::Push(_)
-        | Instr::Load(_)
-        | Instr::Store(_)
-        | Instr::Cell(_)
-        | Instr::SetCell(_)
-        | Instr::Timer(_)
-        | Instr::Neg
-        | Instr::Not
-        | Instr::Add
-        | Instr::Sub
-        | Instr::Mul
-        | Instr::Div
-        | Instr::Eq
-        | Instr::Ne
-        | Instr::Lt
-        | Instr::Le
-        | Instr::Gt
-        | Instr::Ge
-        | Instr::And
-        | Instr::Or
-        | Instr::Read(_)
-        | Instr::Do(_)
-        | Instr::Start(_)
-        | Instr::Stop(_)
-        | Instr::Reset(_)
-        | Instr::Jump(_)
-        | Instr::JumpZero(_)
-        | Instr::Call(_)
-        | Instr::Ret => true,
+    match operand_of(instr) {
+        Operand::Line(line) => 1 <= line && line <= LAST_LINE,
+        Operand::Nothing | Operand::Value(_) | Operand::Place(_) | Operand::Routine(_) => true,
+        Operand::Variable(_) | Operand::Array(_) | Operand::Timer(_) => true,
+        Operand::Reading(_) | Operand::Command(_) => true,
     }
 }

@@ -2,6 +2,7 @@
 
 ghost use Rattle.std.specs.Prelude.{◌≡◌, ℕ, ◌+◌, ◌-◌, ◌<◌, ◌≤◌, length, slice_index, slice_index_or, drop, IfOk, Option, None, true, if◌then◌else◌};
 ghost use Rattle.std.specs.Option.{option_or};
+ghost use Rattle.sig_types.specs.Limits.{most_instrs};
 ghost use Rattle.vap_code.specs.Codes.{code_in};
 ghost use Rattle.vap_code.specs.Valid.{from_first, height_after as height_after_of, begins as begins_at, greatest as greatest_of, later_at, is_tick as is_tick_of, instr_at};
 ghost use Rattle.code_verify.specs.Tables.{first_jump, brings, number_of, numbers as numbers_of, IsTables, JumpsAhead};
@@ -38,7 +39,7 @@ impl Tables {
 
 // The height of each place.
 fn heights(alloc: Global, instrs: &[Instr], starts: &[u16]) -> Result<Vec<usize>, AllocError>
-    requires at_most { length instrs.now ≤ 65535 }
+    requires at_most { length instrs.now ≤ most_instrs }
     requires first { begins_at starts.now 0 ≡ true }
     ensures table { IfOk result
         (λ v. v.items ≡ from_first (height_after_of instrs.now starts.now) (length instrs.now)) }
@@ -76,7 +77,7 @@ fn height_after(
     brought: Option<usize>,
 ) -> usize
     requires inside { length heights.now < length instrs.now }
-    requires at_most { length instrs.now ≤ 65535 }
+    requires at_most { length instrs.now ≤ most_instrs }
     requires first { begins_at starts.now 0 ≡ true }
     requires low { (k : ℕ) → k < length heights.now → slice_index heights.now k ≤ k }
     requires brought { brought ≡ first_jump instrs.now heights.now (length heights.now) }
@@ -97,7 +98,7 @@ fn height_after(
 
 // Keeps what a jump brings to its target, unless a lower place jumps there.
 fn keep_jump(brought: &mut Vec<Option<usize>>, instr: Instr, height: usize)
-    requires { height ≤ 65535 }
+    requires { height ≤ most_instrs }
     ensures long { length brought.new.items ≡ length brought.old.items }
     ensures kept { (t : ℕ) → t < length brought.old.items →
         slice_index_or brought.new.items t None ≡
@@ -124,7 +125,7 @@ fn numbers(
     starts: &[u16],
     number: Number,
 ) -> Result<Vec<usize>, AllocError>
-    requires at_most { length instrs.now ≤ 65535 }
+    requires at_most { length instrs.now ≤ most_instrs }
     requires starts { (k : ℕ) → k < length starts.now →
         slice_index starts.now k < length instrs.now }
     requires ahead { JumpsAhead instrs.now }
@@ -143,7 +144,7 @@ fn numbers(
 
 // The number of an instruction, from the greatest among its successors.
 fn with_instr(number: Number, instr: Instr, later: usize) -> usize
-    requires { later ≤ 65535 }
+    requires { later ≤ most_instrs }
     ensures exact { result ≡ number_of number instr later }
     ensures low { result ≤ later + 1 }
 {
@@ -161,7 +162,7 @@ fn with_instr(number: Number, instr: Instr, later: usize) -> usize
 fn greatest(instrs: &[Instr], starts: &[u16], table: &[usize], p: usize) -> usize
     requires place { p < length instrs.now }
     requires long { length table.now ≡ length instrs.now }
-    requires at_most { length instrs.now ≤ 65535 }
+    requires at_most { length instrs.now ≤ most_instrs }
     requires starts { (k : ℕ) → k < length starts.now →
         slice_index starts.now k < length instrs.now }
     requires ahead { JumpsAhead instrs.now }
