@@ -6,6 +6,7 @@ use Rattle.std.specs.Fmt.{signed_decimal}
 use Rattle.std.proofs.lemmas.Bool.{eqb-true, and_parts, not-true, leb-true, le-leb}
 use Rattle.std.proofs.lemmas.List.{length-map}
 use Rattle.sig_types.specs.Number.{fits}
+use Rattle.sig_types.specs.Limits.{most_array_cells}
 use Rattle.code_file.specs.declared.refusal.CodeWhy.{CodeWhy}
 use Rattle.code_file.specs.Text.{joined, values_text, ArrayFits}
 use Rattle.code_file.specs.Reading.{with_head, pieces, both, all_signed, as_array, array_in, signed_of}
@@ -86,8 +87,8 @@ all_signed_again (v ∷ vs) all =
 
 -- ---- arrays
 
-array_tests : (room : ℕ) (ws vs : List ℤ) (a b c : Bool) → nat_le (length ws) 1024 ≡ a → nat_le (length ws) room ≡ b → list_all fits ws ≡ c → (e : CodeWhy) (d : CodeWhy) →
-    (if (a && b) then (if c then Ok ws else Err e) else Err d) ≡ Ok vs → (ws ≡ vs) × (length ws ≤ 1024) × (length ws ≤ room) × (list_all fits ws ≡ true)
+array_tests : (room : ℕ) (ws vs : List ℤ) (a b c : Bool) → nat_le (length ws) most_array_cells ≡ a → nat_le (length ws) room ≡ b → list_all fits ws ≡ c → (e : CodeWhy) (d : CodeWhy) →
+    (if (a && b) then (if c then Ok ws else Err e) else Err d) ≡ Ok vs → (ws ≡ vs) × (length ws ≤ most_array_cells) × (length ws ≤ room) × (list_all fits ws ≡ true)
 array_tests room ws vs false b c few within all e d is = absurd cc
 array_tests room ws vs true false c few within all e d is = absurd cc
 array_tests room ws vs true true false few within all e d is = absurd cc
@@ -96,7 +97,7 @@ array_tests room ws vs true true true few within all e d is = (ok_is ws vs is, l
 array_case : (room : ℕ) (line : List ℕ) (o : Option (List ℤ)) (vs : List ℤ) → all_signed (pieces line) ≡ o → as_array room o ≡ Ok vs → (line ≡ values_text vs) × ArrayFits room vs
 array_case room line None vs is e = absurd cc
 array_case room line (Some ws) vs is e =
-    let t = array_tests room ws vs (nat_le (length ws) 1024) (nat_le (length ws) room) (list_all fits ws) refl refl refl _ _ e in
+    let t = array_tests room ws vs (nat_le (length ws) most_array_cells) (nat_le (length ws) room) (list_all fits ws) refl refl refl _ _ e in
     let made : pieces line ≡ map signed_decimal ws = signed_pieces (pieces line) ws is t.3 in
     let text : line ≡ values_text ws = sym (joined_pieces line) ∙ ap joined made in
     let count : length (pieces line) ≡ length ws = ap length made ∙ length-map ws signed_decimal in
@@ -125,7 +126,7 @@ pieces_of_values (v ∷ vs) some all =
 pub array_again : (room : ℕ) (vs : List ℤ) → ArrayFits room vs → array_in room (values_text vs) ≡ Ok vs
 unfolding array_in
 array_again room vs h =
-    let few : nat_le (length vs) 1024 ≡ true = le-leb _ _ h.at_most in
+    let few : nat_le (length vs) most_array_cells ≡ true = le-leb _ _ h.at_most in
     let within : nat_le (length vs) room ≡ true = le-leb _ _ h.within in
     let all : list_all fits vs ≡ true = h.values in
     let read : all_signed (pieces (values_text vs)) ≡ Some vs = ap all_signed (pieces_of_values vs h.not_empty h.values) ∙ all_signed_again vs h.values in

@@ -6,6 +6,7 @@ use Rattle.std.specs.Str.{bytes_eq}
 use Rattle.std.proofs.lemmas.Bool.{eqb-true, and_parts, leb-true, ltb-true, lt-ltb}
 use Rattle.std.proofs.lemmas.Slice.Eq.{bytes_eq-Decides}
 use Rattle.sig_types.specs.Text.{number_of}
+use Rattle.sig_types.specs.Limits.{most_instrs}
 use Rattle.code_file.specs.declared.refusal.CodeWhy.{CodeWhy}
 use Rattle.code_file.specs.declared.refusal.CodeWhy.TheVariants.{Limit, Range}
 use Rattle.code_file.specs.Text.{start_follows, StartFits}
@@ -78,20 +79,20 @@ start_lines = record { found = λ s l a e. start_case s l (number_of l) a refl e
 pub record IsSize (last : ℕ) (l : List ℕ) (n : ℕ) : Type 0 where
   pub text : l ≡ codes "CODE " ++ decimal n
   pub not_empty : 1 ≤ n
-  pub at_most : n ≤ 65535
+  pub at_most : n ≤ most_instrs
   pub above_last : last < n
 
-size_case : (last : ℕ) (l : List ℕ) (n : ℕ) (r : Result ℕ CodeWhy) → count_in (codes "CODE ") 1 65535 l ≡ r → above last r ≡ Ok n → IsSize last l n
+size_case : (last : ℕ) (l : List ℕ) (n : ℕ) (r : Result ℕ CodeWhy) → count_in (codes "CODE ") 1 most_instrs l ≡ r → above last r ≡ Ok n → IsSize last l n
 size_case last l n (Err why) is e = absurd cc
 size_case last l n (Ok m) is e =
     let g = guard_ok (nat_lt last m) m n Range e in
-    let c = count_found (codes "CODE ") l 1 65535 m (omega arith) is in
+    let c = count_found (codes "CODE ") l 1 most_instrs m (omega arith) is in
     subst (λ k. IsSize last l k) g.1 (record { text = c.text; not_empty = c.low; at_most = c.high; above_last = ltb-true last m g.0 })
 
 pub size_found : (last : ℕ) (l : List ℕ) (n : ℕ) → size_in last l ≡ Ok n → IsSize last l n
-size_found last l n e = size_case last l n (count_in (codes "CODE ") 1 65535 l) refl e
+size_found last l n e = size_case last l n (count_in (codes "CODE ") 1 most_instrs l) refl e
 
-pub size_again : (last n : ℕ) → 1 ≤ n → n ≤ 65535 → last < n → size_in last (codes "CODE " ++ decimal n) ≡ Ok n
+pub size_again : (last n : ℕ) → 1 ≤ n → n ≤ most_instrs → last < n → size_in last (codes "CODE " ++ decimal n) ≡ Ok n
 size_again last n some few below =
     let is : nat_lt last n ≡ true = lt-ltb last n below in
-    ap (λ r. above last r) (count_again (codes "CODE ") 1 65535 n (omega arith) some few) ∙ rw is refl
+    ap (λ r. above last r) (count_again (codes "CODE ") 1 most_instrs n (omega arith) some few) ∙ rw is refl

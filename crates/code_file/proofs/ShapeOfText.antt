@@ -6,20 +6,32 @@ use Rattle.std.proofs.lemmas.Bool.{and_parts, and_from, le-leb, eqb-true, ltb-tr
 use Rattle.std.proofs.lemmas.List.Elements.{All-from_recursion}
 use Rattle.std.proofs.lemmas.List.Sums.{sum_by-cons}
 use Rattle.sig_types.specs.Pass.{at}
+use Rattle.sig_types.specs.Limits.{most_array_cells, most_cells, last_line}
 use Rattle.vap_code.specs.declared.Instr.{Instr}
-use Rattle.vap_code.specs.declared.Instr.TheVariants.{Tick, Ret}
+use Rattle.vap_code.specs.declared.Instr.TheVariants.{Ret}
+use Rattle.vap_code.specs.declared.operands.Operand.{Operand}
+use Rattle.vap_code.specs.declared.operands.Operand.TheVariants as operand
+use Rattle.vap_code.specs.Operands.{operand_of}
 use Rattle.vap_code.specs.Machine.{last_start}
-use Rattle.vap_code.specs.Valid.{HasShape, rise, line_fits, instr_at}
-use Rattle.code_file.specs.Text.{AllFit, InstrFits, InstrStands, nothing_after, ArrayFits, room_after, StartFits, last_after}
+use Rattle.vap_code.specs.Valid.{HasShape, rise, operand_line_fits, instr_at}
+use Rattle.code_file.specs.Text.{AllFit, InRange, InstrFits, InstrStands, nothing_after, ArrayFits, room_after, StartFits, last_after}
 use Rattle.std.specs.List.{list_all}
 use Rattle.sig_types.specs.Number.{fits}
 use Rattle.vap_code.specs.Codes.{CodeOf}
 use Rattle.code_file.specs.Text.{HasText}
-use Rattle.code_file.specs.Shape.{IsTyped, HasRanges}
+use Rattle.code_file.specs.Shape.{OperandTyped, HasRanges}
 
-line_of_type : (i : Instr) → InstrFits i → line_fits i ≡ true
-line_of_type (Tick n) fit = and_from (leb 1 n) (leb n 1048577) (le-leb 1 n fit.0) (le-leb n 1048577 fit.1)
-line_of_type i fit = refl
+line_of_type : (o : Operand) → InRange o → operand_line_fits o ≡ true
+line_of_type (operand.Line n) fit = and_from (leb 1 n) (leb n last_line) (le-leb 1 n fit.0) (le-leb n last_line fit.1)
+line_of_type operand.Nothing fit = refl
+line_of_type (operand.Value v) fit = refl
+line_of_type (operand.Variable n) fit = refl
+line_of_type (operand.Array n) fit = refl
+line_of_type (operand.Timer n) fit = refl
+line_of_type (operand.Place n) fit = refl
+line_of_type (operand.Routine n) fit = refl
+line_of_type (operand.Reading kind) fit = refl
+line_of_type (operand.Command kind) fit = refl
 
 instr_stands : (is : List Instr) → AllFit InstrStands nothing_after tt is → (p : ℕ) → p < length is → InstrFits (at is p Ret)
 instr_stands [] each p lt = absurd (omega (arith, lt))
@@ -54,7 +66,7 @@ starts_rise (n ∷ ns) some fit =
 -- ---- arrays
 
 cells_fit : (items : List (List ℤ)) (room : ℕ) → AllFit ArrayFits room_after room items →
-    AllByRecursion (λ a. (1 ≤ length a) × (length a ≤ 1024)) items × AllByRecursion (λ a. list_all fits a ≡ true) items × (sum (map length items) ≤ room)
+    AllByRecursion (λ a. (1 ≤ length a) × (length a ≤ most_array_cells)) items × AllByRecursion (λ a. list_all fits a ≡ true) items × (sum (map length items) ≤ room)
 cells_fit [] room fit = (tt, tt, omega arith)
 cells_fit (a ∷ items) room fit =
     let sums : sum (map length (a ∷ items)) ≡ length a + sum (map length items) = sum_by-cons (λ n. n) (length a) (map length items) in
@@ -64,7 +76,7 @@ cells_fit (a ∷ items) room fit =
 pub text_has_shape : (code : CodeOf) → HasText code → HasShape code
 text_has_shape code h =
     let starts = starts_rise code.starts h.has_routine h.starts in
-    let cells = cells_fit code.arrays 4096 h.arrays in
+    let cells = cells_fit code.arrays most_cells h.arrays in
     record {
       instrs = h.at_most;
       routines = h.routines;
@@ -76,15 +88,23 @@ text_has_shape code h =
       first = starts.first;
       rising = starts.rising;
       inside = λ k lt. omega (arith, starts.inside k lt, h.inside);
-      lines = λ p lt. line_of_type (instr_at code.instrs p) (instr_stands code.instrs h.instrs p lt);
+      lines = λ p lt. line_of_type (operand_of (instr_at code.instrs p)) (instr_stands code.instrs h.instrs p lt);
     }
 
-typed_of : (i : Instr) → InstrFits i → IsTyped i
-typed_of (Tick n) fit = tt
-typed_of i fit = fit
+typed_of : (o : Operand) → InRange o → OperandTyped o
+typed_of (operand.Line n) fit = tt
+typed_of operand.Nothing fit = tt
+typed_of (operand.Value v) fit = fit
+typed_of (operand.Variable n) fit = fit
+typed_of (operand.Array n) fit = fit
+typed_of (operand.Timer n) fit = fit
+typed_of (operand.Place n) fit = fit
+typed_of (operand.Routine n) fit = fit
+typed_of (operand.Reading kind) fit = tt
+typed_of (operand.Command kind) fit = tt
 
 pub text_has_ranges : (code : CodeOf) → HasText code → HasRanges code
 text_has_ranges code h = record {
-  instrs = λ p lt. typed_of (instr_at code.instrs p) (instr_stands code.instrs h.instrs p lt);
-  values = All-from_recursion _ code.arrays (cells_fit code.arrays 4096 h.arrays).1;
+  instrs = λ p lt. typed_of (operand_of (instr_at code.instrs p)) (instr_stands code.instrs h.instrs p lt);
+  values = All-from_recursion _ code.arrays (cells_fit code.arrays most_cells h.arrays).1;
 }

@@ -1,6 +1,7 @@
 -- The numbers of a line, as far as they were read.
 use Rattle.std.specs.Prelude.{◌≡◌, ◌≤◌, ℕ, Bool, true, List, ◌++◌, length, min, Option, None, Some, ℤ}
 use Rattle.std.specs.List.{list_all}
+use Rattle.sig_types.specs.Limits.{most_array_cells}
 use Rattle.sig_types.specs.Number.{fits}
 use Rattle.code_file.specs.Reading.{pieces, all_signed}
 
@@ -14,7 +15,7 @@ after_front front (Some vs) = Some (front ++ vs)
 pub record Surveys (count : ℕ) (fit : Bool) (kept : List ℤ) (front : List ℤ) : Type 0 where
   pub counted : count ≡ min (length front) 5000
   pub fitting : fit ≡ list_all fits front
-  pub same : fit ≡ true → count ≤ 1024 → kept ≡ front
+  pub same : fit ≡ true → count ≤ most_array_cells → kept ≡ front
 
 -- the line begins with numbers that were surveyed so, and this rest follows
 abbrev pub HasFront : List ℕ → List ℕ → ℕ → Bool → List ℤ → Type 0

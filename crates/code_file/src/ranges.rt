@@ -6,10 +6,10 @@ ghost use Rattle.vap_code.specs.Codes.{code_in};
 ghost use Rattle.vap_code.specs.Valid.{instr_at};
 ghost use Rattle.code_file.specs.Text.{HasText, code_text};
 ghost use Rattle.code_file.specs.Reading.{code_of};
-ghost use Rattle.code_file.specs.Shape.{IsTyped, HasRanges};
+ghost use Rattle.code_file.specs.Shape.{OperandTyped, IsTyped, HasRanges};
 
 use code_verify::Verified;
-use vap_code::{Code, Instr};
+use vap_code::{Code, Instr, Operand, operand_of};
 
 /// A verified code has a text, which is read again as this code and is within the limit of a code file. A call
 /// changes nothing; its contract is that fact, which rests on the ranges of the numbers in memory.
@@ -42,14 +42,17 @@ fn instr_ranges(instrs: &[Instr])
 fn instr_range(instr: Instr)
     ensures { IsTyped instr }
 {
-    match instr {
-        Instr::Push(_) | Instr::Load(_) | Instr::Store(_) | Instr::Cell(_) => {}
-        Instr::SetCell(_) | Instr::Timer(_) | Instr::Start(_) | Instr::Stop(_) => {}
-        Instr::Reset(_) | Instr::Jump(_) | Instr::JumpZero(_) | Instr::Call(_) => {}
-        Instr::Tick(_) | Instr::Neg | Instr::Not | Instr::Ret => {}
-        Instr::Add | Instr::Sub | Instr::Mul | Instr::Div => {}
-        Instr::Eq | Instr::Ne | Instr::Lt | Instr::Le | Instr::Gt | Instr::Ge => {}
-        Instr::And | Instr::Or | Instr::Read(_) | Instr::Do(_) => {}
+    operand_range(operand_of(instr));
+}
+
+// The number of an operand.
+fn operand_range(operand: Operand)
+    ensures { OperandTyped operand }
+{
+    match operand {
+        Operand::Nothing | Operand::Line(_) | Operand::Value(_) | Operand::Place(_) => {}
+        Operand::Variable(_) | Operand::Array(_) | Operand::Timer(_) => {}
+        Operand::Routine(_) | Operand::Reading(_) | Operand::Command(_) => {}
     }
 }
 
