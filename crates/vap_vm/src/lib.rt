@@ -3,14 +3,14 @@
 #![tactic(auto)]
 
 mod arrays;
-mod given;
+mod command_list;
 mod head;
 mod machine;
 mod moves;
-mod noted;
 mod operands;
 mod operators;
 mod passes;
+mod return_places;
 mod run;
 mod slots;
 mod steps;

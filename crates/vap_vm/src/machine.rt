@@ -3,10 +3,10 @@
 ghost use Rattle.std.specs.Prelude.{◌≡◌, [], false, IfOk};
 ghost use Rattle.vap_vm.specs.View.{operands_of};
 
-use crate::given::Given;
+use crate::command_list::CommandList;
 use crate::head::Head;
-use crate::noted::Noted;
 use crate::operands::Operands;
+use crate::return_places::ReturnPlaces;
 use crate::slots::Slots;
 use sig_types::FaultKind;
 use std::alloc::{AllocError, Global};
@@ -15,9 +15,9 @@ use std::alloc::{AllocError, Global};
 #[derive(Drop)]
 pub struct Machine {
     pub operands: Operands,
-    pub noted: Noted,
+    pub return_places: ReturnPlaces,
     pub slots: Slots,
-    pub commands: Given,
+    pub commands: CommandList,
     /// Whether a cell of an array was written since the last pass began.
     pub wrote_cells: bool,
 }
@@ -26,9 +26,9 @@ pub struct Machine {
 #[derive(Clone, Copy, PartialEq, Eq, Debug)]
 pub enum Next {
     /// The instruction at the next place follows.
-    On,
+    Following,
     /// The instruction at the place that the head has now follows.
-    At,
+    Jumped,
     /// The pass came to its end.
     End,
     /// A fault ends the pass.
@@ -38,15 +38,15 @@ pub enum Next {
 impl Machine {
     /// A machine with these variables, arrays and timers, and room for every pass.
     pub fn with_room(alloc: Global, slots: Slots) -> Result<Machine, AllocError>
-        ensures slots { IfOk result (λ m. m.slots ≡ slots) }
-        ensures commands { IfOk result (λ m. m.commands ≡ []) }
-        ensures wrote_cells { IfOk result (λ m. m.wrote_cells ≡ false) }
+        ensures slots { IfOk result (λ machine. machine.slots ≡ slots) }
+        ensures commands { IfOk result (λ machine. machine.commands ≡ []) }
+        ensures wrote_cells { IfOk result (λ machine. machine.wrote_cells ≡ false) }
     {
         Ok(Machine {
             operands: Operands::empty(),
-            noted: Noted::with_room(alloc)?,
+            return_places: ReturnPlaces::with_room(alloc)?,
             slots,
-            commands: Given::with_room(alloc)?,
+            commands: CommandList::with_room(alloc)?,
             wrote_cells: false,
         })
     }
@@ -59,12 +59,12 @@ impl Machine {
         ensures line { result.line ≡ 0 }
         ensures units { result.units ≡ units }
         ensures operands { operands_of result self.new ≡ [] }
-        ensures noted { self.new.noted ≡ [] }
+        ensures noted { self.new.return_places ≡ [] }
         ensures commands { self.new.commands ≡ [] }
         ensures slots { self.new.slots ≡ self.old.slots }
         ensures wrote_cells { self.new.wrote_cells ≡ false }
     {
-        self.noted.clear();
+        self.return_places.clear();
         self.commands.clear();
         self.wrote_cells = false;
         Head {

@@ -116,7 +116,7 @@ impl Vm {
                     line: head.line,
                 })
             }
-            Next::On | Next::At => unreachable!(),
+            Next::Following | Next::Jumped => unreachable!(),
         }
     }
 

@@ -10,26 +10,26 @@ const MOST_CALLS: usize = 65;
 
 /// The noted places, seen as a list whose first is the one that was noted last.
 #[derive(Drop)]
-pub struct Noted {
+pub struct ReturnPlaces {
     items: Vec<usize>,
 }
 
-impl Model for Noted {
+impl Model for ReturnPlaces {
     ghost use Rattle.std.specs.Prelude.{List, ℕ, reverse, vec_capacity, vec_len, ◌≤◌};
 
     ghost Value = { List ℕ };
 
-    ghost view = { λ o. reverse o.items.items };
+    ghost view = { λ places. reverse places.items.items };
 
-    ghost invariant = { λ o. (vec_len o.items ≤ 65) × (65 ≤ vec_capacity o.items) };
+    ghost invariant = { λ places. (vec_len places.items ≤ 65) × (65 ≤ vec_capacity places.items) };
 }
 
-impl Noted {
+impl ReturnPlaces {
     /// No place, and room for all.
-    pub fn with_room(alloc: Global) -> Result<Noted, AllocError>
-        ensures { IfOk result (λ o. o ≡ []) }
+    pub fn with_room(alloc: Global) -> Result<ReturnPlaces, AllocError>
+        ensures { IfOk result (λ places. places ≡ []) }
     {
-        Ok(Noted {
+        Ok(ReturnPlaces {
             items: Vec::with_capacity(alloc, MOST_CALLS)?,
         })
     }

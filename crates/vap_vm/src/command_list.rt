@@ -12,27 +12,27 @@ const MOST_COMMANDS: usize = 10_000;
 
 /// The commands given so far, in order.
 #[derive(Drop)]
-pub struct Given {
+pub struct CommandList {
     items: Vec<Command>,
 }
 
-impl Model for Given {
+impl Model for CommandList {
     ghost use Rattle.std.specs.Prelude.{List, vec_capacity, vec_len, ◌≤◌};
     ghost use Rattle.sig_types.specs.declared.numbers.Command.{Command};
 
     ghost Value = { List Command };
 
-    ghost view = { λ g. g.items.items };
+    ghost view = { λ list. list.items.items };
 
-    ghost invariant = { λ g. (vec_len g.items ≤ 10000) × (10000 ≤ vec_capacity g.items) };
+    ghost invariant = { λ list. (vec_len list.items ≤ 10000) × (10000 ≤ vec_capacity list.items) };
 }
 
-impl Given {
+impl CommandList {
     /// No command, and room for all.
-    pub fn with_room(alloc: Global) -> Result<Given, AllocError>
-        ensures { IfOk result (λ g. g ≡ []) }
+    pub fn with_room(alloc: Global) -> Result<CommandList, AllocError>
+        ensures { IfOk result (λ list. list ≡ []) }
     {
-        Ok(Given {
+        Ok(CommandList {
             items: Vec::with_capacity(alloc, MOST_COMMANDS)?,
         })
     }
