@@ -76,44 +76,68 @@ fn compiled(alloc: Global, text: &[u8]) -> Result<Verified, Fail> {
     Ok(compile(alloc, &checked)?)
 }
 
-// How the passes of the first seconds end, and how many commands each gives; a detector and what it reads in each second.
-fn passes<L: Ledger>(
+// A second with a detector and what it reads, how the pass is to end, with the line of a fault, and what it is to command.
+#[derive(Clone, Copy)]
+struct Second {
+    detector: i32,
+    reads: i32,
+    fault: Option<(FaultKind, u32)>,
+    commands: &'static [Command],
+}
+
+fn end(fault: Option<(FaultKind, u32)>) -> PassEnd {
+    match fault {
+        Some((kind, line)) => PassEnd::Fault(Fault { kind, line }),
+        None => PassEnd::Done,
+    }
+}
+
+// The first second, from 1, whose pass ends or commands otherwise than it must. A command of second n, where there is one,
+// is to clear detector n.
+fn first_failing_second<L: Ledger>(
     alloc: Global,
     code: Verified,
-    seconds: &[(i32, i32)],
+    seconds: &[Second],
     blank: Blank,
-) -> Result<Vec<(PassEnd, usize)>, Fail>
+) -> Result<Option<u8>, Fail>
     requires name { blank.name ≡ L.name }
     requires parts { blank.parts ≡ L.parts }
     requires some { 0 < L.parts }
 {
     let mut vm = Vm::new(alloc, code)?;
     let mut steps = Steps::<L>::new(blank);
-    let mut ends = Vec::new(alloc);
-    for second in 0..6usize {
-        let Some((detector, reads)) = seconds.get(second).copied() else {
-            return Ok(ends);
+    for before in 0..6u8 {
+        let Some(second) = seconds.get(usize::from(before)) else {
+            return Ok(None);
         };
         let world = Table {
-            detector,
-            reads,
-            given: Command::ClearFronts(DetNo(1)),
+            detector: second.detector,
+            reads: second.reads,
+            given: Command::ClearFronts(DetNo(before + 1)),
         };
         vm.begin_second();
-        let end = vm.pass(&world, &mut steps);
-        ends.push((end, vm.commands().len()))?;
+        let ended = vm.pass(&world, &mut steps);
+        if ended != end(second.fault) || vm.commands() != second.commands {
+            return Ok(Some(before + 1));
+        }
     }
-    Ok(ends)
+    Ok(None)
 }
 
-// A code with the fault of its first pass and the line of that, and how many commands the pass gives.
-type Case = (&'static [Instr], Option<(FaultKind, u32)>, usize);
+// A code with the fault of its first pass and the line of that, and what the pass commands. Detector 1 reads 5.
+#[derive(Clone, Copy)]
+struct Case {
+    name: &'static str,
+    instrs: &'static [Instr],
+    fault: Option<(FaultKind, u32)>,
+    commands: &'static [Command],
+}
 
-const CODES: [Case; 16] = [
-    (&[Tick(1), Jump(0)], Some((FaultKind::Budget, 1)), 0),
-    // A quotient is rounded toward 0: 1 / (-7 / 2 + 4) is 1, and no division by 0.
-    (
-        &[
+const VALUES: [Case; 5] = [
+    // 1 / (-7 / 2 + 4) is 1, and no division by 0.
+    Case {
+        name: "a quotient is cut toward 0",
+        instrs: &[
             Tick(1),
             Push(1),
             Push(-7),
@@ -125,25 +149,28 @@ const CODES: [Case; 16] = [
             Store(0),
             Ret,
         ],
-        None,
-        0,
-    ),
-    (
-        &[
+        fault: None,
+        commands: &[],
+    },
+    Case {
+        name: "a reading",
+        instrs: &[
             Tick(1),
+            Push(1),
             Push(1),
             Read(ReadingKind::FrontEnds),
             Push(5),
             Sub,
+            Div,
             Store(0),
             Ret,
         ],
-        None,
-        0,
-    ),
-    // The cell that was set is read again.
-    (
-        &[
+        fault: Some((FaultKind::ZeroDivisor, 1)),
+        commands: &[],
+    },
+    Case {
+        name: "a cell that was set is read again",
+        instrs: &[
             Tick(2),
             Push(2),
             Push(7),
@@ -157,71 +184,97 @@ const CODES: [Case; 16] = [
             Store(0),
             Ret,
         ],
-        Some((FaultKind::ZeroDivisor, 2)),
-        0,
-    ),
-    (
-        &[Tick(3), Push(i32::MAX), Push(1), Add, Store(0), Ret],
-        Some((FaultKind::Overflow, 3)),
-        0,
-    ),
-    (
-        &[Tick(3), Push(i32::MIN), Neg, Store(0), Ret],
-        Some((FaultKind::Overflow, 3)),
-        0,
-    ),
-    (
-        &[Tick(3), Push(i32::MIN), Push(-1), Div, Store(0), Ret],
-        Some((FaultKind::Overflow, 3)),
-        0,
-    ),
-    // Both sides of an AND have their value.
-    (
-        &[Tick(3), Push(0), Push(1), Push(0), Div, And, Store(0), Ret],
-        Some((FaultKind::ZeroDivisor, 3)),
-        0,
-    ),
-    (
-        &[Tick(4), Push(0), Cell(0), Store(0), Ret],
-        Some((FaultKind::Index, 4)),
-        0,
-    ),
-    (
-        &[Tick(4), Push(3), Push(1), SetCell(0), Ret],
-        Some((FaultKind::Index, 4)),
-        0,
-    ),
-    (
-        &[
+        fault: Some((FaultKind::ZeroDivisor, 2)),
+        commands: &[],
+    },
+    Case {
+        name: "the argument that was pushed first comes first",
+        instrs: &[
+            Tick(6),
+            Push(1),
+            Push(65),
+            Read(ReadingKind::InterstageActive),
+            Store(0),
+            Ret,
+        ],
+        fault: None,
+        commands: &[],
+    },
+    Case {
+        name: "a command",
+        instrs: &[Tick(1), Push(1), Push(2), Do(CommandKind::Interstage), Ret],
+        fault: None,
+        commands: &[Command::ClearFronts(DetNo(1))],
+    },
+];
+
+const FAULTS_OF_NUMBERS: [Case; 5] = [
+    Case {
+        name: "a loop spends all units",
+        instrs: &[Tick(1), Jump(0)],
+        fault: Some((FaultKind::Budget, 1)),
+        commands: &[],
+    },
+    Case {
+        name: "a sum that is too large",
+        instrs: &[Tick(3), Push(i32::MAX), Push(1), Add, Store(0), Ret],
+        fault: Some((FaultKind::Overflow, 3)),
+        commands: &[],
+    },
+    Case {
+        name: "the least number with the other sign",
+        instrs: &[Tick(3), Push(i32::MIN), Neg, Store(0), Ret],
+        fault: Some((FaultKind::Overflow, 3)),
+        commands: &[],
+    },
+    Case {
+        name: "the least number over -1",
+        instrs: &[Tick(3), Push(i32::MIN), Push(-1), Div, Store(0), Ret],
+        fault: Some((FaultKind::Overflow, 3)),
+        commands: &[],
+    },
+    Case {
+        name: "both sides of an AND have their value",
+        instrs: &[Tick(3), Push(0), Push(1), Push(0), Div, And, Store(0), Ret],
+        fault: Some((FaultKind::ZeroDivisor, 3)),
+        commands: &[],
+    },
+];
+
+const FAULTS_OF_NAMES: [Case; 6] = [
+    Case {
+        name: "cell 0",
+        instrs: &[Tick(4), Push(0), Cell(0), Store(0), Ret],
+        fault: Some((FaultKind::Index, 4)),
+        commands: &[],
+    },
+    Case {
+        name: "a cell after the last is set",
+        instrs: &[Tick(4), Push(3), Push(1), SetCell(0), Ret],
+        fault: Some((FaultKind::Index, 4)),
+        commands: &[],
+    },
+    Case {
+        name: "a reading of no detector",
+        instrs: &[
             Tick(5),
             Push(65),
             Read(ReadingKind::Detection),
             Store(0),
             Ret,
         ],
-        Some((FaultKind::Number, 5)),
-        0,
-    ),
-    (
-        &[Tick(5), Push(2), Do(CommandKind::SgGreen), Ret],
-        Some((FaultKind::Number, 5)),
-        0,
-    ),
-    // The argument that was pushed first comes first.
-    (
-        &[
-            Tick(6),
-            Push(1),
-            Push(65),
-            Read(ReadingKind::InterstageActive),
-            Store(0),
-            Ret,
-        ],
-        None,
-        0,
-    ),
-    (
-        &[
+        fault: Some((FaultKind::Number, 5)),
+        commands: &[],
+    },
+    Case {
+        name: "a command for no group",
+        instrs: &[Tick(5), Push(2), Do(CommandKind::SgGreen), Ret],
+        fault: Some((FaultKind::Number, 5)),
+        commands: &[],
+    },
+    Case {
+        name: "a reading from no stage",
+        instrs: &[
             Tick(6),
             Push(65),
             Push(1),
@@ -229,36 +282,51 @@ const CODES: [Case; 16] = [
             Store(0),
             Ret,
         ],
-        Some((FaultKind::Number, 6)),
-        0,
-    ),
-    (
-        &[Tick(6), Push(2), Push(1), Do(CommandKind::Interstage), Ret],
-        Some((FaultKind::Number, 6)),
-        0,
-    ),
-    (
-        &[Tick(1), Push(1), Push(2), Do(CommandKind::Interstage), Ret],
-        None,
-        1,
-    ),
+        fault: Some((FaultKind::Number, 6)),
+        commands: &[],
+    },
+    Case {
+        name: "an interstage from no stage",
+        instrs: &[Tick(6), Push(2), Push(1), Do(CommandKind::Interstage), Ret],
+        fault: Some((FaultKind::Number, 6)),
+        commands: &[],
+    },
 ];
 
-fn end(fault: Option<(FaultKind, u32)>) -> PassEnd {
-    match fault {
-        Some((kind, line)) => PassEnd::Fault(Fault { kind, line }),
-        None => PassEnd::Done,
+// The name of a case whose pass ends or commands otherwise than it must.
+fn name_if_failing<L: Ledger>(
+    alloc: Global,
+    case: &Case,
+    blank: Blank,
+) -> Result<Option<&'static str>, Fail>
+    requires name { blank.name ≡ L.name }
+    requires parts { blank.parts ≡ L.parts }
+    requires some { 0 < L.parts }
+{
+    let Some(code) = verified(alloc, case.instrs)? else {
+        return Err(Fail::new("refused"));
+    };
+    let second = Second {
+        detector: 1,
+        reads: 5,
+        fault: case.fault,
+        commands: case.commands,
+    };
+    match first_failing_second::<L>(alloc, code, &[second], blank)? {
+        Some(_) => Ok(Some(case.name)),
+        None => Ok(None),
     }
 }
 
 #[test]
 fn a_pass_ends_as_its_code_says(rt: HostRuntime) -> Result<(), Fail> {
-    for (instrs, fault, commands) in CODES {
-        let Some(code) = verified(rt.alloc(), instrs)? else {
-            return Err(Fail::new("refused"));
-        };
-        let ends = passes::<Brand>(rt.alloc(), code, &[(1, 5)], Blank::new(1))?;
-        assert_eq!(rt; ends.as_slice(), &[(end(fault), commands)][..]);
+    for cases in [&VALUES[..], &FAULTS_OF_NUMBERS[..], &FAULTS_OF_NAMES[..]] {
+        for case in cases {
+            assert_eq!(rt;
+                name_if_failing::<Brand>(rt.alloc(), case, Blank::new(1))?,
+                None
+            );
+        }
     }
     Ok(())
 }
@@ -299,25 +367,85 @@ const PROGRAM: [Instr; 32] = [
     Ret,
 ];
 
-const TIMED: [(i32, i32); 5] = [(1, 2), (1, 0), (1, 0), (1, 0), (1, 0)];
-
 // A fault drops all that the pass did but the counting of timers.
-const TIMED_ENDS: [(Option<(FaultKind, u32)>, usize); 5] = [
-    (None, 0),
-    (None, 0),
-    (None, 1),
-    (Some((FaultKind::ZeroDivisor, 7)), 0),
-    (Some((FaultKind::ZeroDivisor, 7)), 0),
+const TIMED: [Second; 5] = [
+    Second {
+        detector: 1,
+        reads: 2,
+        fault: None,
+        commands: &[],
+    },
+    Second {
+        detector: 1,
+        reads: 0,
+        fault: None,
+        commands: &[],
+    },
+    Second {
+        detector: 1,
+        reads: 0,
+        fault: None,
+        commands: &[Command::ClearFronts(DetNo(3))],
+    },
+    Second {
+        detector: 1,
+        reads: 0,
+        fault: Some((FaultKind::ZeroDivisor, 7)),
+        commands: &[],
+    },
+    Second {
+        detector: 1,
+        reads: 0,
+        fault: Some((FaultKind::ZeroDivisor, 7)),
+        commands: &[],
+    },
 ];
 
-const FAULT_ENDS: [(Option<(FaultKind, u32)>, usize); 6] = [
-    (Some((FaultKind::Overflow, 4)), 0),
-    (Some((FaultKind::ZeroDivisor, 5)), 0),
-    (Some((FaultKind::Index, 6)), 0),
-    (Some((FaultKind::Number, 7)), 0),
-    (None, 0),
-    (None, 1),
+const FAULT_SECONDS: [Second; 6] = [
+    Second {
+        detector: 1,
+        reads: 1,
+        fault: Some((FaultKind::Overflow, 4)),
+        commands: &[],
+    },
+    Second {
+        detector: 2,
+        reads: 1,
+        fault: Some((FaultKind::ZeroDivisor, 5)),
+        commands: &[],
+    },
+    Second {
+        detector: 3,
+        reads: 1,
+        fault: Some((FaultKind::Index, 6)),
+        commands: &[],
+    },
+    Second {
+        detector: 4,
+        reads: 1,
+        fault: Some((FaultKind::Number, 7)),
+        commands: &[],
+    },
+    Second {
+        detector: 5,
+        reads: 1,
+        fault: None,
+        commands: &[],
+    },
+    Second {
+        detector: 6,
+        reads: 1,
+        fault: None,
+        commands: &[Command::ClearFronts(DetNo(6))],
+    },
 ];
+
+const DIVIDED: [Second; 1] = [Second {
+    detector: 1,
+    reads: 1,
+    fault: Some((FaultKind::ZeroDivisor, 2)),
+    commands: &[],
+}];
 
 #[test]
 fn passes_end_as_their_programs_say(rt: HostRuntime) -> Result<(), Fail> {
@@ -325,18 +453,17 @@ fn passes_end_as_their_programs_say(rt: HostRuntime) -> Result<(), Fail> {
     let Some(timed) = verified(alloc, &PROGRAM)? else {
         return Err(Fail::new("refused"));
     };
-    let faults = [(1, 1), (2, 1), (3, 1), (4, 1), (5, 1), (6, 1)];
-    let divided = [(Some((FaultKind::ZeroDivisor, 2)), 0)];
-    for (code, seconds, wanted) in [
-        (timed, &TIMED[..], &TIMED_ENDS[..]),
-        (compiled(alloc, FAULTS)?, &faults[..], &FAULT_ENDS[..]),
-        (compiled(alloc, BOTH_SIDES)?, &faults[..1], &divided[..]),
+    for (name, code, seconds) in [
+        ("a timer", timed, &TIMED[..]),
+        ("the faults", compiled(alloc, FAULTS)?, &FAULT_SECONDS[..]),
+        (
+            "both sides of AND",
+            compiled(alloc, BOTH_SIDES)?,
+            &DIVIDED[..],
+        ),
     ] {
-        let ends = passes::<Brand>(alloc, code, seconds, Blank::new(1))?;
-        assert_eq!(rt; ends.len(), wanted.len());
-        for (found, (fault, commands)) in ends.iter().zip(wanted.iter()) {
-            assert_eq!(rt; *found, (end(*fault), *commands));
-        }
+        let failing = first_failing_second::<Brand>(alloc, code, seconds, Blank::new(1))?;
+        assert_eq!(rt; failing, None, "{name}");
     }
     Ok(())
 }
