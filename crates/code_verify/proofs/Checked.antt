@@ -5,7 +5,7 @@ use Rattle.std.proofs.lemmas.Bool.{cases_lt}
 use Rattle.vap_code.specs.Codes.{CodeOf}
 use Rattle.vap_code.specs.declared.VerifyWhy.{VerifyWhy}
 use Rattle.vap_code.specs.declared.VerifyWhy.TheVariants.{JumpOut, BackToNoTick, Height, Slot, CallOrder, EdgeToNoTick, FallsOff, Stretch, Shape, Commands}
-use Rattle.vap_code.specs.Valid.{Valid, Passed, FirstBroken, FitsCheck, HasShape, Within, check_rank, target, instr_at, is_tick, routine_of}
+use Rattle.vap_code.specs.Valid.{Valid, Passed, FitsCheck, HasShape, Within, check_rank, target, instr_at, is_tick, routine_of}
 use Rattle.code_verify.specs.Tables.{JumpsAhead}
 
 -- the check with this rank
