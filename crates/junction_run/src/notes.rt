@@ -10,18 +10,15 @@ ghost use Rattle.junction_run.specs.Notes.{load_note, play_note, stop_note};
 use crate::reasons::{Told, reason, stream_reason};
 use crate::stop::{LoadStop, PlayStop, Stop};
 use itoa::Buffer;
-use sig_io::{Sink, put_all};
+use sig_io::{Sink, put_each};
 
-// Writes the pieces one after another, up to a fault.
+// Writes a note of these pieces. One of at most 4,096 bytes is given to the sink whole, so that runs which share a standard
+// error don't mix their notes. A fault changes nothing else.
 fn write_pieces<N: Sink>(pieces: &[&[u8]], notes: &mut N)
     ensures { (Rose (N.faults notes.old) (N.faults notes.new) → ⊥) →
         N.taken notes.new ≡ append_known (N.taken notes.old) (flat_map (λ piece. piece.now) pieces.now) }
 {
-    for piece in pieces {
-        if !piece.is_empty() && put_all(notes, piece).is_err() {
-            return;
-        }
-    }
+    let _fault = put_each(notes, pieces);
 }
 
 /// Writes the note of words that are no form.

@@ -201,7 +201,8 @@ pub fn files(alloc: Global, case: &Case<'_>) -> Result<Vec<(String, Vec<u8>)>, A
     Ok(files)
 }
 
-/// What words answer over these files and this output, with the notes.
+/// What words answer over these files and this output, with the notes. A note is given to its sink at once, which fails at a
+/// second call.
 pub fn answer<F: Files, O: Sink>(
     alloc: Global,
     words: &[&str],
@@ -209,7 +210,9 @@ pub fn answer<F: Files, O: Sink>(
     out: &mut O,
 ) -> Result<(Status, MemSink), Fail> {
     let words = texts(alloc, words)?;
-    let mut notes = MemSink::new(alloc, 1000, Vec::new(alloc))?;
+    let mut failing = Vec::new(alloc);
+    failing.push(1)?;
+    let mut notes = MemSink::new(alloc, 1000, failing)?;
     let status = junction(alloc, &words, files, out, &mut notes);
     Ok((status, notes))
 }
