@@ -56,6 +56,21 @@ begins start now lines told name old new first later u = λ file is. reads_front
 pub takes_next : (p : Playing) (frames : List Counts) (f : Counts) → Takes frames f → Takes (past_at p frames).frames f
 takes_next p frames f takes = subst (λ fs. Takes fs f) (sym (frames_at p.logic p.site (opening p.site p.store) frames)) takes
 
+-- what was held has gone, and no second was made
+pub sent : {start now : Controller} {lines : Lines} {told : Option Contents} {name : List ℕ} {old mid new : Option (List ℕ)} {first held later : Held} →
+    Underway start now lines told name old mid first held → ((begin : Option (List ℕ)) (text : List ℕ) → IsDraft begin mid held text → IsDraft begin new later text) →
+    Underway start now lines told name old new first later
+sent {start} u goes = record {
+  frames = u.frames;
+  gave = u.gave;
+  reads = u.reads;
+  site = u.site;
+  logic_is = u.logic_is;
+  plan = u.plan;
+  stands = u.stands;
+  put = λ store begin s d. goes begin (log_of (playing_of start store) u.frames) (u.put store begin s d);
+}
+
 -- one second more
 pub one_more : (start now next : Controller) (lines lines' : Lines) (told : Option Contents) (name : List ℕ) (old mid new : Option (List ℕ)) (first held later : Held)
     (f : Counts) (r : Record) (names : List (List ℕ)) (u : Underway start now lines told name old mid first held) →

@@ -1,5 +1,5 @@
 // The seconds of a run.
-ghost use Rattle.std.specs.Prelude.{◌≡◌, ◌≤◌, ◌<◌, ◌+◌, ◌*◌, ◌^◌, [], ℕ, List, true, Option, IfErr};
+ghost use Rattle.std.specs.Prelude.{◌≡◌, ◌≤◌, ◌<◌, ◌+◌, ◌*◌, ◌^◌, [], ℕ, List, true, false, Option, IfErr};
 ghost use Rattle.std.specs.Option.{ForSome};
 ghost use Rattle.sig_io.specs.Draft.{IsDraft, FailsOnly};
 ghost use Rattle.sig_io.specs.Outside.{Rose};
@@ -7,7 +7,7 @@ ghost use Rattle.sig_types.specs.Counts.{Counts};
 ghost use Rattle.sig_types.specs.Pass.{Store};
 ghost use Rattle.controller.specs.Past.{opening};
 ghost use Rattle.controller.specs.Controls.{StandsFor, site_of};
-ghost use Rattle.det_stream.specs.Answers.{Gave, Reads, is_live, name_of, second_of};
+ghost use Rattle.det_stream.specs.Answers.{Gave, Reads, is_live, is_ready, name_of, second_of};
 ghost use Rattle.det_stream.specs.Stream.{stream_of};
 ghost use Rattle.junction_run.specs.Played.{playing_of, IsPlayed, IsPlayStop, IsWritten};
 ghost use Rattle.junction_run.specs.Records.{log_of};
@@ -19,6 +19,20 @@ use controller::Controller;
 use det_stream::{Lines, StreamRefusal};
 use sig_io::{Draft, Files, Sink};
 use signal_log::{put_header, put_second};
+
+// Lets what was made go out before the detector file is asked for bytes, which may wait for whoever writes it.
+fn send_before_wait<O: Sink>(lines: &Lines, draft: &mut Draft, out: &mut O)
+    requires room { draft.old.gone < 2 ^ 62 }
+    ensures text { (start : Option (List ℕ)) (text : List ℕ) → IsDraft start (O.taken out.old) draft.old text →
+        IsDraft start (O.taken out.new) draft.new text }
+    ensures sent { is_ready lines.now ≡ false → draft.new.failed ≡ false → draft.new.bytes ≡ [] }
+    ensures gone { draft.new.gone ≤ draft.old.gone + 4096 }
+    ensures cause { FailsOnly (O.faults out.old) (O.faults out.new) draft.old.failed draft.new.failed }
+{
+    if !lines.is_ready() {
+        draft.send(out);
+    }
+}
 
 // Makes a second for each line of the detector file, and puts its record, up to the end of the file, a refused line, a fault
 // of the file or a fault of the sink.
@@ -49,6 +63,10 @@ fn put_seconds<'a, F: Files, O: Sink>(
     ensures cause { FailsOnly (O.faults out.old) (O.faults out.new) draft.old.failed draft.new.failed }
 {
     loop {
+        send_before_wait(lines, draft, out);
+        if draft.failed() {
+            return Err(PlayStop::WriteFault);
+        }
         match lines.next_frame(files) {
             Ok(true) => {}
             Ok(false) => return Ok(()),
@@ -60,14 +78,11 @@ fn put_seconds<'a, F: Files, O: Sink>(
         }
         controller.second(lines.frame());
         put_second(controller.last(), controller.plan(), draft, out);
-        if draft.failed() {
-            return Err(PlayStop::WriteFault);
-        }
     }
 }
 
 /// Writes the header, and then makes a second for each line of the detector file and writes its record. All goes through one
-/// draft, and what is held goes out before each return.
+/// draft, and what is held goes out before the detector file is asked for more bytes, and before each return.
 pub(crate) fn play<'a, F: Files, O: Sink>(
     controller: &mut Controller,
     lines: &mut Lines,

@@ -5,3 +5,5 @@
 mod runs;
 #[cfg(test)]
 mod samples;
+#[cfg(test)]
+mod steps;

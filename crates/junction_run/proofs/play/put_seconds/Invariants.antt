@@ -4,16 +4,16 @@ use Rattle.det_stream.specs.Answers.{is_live, name_of, second_of}
 use Rattle.junction_run.proofs.Plays.{Underway}
 use Rattle.junction_run.proofs.play.put_seconds.Given as goal
 
-abbrev pub invariant-loop-line : goal.invariant-loop-line
-invariant-loop-line g l =
+abbrev pub invariant-loop-lines : goal.invariant-loop-lines
+invariant-loop-lines g l =
     Underway l.fn.controller l.controller l.lines (g.F.Files.told l.fn.files) (name_of l.fn.lines) (g.O.Sink.taken l.fn.out) (g.O.Sink.taken l.out) l.fn.draft l.draft
     × (g.F.Files.told l.files ≡ g.F.Files.told l.fn.files)
     × (name_of l.lines ≡ name_of l.fn.lines)
     × (is_live l.lines ≡ true)
     × (second_of l.lines ≤ 604800)
-    × (l.draft.gone ≤ 268435456 * (second_of l.lines + 1))
+    × (l.draft.gone ≤ 268439552 * second_of l.lines + 268435456)
     × (g.F.Files.faults l.fn.files ≤ g.F.Files.faults l.files)
     × FailsOnly (g.O.Sink.faults l.fn.out) (g.O.Sink.faults l.out) l.fn.draft.failed l.draft.failed
 
-abbrev pub decreases-loop-line : goal.decreases-loop-line
-decreases-loop-line g l = 604801 - second_of l.lines
+abbrev pub decreases-loop-lines : goal.decreases-loop-lines
+decreases-loop-lines g l = 604801 - second_of l.lines
