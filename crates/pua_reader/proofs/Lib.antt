@@ -13,3 +13,4 @@ pub mod Reading
 pub mod Lowered
 pub mod RowsSaid
 pub mod InterstagesSaid
+pub mod PlansKept

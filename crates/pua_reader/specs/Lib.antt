@@ -9,3 +9,4 @@ pub mod SectionRows
 pub mod InterstageRows
 pub mod Views
 pub mod Legal
+pub mod Laws

@@ -13,6 +13,6 @@ mod stages;
 mod twins;
 mod words;
 
-pub use laws::{interstages_are_their_sections, plan_says_its_rows};
+pub use laws::{interstages_are_their_sections, plan_says_its_rows, plans_are_whole};
 pub use reader::read_plan;
 pub use refusal::{PuaRefusal, PuaWhy};
