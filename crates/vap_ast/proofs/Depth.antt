@@ -13,14 +13,14 @@ AtMost u (Done s left) = left ≤ u
 AtMost u (Faulted kind line) = Unit {0}
 
 -- one meaning of the items, for units up to a number
-abbrev Next : Type 0
+abbrev pub Next : Type 0
 Next = Items → Items → Store → ℕ → Outcome
 
 more : (u v : ℕ) (o : Outcome) → u ≤ v → AtMost u o → AtMost v o
 more u v (Done s left) le h = omega arith
 more u v (Faulted kind line) le h = tt
 
-at_step_all : (P : Outcome → Type 0) (todo : Items) (done : Outcome) (go : ℕ → Stmt → Items → Outcome) → P done → ((n : ℕ) (what : Stmt) (rest : Items) → P (go n what rest)) → P (at_step todo done go)
+pub at_step_all : (P : Outcome → Type 0) (todo : Items) (done : Outcome) (go : ℕ → Stmt → Items → Outcome) → P done → ((n : ℕ) (what : Stmt) (rest : Items) → P (go n what rest)) → P (at_step todo done go)
 at_step_all P Items.none done go d f = d
 at_step_all P (Items.next (Item.Label name line) rest) done go d f = at_step_all P rest done go d f
 at_step_all P (Items.next (Item.Step line what) rest) done go d f = f line what rest
@@ -30,7 +30,7 @@ at_step_same Items.none done f g h = refl
 at_step_same (Items.next (Item.Label name line) rest) done f g h = at_step_same rest done f g h
 at_step_same (Items.next (Item.Step line what) rest) done f g h = h line what rest
 
-or_fault_all : {A : Type 0} (P : Outcome → Type 0) (line : ℕ) (r : Result A FaultKind) (go : A → Outcome) → ((kind : FaultKind) → P (Faulted kind line)) → ((v : A) → P (go v)) → P (or_fault line r go)
+pub or_fault_all : {A : Type 0} (P : Outcome → Type 0) (line : ℕ) (r : Result A FaultKind) (go : A → Outcome) → ((kind : FaultKind) → P (Faulted kind line)) → ((v : A) → P (go v)) → P (or_fault line r go)
 or_fault_all P line (Ok v) go bad f = f v
 or_fault_all P line (Err kind) go bad f = bad kind
 

@@ -4,3 +4,4 @@ pub mod Shape
 mod ValueSamples
 mod ProgramSamples
 mod Stores
+mod CommandsGiven

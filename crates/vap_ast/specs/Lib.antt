@@ -9,3 +9,4 @@ pub mod Passes
 pub mod Sizes
 pub mod Sound
 pub mod Parsed
+pub mod Given
