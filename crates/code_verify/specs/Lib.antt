@@ -3,3 +3,4 @@ pub mod First
 pub mod Room
 pub mod Shape
 pub mod Tables
+pub mod Given

@@ -8,12 +8,14 @@ ghost use Rattle.code_verify.specs.First.{SomeIsFirst, OneIsFirst, ValidBreaksNo
 mod checks;
 mod first;
 mod instrs;
+mod laws;
 mod places;
 mod shape;
 mod tables;
 mod verified;
 
 pub use first::{VerifyRefusal, verify};
+pub use laws::valid_code_gives_few_commands;
 pub use vap_code::VerifyWhy;
 pub use verified::Verified;
 
