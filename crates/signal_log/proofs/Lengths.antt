@@ -1,13 +1,14 @@
 -- How long the line of a record can be.
 use Rattle.std.proofs.Common.{◌≡◌, ℕ, zero, suc, ◌+◌, ◌*◌, ◌<◌, ◌≤◌, ◌/◌, ◌%◌, Bool, true, false, List, [], ◌∷◌, ◌++◌, length, map, codes, if◌then◌else◌, ◌==◌, ◌&&◌, nat_le, All, Option, Some, None, arith, length-append}
 use Rattle.std.specs.Prelude.{slice_index_or}
+use Rattle.std.specs.List.{flat_map}
 use Rattle.std.specs.Fmt.{decimal, digits, digits_onto, digit_glyph}
 use Rattle.std.proofs.lemmas.Fmt.{length-decimal-le}
 use Rattle.std.proofs.lemmas.List.{length-map}
 use Rattle.std.proofs.lemmas.Bool.{and_parts, leb-true}
 use Rattle.pua_model.specs.Plan.{are_names}
 use Rattle.sig_types.specs.Text.{is_name, is_word, is_letter}
-use Rattle.sig_types.specs.LogForm.{letter}
+use Rattle.sig_types.specs.LogForm.{header_line, letter, spaced}
 use Rattle.sig_types.specs.declared.aspect.Rule.{Rule}
 use Rattle.sig_types.specs.declared.aspect.Rule.TheVariants.{Sequence, MinGreen, MinRed, Conflict, Intergreen, Running, WrongStage, NoInterstage}
 use Rattle.sig_types.specs.declared.kinds.FaultKind.{FaultKind}
@@ -19,7 +20,7 @@ use Rattle.sig_types.specs.declared.refused.Fault.{Fault}
 use Rattle.sig_types.specs.declared.numbers.StagePlace.{StagePlace}
 use Rattle.sig_types.specs.declared.numbers.StagePlace.TheVariants.{NoPlan, Stage, Inter}
 use Rattle.signal_log.specs.Log.{rule_name, fault_name, place_text, name_of, stage_refusal_text, other_text, other_of, turn_text, refused_texts, fault_text, gap, listed, parted, count_text, counted, counted_from}
-use Rattle.signal_log.specs.Laws.{LinesAreShort}
+use Rattle.signal_log.specs.Laws.{HeaderIsShort, LinesAreShort}
 
 -- ---- numbers
 
@@ -164,6 +165,19 @@ turns_short names (turn ∷ turns) t =
     (rule_short turn.rule))
     (other_short names (other_of turn.rule turn.other) t) in
     omega (arith, text, turns_short names turns t)
+
+-- ---- the header
+
+spaced_short : (names : List (List ℕ)) → are_names names ≡ true → length (flat_map spaced names) ≤ 33 * length names
+spaced_short [] named = omega arith
+spaced_short (n ∷ ns) named =
+    let both = and_parts (is_name n) (are_names ns) named in
+    omega (arith, length-append (spaced n) (flat_map spaced ns), name_short n both.0, spaced_short ns both.1)
+
+pub header_is_short : HeaderIsShort
+unfolding header_line
+header_is_short names named groups =
+    omega (arith, length-append (codes "VAPLOG 1") (flat_map spaced names), spaced_short names named, groups)
 
 -- ---- the line
 

@@ -9,7 +9,7 @@ use Rattle.pua_model.specs.Plan.{are_names}
 use Rattle.sig_types.specs.LogForm.{header_line, letter, spaced}
 use Rattle.sig_types.specs.Text.{fed_lines, lines_of_parts}
 use Rattle.sig_types.specs.declared.record.Record.{Record}
-use Rattle.signal_log.specs.Laws.{Lacks, LinesBegin, LogHasLines}
+use Rattle.signal_log.specs.Laws.{Lacks, LinesBegin, LinesHaveNoFeed, LogHasLines}
 use Rattle.signal_log.specs.Log.{place_text, parted, count_text, counted_from, refused_texts, fault_text, header_text, record_line, record_text, records_text, log_text}
 use Rattle.signal_log.proofs.FieldTexts.{letters_plain, place_plain, parted_plain, counts_plain, refused_plain, fault_plain, spaced_plain}
 use Rattle.signal_log.proofs.Plain.{Plain, plain_without, no_bar, no_feed, decimal_plain}
@@ -60,6 +60,9 @@ unfolding header_line
 header_lacks names named =
     without_lacks 10 (header_line names)
     (without-append 10 (codes "VAPLOG 1") (flat_map spaced names) (without_by_test 10 (codes "VAPLOG 1") refl) (unfed (flat_map spaced names) (spaced_plain names named)))
+
+pub lines_have_no_feed : LinesHaveNoFeed
+lines_have_no_feed names named = (header_lacks names named, λ r. line_lacks names r named)
 
 -- one line, and those after it
 parts_more : (x : List ℕ) (parts : List (List ℕ)) → 0 < length parts → lines_of_parts (x ∷ parts) ≡ x ∷ lines_of_parts parts

@@ -62,6 +62,14 @@ abbrev pub LinesAreShort : Type 0
 LinesAreShort = (names : List (List ℕ)) (r : Record) → are_names names ≡ true → length names ≤ 64 → IsRecord (length names) r →
     IsBounded r → length (record_line names r) ≤ 262144
 
+-- the header of at most 64 groups has at most 262,144 bytes
+abbrev pub HeaderIsShort : Type 0
+HeaderIsShort = (names : List (List ℕ)) → are_names names ≡ true → length names ≤ 64 → length (header_line names) ≤ 262144
+
+-- no line feed stands in the header or in the line of a record
+abbrev pub LinesHaveNoFeed : Type 0
+LinesHaveNoFeed = (names : List (List ℕ)) → are_names names ≡ true → Lacks 10 (header_line names) × ((r : Record) → Lacks 10 (record_line names r))
+
 -- the line of a record begins with its second, a place without a bar and its letters, each before a bar
 pub record Begins (r : Record) (line : List ℕ) : Type 0 where
   pub rest : List ℕ
