@@ -9,4 +9,4 @@ pub mod Routines
 pub mod Sample
 pub mod ShapeFacts
 pub mod TableFacts
-mod CommandsGiven
+pub mod CommandsGiven

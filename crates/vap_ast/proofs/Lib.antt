@@ -4,4 +4,4 @@ pub mod Shape
 mod ValueSamples
 mod ProgramSamples
 mod Stores
-mod CommandsGiven
+pub mod CommandsGiven
