@@ -9,7 +9,12 @@ use test_texts::programs::JUMP;
 
 // Whether files were asked for in this order up to a call that failed, and for nothing after it: plan, times, intergreens, the
 // first file of the words, detectors, each by the first letter of its name; and whether the note names the last one.
-fn is_asked(alloc: Global, asked: &[u8], words: &[&str], note: &[u8]) -> Result<bool, Fail> {
+pub(crate) fn is_asked(
+    alloc: Global,
+    asked: &[u8],
+    words: &[&str],
+    note: &[u8],
+) -> Result<bool, Fail> {
     let Some((last, before)) = asked.split_last() else {
         return Ok(false);
     };

@@ -1,5 +1,5 @@
-//! Tests of hostile use: code files of whoever wrote them, texts that are refused at their lines, and each read and each write
-//! of a run failing in turn.
+//! Tests of hostile use: code files and logs of whoever wrote them, texts that are refused at their lines, and each read and each
+//! write of a run and of an audit failing in turn.
 #![tactic(auto)]
 
 #[cfg(test)]
@@ -8,3 +8,5 @@ mod codes;
 mod faults;
 #[cfg(test)]
 mod hostile;
+#[cfg(test)]
+mod logs;

@@ -35,6 +35,7 @@ use Rattle.sig_io.proofs.Drafts.{cut_more}
 use Rattle.sig_types.specs.Counts.{Counts}
 use Rattle.det_stream.specs.Stream.{Stream, stream_of}
 use Rattle.junction_run.specs.declared.status.Status.TheVariants as status
+use Rattle.junction_run.specs.declared.stop.LineReason.TheVariants.{Frame, Record}
 use Rattle.junction_run.specs.declared.stop.LoadStop.{LoadStop}
 use Rattle.junction_run.specs.declared.stop.LoadStop.TheVariants as load
 use Rattle.junction_run.specs.declared.stop.PlayStop.{PlayStop}
@@ -49,7 +50,7 @@ use Rattle.junction_run.specs.Loading.{Unloaded, Playing, ReachedInPlay, Reached
 use Rattle.junction_run.specs.Loading as loading
 use Rattle.junction_run.specs.Notes.{IsNote, NoteMeetsBy, load_note, play_note, stop_note}
 use Rattle.junction_run.specs.Played.{IsPlayed, IsPlayedAt, IsPlayStop, IsWritten, WasPlayed, BeginsWith}
-use Rattle.junction_run.specs.Reasons.{reason_text, stream_reason}
+use Rattle.junction_run.specs.Reasons.{reason_text, line_reason}
 use Rattle.junction_run.specs.Records.{log_of}
 use Rattle.junction_run.specs.SiteAnswer.{IsLoadStatus, IsSiteLoad, IsSiteNote}
 use Rattle.junction_run.specs.Sites.{IsSourceLoad}
@@ -83,7 +84,7 @@ among_more files more (load.TooLong w) is = Contains-append_left files more w.no
 plays_among : (files : List (List ℕ)) (word : List ℕ) (stop : PlayStop) → Contains files word → PlaysAt word stop → StopsAmong files (Play stop)
 plays_among files word (play.ReadFault w) is at = subst (λ n. Contains files n) (sym at) is
 plays_among files word play.WriteFault is at = tt
-plays_among files word (play.RefusedLine w line why) is at = subst (λ n. Contains files n) (sym at) is
+plays_among files word (play.RefusedLine w line reason) is at = subst (λ n. Contains files n) (sym at) is
 
 stops_at : (files : List (List ℕ)) (word : List ℕ) (stop : Stop) → Contains files word → StopsAt word stop → StopsAmong files stop
 stops_at files word (Load stop) is at = among files word stop is at
@@ -120,7 +121,7 @@ no_line (load.TooLong w) e = cc
 pub plays_may_write : (stop : PlayStop) → may_write true (play_status stop) ≡ false → ⊥
 plays_may_write (play.ReadFault w) e = cc
 plays_may_write play.WriteFault e = cc
-plays_may_write (play.RefusedLine w line why) e = cc
+plays_may_write (play.RefusedLine w line reason) e = cc
 
 -- no stop is for the words
 pub no_words : (stop : Stop) → status_of stop ≡ status.Words → ⊥
@@ -130,7 +131,7 @@ no_words (Load (load.Refused w line reason)) e = cc
 no_words (Load (load.TooLong w)) e = cc
 no_words (Play (play.ReadFault w)) e = cc
 no_words (Play play.WriteFault) e = cc
-no_words (Play (play.RefusedLine w line why)) e = cc
+no_words (Play (play.RefusedLine w line reason)) e = cc
 
 -- the note of a stop is that of its status
 pub note_among : (files : List (List ℕ)) (stop : LoadStop) → IsAmong files stop → IsNote files (load_status stop) (load_note stop)
@@ -142,7 +143,7 @@ note_among files (load.TooLong w) is = (w.now, is, refl)
 note_played : (files : List (List ℕ)) (stop : PlayStop) → StopsAmong files (Play stop) → IsNote files (play_status stop) (play_note stop)
 note_played files (play.ReadFault w) is = (w.now, is, refl)
 note_played files play.WriteFault is = refl
-note_played files (play.RefusedLine w line why) is = (w.now, line, stream_reason why, is, refl)
+note_played files (play.RefusedLine w line reason) is = (w.now, line, line_reason reason, is, refl)
 
 pub note_is : (files : List (List ℕ)) (stop : Stop) → StopsAmong files stop → IsNote files (status_of stop) (stop_note stop)
 note_is files (Load stop) is = note_among files stop is
@@ -192,7 +193,7 @@ pub played_begins : {A : Type 0} (name : List ℕ) (r : Result A PlayStop) (stre
 played_begins name (Ok x) stream frames is = ([], is.0 ∙ sym (append-nil frames))
 played_begins name (Err (play.ReadFault w)) stream frames is = is.1
 played_begins name (Err play.WriteFault) stream frames is = is
-played_begins name (Err (play.RefusedLine w line why)) stream frames is = ([], is.1 ∙ sym (append-nil frames))
+played_begins name (Err (play.RefusedLine w line reason)) stream frames is = ([], is.1 ∙ sym (append-nil frames))
 
 -- the log of all frames of a stream
 whole_log : (playing : Playing) (stream : Stream) (frames : List Counts) → stream.frames ≡ frames → log_of playing frames ≡ log_of playing (take (length stream.frames) stream.frames)
@@ -224,9 +225,10 @@ stopped_playing A Gives Reached detectors stream playing frames (play.ReadFault 
 )
 stopped_playing A Gives Reached detectors stream playing frames play.WriteFault old new loads reached written is =
     ((Ok playing, loads, _, refl, written.0, cut_whole playing stream frames old new written.0 is written.1), tt)
-stopped_playing A Gives Reached detectors stream playing frames (play.RefusedLine w line why) old new loads reached written is =
+stopped_playing A Gives Reached detectors stream playing frames (play.RefusedLine w line (Record why)) old new loads reached written is = absurd is.2
+stopped_playing A Gives Reached detectors stream playing frames (play.RefusedLine w line (Frame why)) old new loads reached written is =
     let at : stream_status stream.refusal ≡ status.RefusedLine = ap stream_status is.2 in
-    let note : play_note (play.RefusedLine w line why) ≡ stream_note detectors stream.refusal
+    let note : play_note (play.RefusedLine w line (Frame why)) ≡ stream_note detectors stream.refusal
     = ap (λ v. stream_note v (Some (line, why))) is.0 ∙ ap (λ o. stream_note detectors o) (sym is.2) in (
       (Ok playing, loads, at, (log_of playing frames, whole_log playing stream frames is.1, written)),
       (Ok playing, loads, at, note),
@@ -278,14 +280,14 @@ pub written_so : {A : Type 0} (r : Result A PlayStop) (name : List ℕ) (failed 
 written_so (Ok x) name failed log old new stops whole is = is
 written_so (Err (play.ReadFault w)) name failed log old new stops whole is = is
 written_so (Err play.WriteFault) name failed log old new stops whole is = absurd (let e : true ≡ false = sym stops ∙ whole in cc)
-written_so (Err (play.RefusedLine w line why)) name failed log old new stops whole is = is
+written_so (Err (play.RefusedLine w line reason)) name failed log old new stops whole is = is
 
 -- the stops of playing
 pub play_stops : {A : Type 0} (name : List ℕ) (failed : Bool) (r : Result A PlayStop) → IfErr r (λ stop. IsPlayStop name failed stop) → IfErr r (λ stop. PlaysAt name stop)
 play_stops name failed (Ok x) is = tt
 play_stops name failed (Err (play.ReadFault w)) is = is
 play_stops name failed (Err play.WriteFault) is = tt
-play_stops name failed (Err (play.RefusedLine w line why)) is = is
+play_stops name failed (Err (play.RefusedLine w line reason)) is = is
 
 -- causes, one after the other
 pub fails_on : (a b c : ℕ) (x y z : Bool) → FailsOnly a b x y → FailsOnly b c y z → FailsOnly a c x z

@@ -36,7 +36,7 @@ written_guarded : {A : Type 0} (r : Result A PlayStop) (p : Playing) (frames : L
 written_guarded (Ok x) p frames old new is gained = whole p frames old new is gained
 written_guarded (Err (ReadFault w)) p frames old new is gained = whole p frames old new is gained
 written_guarded (Err WriteFault) p frames old new is gained = front p frames gained.0 old new is gained.1.taken
-written_guarded (Err (RefusedLine w line why)) p frames old new is gained = whole p frames old new is gained
+written_guarded (Err (RefusedLine w line reason)) p frames old new is gained = whole p frames old new is gained
 
 -- what was written of a log is guarded
 pub log_guarded : {A : Type 0} (r : Result A PlayStop) (p : Playing) (frames : List Counts) (old new : Option (List ℕ)) → IsTwoWay p.site.rules → p.site.rules.count ≡ groups_in p.site.plan →

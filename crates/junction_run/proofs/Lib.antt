@@ -1,4 +1,6 @@
 pub mod Agree
+pub mod AuditEnds
+pub mod Audits
 pub mod Drawing
 pub mod Ends
 pub mod Guards

@@ -19,7 +19,7 @@ use Rattle.sig_types.specs.Counts.{Counts}
 use Rattle.controller.specs.Guarded.{IsGuardedRun}
 use Rattle.controller.specs.Past.{Site}
 use Rattle.controller.proofs.Guarded.{runs_are_guarded}
-use Rattle.junction_run.specs.Form.{SiteWords, Source, ProgramFile, CodeFile, word_of, Play, Compile, Sample}
+use Rattle.junction_run.specs.Form.{SiteWords, Source, ProgramFile, CodeFile, word_of, Play, Compile, Sample, Audit}
 use Rattle.junction_run.specs.declared.status.Status.{Status}
 use Rattle.junction_run.specs.declared.status.Status.TheVariants as status
 use Rattle.junction_run.specs.Answer.{answer_to, Gains, IsAnswered, IsBroken, Meets}
@@ -51,12 +51,12 @@ use Rattle.junction_run.specs.Loading.{
 use Rattle.junction_run.proofs.Tables.{accepted_lists_well}
 
 -- a step that gives a value had one to work on
-record Steps {A B : Type 0} (r : Result A Unloaded) (f : A → Result B Unloaded) (y : B) : Type 0 where
+pub record Steps {A B : Type 0} (r : Result A Unloaded) (f : A → Result B Unloaded) (y : B) : Type 0 where
   pub value : A
   pub first : r ≡ Ok value
   pub rest : f value ≡ Ok y
 
-steps : {A B : Type 0} (r : Result A Unloaded) (f : A → Result B Unloaded) (y : B) → (r >>= f) ≡ Ok y → Steps r f y
+pub steps : {A B : Type 0} (r : Result A Unloaded) (f : A → Result B Unloaded) (y : B) → (r >>= f) ≡ Ok y → Steps r f y
 steps (Ok x) f y is = record { value = x; first = refl; rest = is }
 steps (Err u) f y is = cc
 
@@ -67,7 +67,7 @@ judged_case word true refusal value x is = cc
 judged_case word false None value x is = (refl, cc)
 judged_case word false (Some at) value x is = cc
 
-judged_right : {A : Type 0} (word bytes : List ℕ) (refusal : Option Refusal) (value x : A) → judged word bytes refusal value ≡ Ok x → (refusal ≡ None) × (value ≡ x)
+pub judged_right : {A : Type 0} (word bytes : List ℕ) (refusal : Option Refusal) (value x : A) → judged word bytes refusal value ≡ Ok x → (refusal ≡ None) × (value ≡ x)
 judged_right word bytes refusal value x is = judged_case word _ refusal value x is
 
 not_refused : (plan : PlanOf) (o : Option (ℕ × TableWhy)) → table_refusal plan o ≡ None → o ≡ None
@@ -82,7 +82,7 @@ abbrev ok_site : Site → Result Site Unloaded
 ok_site site = Ok site
 
 -- what the guard asks of a site
-record IsSound (site : Site) : Type 0 where
+pub record IsSound (site : Site) : Type 0 where
   pub two : IsTwoWay site.rules
   pub count : site.rules.count ≡ groups_in site.plan
 
@@ -106,7 +106,7 @@ sound_at plan times intergreens rows between site right rows_are between_is is =
     site_or a (Ok x) = x
     site_or a (Err u) = a
 
-site_sound : (words : SiteWords) (file : Contents) (site : Site) → site_of words file ≡ Ok site → IsSound site
+pub site_sound : (words : SiteWords) (file : Contents) (site : Site) → site_of words file ≡ Ok site → IsSound site
 site_sound words file site is =
     let one = steps (plan_at file words.plan) (λ plan. times_at file words.times plan >>= λ times. intergreens_at file words.intergreens plan >>= λ between. Ok (record { plan = plan; rules = rules_by times between })) site is in
     let plan : PlanOf = one.value in
@@ -117,7 +117,7 @@ site_sound words file site is =
     sound_at plan (file words.times) (file words.intergreens) two.value three.value site (not_refused plan (intergreens_refusal plan (file words.intergreens)) between.0) times.1 between.1 three.rest
 
 -- what is loaded after a site plays there
-at_site : {V : Type 0} (at : Site → V → Playing) → ((site : Site) (v : V) → (at site v).site ≡ site) → (site : Site) (v : Result V Unloaded) (playing : Playing) →
+pub at_site : {V : Type 0} (at : Site → V → Playing) → ((site : Site) (v : V) → (at site v).site ≡ site) → (site : Site) (v : Result V Unloaded) (playing : Playing) →
     Ok playing ≡ map_ok (at site) v → site ≡ playing.site
 at_site at there site (Ok v) playing is =
     let same : playing.site ≡ (at site v).site = ap site_in is in
@@ -137,11 +137,11 @@ guarded : (playing : Playing) (frames : List Counts) → IsSound playing.site �
 guarded playing frames sound = runs_are_guarded playing.logic playing.site playing.store frames sound.two sound.count
 
 -- it is played at the site that was loaded
-there : (source : Source) (site : Site) (value : Value source) → (played_at source site value).site ≡ site
+pub there : (source : Source) (site : Site) (value : Value source) → (played_at source site value).site ≡ site
 there (ProgramFile word) site program = refl
 there (CodeFile word) site code = refl
 
-source_guarded : (source : Source) (words : SiteWords) (file : Contents) (playing : Playing) (frames : List Counts) → LoadsSource source words file (Ok playing) →
+pub source_guarded : (source : Source) (words : SiteWords) (file : Contents) (playing : Playing) (frames : List Counts) → LoadsSource source words file (Ok playing) →
     IsGuardedRun playing.logic playing.site playing.store frames
 source_guarded source words file playing frames loads =
     guarded playing frames
@@ -151,6 +151,7 @@ pub loaded_runs_are_guarded : LoadedRunsAreGuarded
 loaded_runs_are_guarded (Play source words detectors) file playing frames loads = source_guarded source words file playing frames loads
 loaded_runs_are_guarded (Compile program) file tree frames loads = tt
 loaded_runs_are_guarded (Sample program words seed seconds) file playing frames loads = source_guarded (ProgramFile program) words file playing frames loads
+loaded_runs_are_guarded (Audit log words) file logged frames loads = tt
 
 -- a front of no text is none
 take_nil : (n : ℕ) (text : List ℕ) → text ≡ [] → take n text ≡ []
@@ -214,3 +215,4 @@ pub writes_of_the_files_are_guarded : WritesOfTheFilesAreGuarded
 writes_of_the_files_are_guarded (Play source words detectors) file status old new is = play_safe source words detectors file old new status is
 writes_of_the_files_are_guarded (Compile program) file status old new is = tt
 writes_of_the_files_are_guarded (Sample program words seed seconds) file status old new is = tt
+writes_of_the_files_are_guarded (Audit log words) file status old new is = tt

@@ -1,5 +1,5 @@
 -- Files give one thing.
-use Rattle.std.proofs.Common.{◌≡◌, ◌∙◌, ℕ, List, Option, Some, None, Result, Ok, Err, refl, sym, ap, subst, arith, inl, inr, ◌⊎◌}
+use Rattle.std.proofs.Common.{◌≡◌, ◌∙◌, ℕ, List, Option, Result, Ok, Err, refl, sym, ap, subst, arith, inl, inr, ◌⊎◌}
 use Rattle.sig_io.specs.Outside.{Contents}
 use Rattle.vap_ast.specs.Syntax.{Program}
 use Rattle.vap_lex.specs.declared.token.Token.{Token}
@@ -23,7 +23,7 @@ use Rattle.vap_code.specs.Codes.{CodeOf}
 use Rattle.vap_code.specs.Valid.{Valid, FirstBroken}
 use Rattle.controller.specs.Past.{Site}
 use Rattle.junction_run.specs.Codes.{CodeIs, no_code, unsound, is_code, instr_line}
-use Rattle.junction_run.specs.Form.{SiteWords, Source, ProgramFile, CodeFile, word_of, Form, Play, Compile, Sample}
+use Rattle.junction_run.specs.Form.{SiteWords, Source, ProgramFile, CodeFile, word_of, Form, Play, Compile, Sample, Audit}
 use Rattle.junction_run.specs.Loading.{
   Unloaded,
   Refusal,
@@ -34,6 +34,8 @@ use Rattle.junction_run.specs.Loading.{
   Playing,
   map_ok,
   AfterSite,
+  Logged,
+  LogAfterSite,
   Loaded,
   Loads,
   site_of,
@@ -49,7 +51,7 @@ use Rattle.junction_run.specs.Programs.{ProgramIs, no_token, no_tree, unchecked,
 use Rattle.junction_run.specs.Reasons.{lex_reason, parse_reason, check_reason, code_reason, verify_reason}
 use Rattle.junction_run.specs.Laws.{LoadsOnce, ProgramsHaveOneAnswer, EndsAsGiven, IsComplete}
 use Rattle.junction_run.specs.Answer.{answer_to, IsAnswered}
-use Rattle.junction_run.specs.Answers.{Seen}
+use Rattle.junction_run.proofs.Audits.{one_log}
 use Rattle.junction_run.specs.declared.status.Status.{Status}
 use Rattle.junction_run.specs.declared.status.Status.TheVariants.{Done, Memory, Words, ReadFault, WriteFault, RefusedFile, RefusedLine, TooLong}
 
@@ -207,10 +209,16 @@ site_once : StagesOnce → (source : Source) (words : SiteWords) (file : Content
 site_once stages source words file =
     after_once (played_at source) (site_of words file) (IsSource source (file (word_of source))) (file_once stages source (file (word_of source)))
 
+-- a log has one answer at a site
+log_once : (site : Result Site Unloaded) (bytes : List ℕ) (r s : Result Logged Unloaded) → LogAfterSite site bytes r → LogAfterSite site bytes s → r ≡ s
+log_once (Err u) bytes r s a b = a ∙ sym b
+log_once (Ok site) bytes r s a b = a.2 ∙ ap Ok (one_log site bytes a.0 b.0 a.1 b.1) ∙ sym b.2
+
 pub loads_once : StagesOnce → LoadsOnce
 loads_once stages (Play source site detectors) file r s a b = site_once stages source site file r s a b
 loads_once stages (Compile word) file r s a b = file_once stages (ProgramFile word) (file word) r s a b
 loads_once stages (Sample word site seed seconds) file r s a b = site_once stages (ProgramFile word) site file r s a b
+loads_once stages (Audit word site) file r s a b = log_once (site_of site file) (file word) r s a b
 
 -- the answer's own status is that of the files
 status_is : StagesOnce → (form : Form) (file : Contents) (r : Result (Loaded form) Unloaded) (status : Status) (old new : Option (List ℕ)) → Loads form file r →

@@ -1,5 +1,5 @@
 -- The text of a program, judged stage by stage.
-use Rattle.std.proofs.Common.{◌≡◌, ◌∙◌, ◌≤◌, ℕ, List, length, Result, Ok, Err, refl, sym, ap, subst}
+use Rattle.std.proofs.Common.{◌≡◌, ◌≤◌, ℕ, List, length, Result, Ok, Err, refl, sym, ap, subst}
 use Rattle.std.specs.Prelude.{IfOk, IfErr}
 use Rattle.vap_ast.specs.declared.tree.Program.{Program as Tree}
 use Rattle.vap_ast.specs.Tree.{program_of}

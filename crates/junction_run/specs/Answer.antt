@@ -4,15 +4,19 @@ use Rattle.std.specs.Fmt.{decimal}
 use Rattle.std.specs.Io.KnownBytes.{append_known}
 use Rattle.sig_io.specs.Outside.{Contents}
 use Rattle.sig_io.specs.Draft.{IsCut}
+use Rattle.controller.specs.Past.{Site}
 use Rattle.det_stream.specs.declared.refusal.StreamWhy.{StreamWhy}
 use Rattle.det_stream.specs.Stream.{Stream, stream_of}
+use Rattle.log_lines.specs.declared.refusal.LogWhy.{LogWhy}
+use Rattle.sig_types.specs.Turns.{Picture}
 use Rattle.vap_ast.specs.Syntax.{Program}
 use Rattle.junction_run.specs.declared.status.Status.{Status}
 use Rattle.junction_run.specs.declared.status.Status.TheVariants as status
 use Rattle.junction_run.specs.Codes.{IsCompiled}
-use Rattle.junction_run.specs.Form.{Form, Play, Compile, Sample}
+use Rattle.junction_run.specs.Audited.{IsAudit}
+use Rattle.junction_run.specs.Form.{Form, Play, Compile, Sample, Audit}
 use Rattle.junction_run.specs.Loading.{Unloaded, TooLong, Refused, Loaded, Loads, Playing}
-use Rattle.junction_run.specs.Reasons.{stream_reason}
+use Rattle.junction_run.specs.Reasons.{stream_reason, log_reason}
 use Rattle.junction_run.specs.Records.{log_of}
 use Rattle.junction_run.specs.Sampled.{sample_text}
 
@@ -89,11 +93,18 @@ code_answer program = in_pieces status.Done (λ k text. IsCompiled program text)
 abbrev pub sample_answer : (seed seconds : ℕ) → Playing → Answer
 sample_answer seed seconds playing = in_pieces status.Done (λ k text. text ≡ sample_text seed seconds playing) 1 0 []
 
+-- what is judged of a log that has these pictures and no refused line, in one piece, and no byte before the log's end; or its
+-- first refused line
+abbrev pub audit_answer : (log : List ℕ) → Site → List Picture → Option (ℕ × LogWhy) → Answer
+audit_answer log site pictures None = in_pieces status.Done (λ k text. IsAudit site pictures text) 1 0 []
+audit_answer log site pictures (Some at) = stopped status.RefusedLine (line_note log at.0 (log_reason at.1))
+
 -- the answer to a form that works on this
 abbrev pub loaded_answer : (form : Form) → Contents → Loaded form → Answer
 loaded_answer (Play source site detectors) file playing = log_answer detectors playing (stream_of (file detectors))
 loaded_answer (Compile program) file tree = code_answer tree
 loaded_answer (Sample program site seed seconds) file playing = sample_answer seed seconds playing
+loaded_answer (Audit log site) file logged = audit_answer log logged.site logged.pictures logged.refusal
 
 -- this answer, or that to the first file that is not as it must be
 abbrev pub answered : {A : Type 0} → (A → Answer) → Result A Unloaded → Answer

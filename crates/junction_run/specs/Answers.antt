@@ -5,7 +5,7 @@ use Rattle.std.specs.Io.KnownBytes.{append_known}
 use Rattle.sig_io.specs.Outside.{Contents, Rose}
 use Rattle.junction_run.specs.declared.status.Status.{Status}
 use Rattle.junction_run.specs.declared.status.Status.TheVariants.{Done, Memory, Words, ReadFault, WriteFault, RefusedFile, RefusedLine, TooLong}
-use Rattle.junction_run.specs.Form.{Form, form_of, files_of, reads_lines}
+use Rattle.junction_run.specs.Form.{Form, form_of, files_of, reads_lines, writes_lines}
 use Rattle.junction_run.specs.Answer.{Meets, note_of}
 use Rattle.junction_run.specs.Guarded.{IsSafe}
 use Rattle.junction_run.specs.Notes.{IsNote, NoteMeets}
@@ -47,7 +47,7 @@ pub record FormAnswer (form : Form) (files : Seen Contents) (out notes : Seen (L
   pub read_fault : status ≡ ReadFault → Rose files.before files.after
   pub write_fault : status ≡ WriteFault → Rose out.before out.after
   -- nothing is written but with Done, before a fault of what was begun, and before a refused line
-  pub unwritten : may_write (reads_lines form) status ≡ false → out.new ≡ out.old
+  pub unwritten : may_write (writes_lines form) status ≡ false → out.new ≡ out.old
   -- a line is refused by what reads lines alone
   pub line : status ≡ RefusedLine → reads_lines form ≡ true
   -- where the files tell what they hold, the status is the answer's and out has gained its text, but for want of memory and

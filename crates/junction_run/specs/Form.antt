@@ -24,6 +24,7 @@ pub data Form : Type 0 where
   Play : (source : Source) (site : SiteWords) (detectors : List ℕ) → Form
   Compile : (program : List ℕ) → Form
   Sample : (program : List ℕ) (site : SiteWords) (seed seconds : ℕ) → Form
+  Audit : (log : List ℕ) (site : SiteWords) → Form
 
 -- the word is this name, byte for byte
 abbrev pub is_word : List ℕ → List ℕ → Bool
@@ -32,6 +33,10 @@ is_word word name = pointwise nat_eq word name
 -- COMMAND PROGRAM
 abbrev pub form_of_one : (command program : List ℕ) → Option Form
 form_of_one command program = if is_word command (codes "compile") then Some (Compile program) else None
+
+-- COMMAND LOG PUA TIMES INTERGREENS
+abbrev pub form_of_audit : (command log : List ℕ) (site : SiteWords) → Option Form
+form_of_audit command log site = if is_word command (codes "audit") then Some (Audit log site) else None
 
 -- COMMAND FILE PUA TIMES INTERGREENS DETECTORS
 abbrev pub form_of_play : (command file : List ℕ) (site : SiteWords) (detectors : List ℕ) → Option Form
@@ -53,9 +58,11 @@ form_of_sample command program site seed seconds =
     else None
 
 -- compile PROGRAM; run PROGRAM PUA TIMES INTERGREENS DETECTORS; exec CODE PUA TIMES INTERGREENS DETECTORS;
--- sample PROGRAM PUA TIMES INTERGREENS SEED SECONDS
+-- sample PROGRAM PUA TIMES INTERGREENS SEED SECONDS; audit LOG PUA TIMES INTERGREENS
 abbrev pub form_of : List (List ℕ) → Option Form
 form_of (command ∷ program ∷ []) = form_of_one command program
+form_of (command ∷ log ∷ plan ∷ times ∷ intergreens ∷ []) =
+    form_of_audit command log (record { plan = plan; times = times; intergreens = intergreens })
 form_of (command ∷ file ∷ plan ∷ times ∷ intergreens ∷ detectors ∷ []) =
     form_of_play command file (record { plan = plan; times = times; intergreens = intergreens }) detectors
 form_of (command ∷ program ∷ plan ∷ times ∷ intergreens ∷ seed ∷ seconds ∷ []) =
@@ -71,9 +78,18 @@ abbrev pub files_of : Form → List (List ℕ)
 files_of (Play source site detectors) = site.plan ∷ site.times ∷ site.intergreens ∷ word_of source ∷ detectors ∷ []
 files_of (Compile program) = program ∷ []
 files_of (Sample program site seed seconds) = site.plan ∷ site.times ∷ site.intergreens ∷ program ∷ []
+files_of (Audit log site) = site.plan ∷ site.times ∷ site.intergreens ∷ log ∷ []
 
--- a form that reads lines, and writes what it makes of one before it reads the next
+-- a form that reads a file line by line
 abbrev pub reads_lines : Form → Bool
 reads_lines (Play source site detectors) = true
 reads_lines (Compile program) = false
 reads_lines (Sample program site seed seconds) = false
+reads_lines (Audit log site) = true
+
+-- a form that writes what it makes of a line before it reads the next
+abbrev pub writes_lines : Form → Bool
+writes_lines (Play source site detectors) = true
+writes_lines (Compile program) = false
+writes_lines (Sample program site seed seconds) = false
+writes_lines (Audit log site) = false

@@ -4,7 +4,7 @@ use Rattle.junction_run.specs.declared.form.Source.{Source as Named}
 use Rattle.junction_run.specs.declared.form.Source.TheVariants as named
 use Rattle.junction_run.specs.declared.form.Form.{Form as Asked}
 use Rattle.junction_run.specs.declared.form.Form.TheVariants as asked
-use Rattle.junction_run.specs.Form.{SiteWords, Source, ProgramFile, CodeFile, Form, Play, Compile, Sample}
+use Rattle.junction_run.specs.Form.{SiteWords, Source, ProgramFile, CodeFile, Form, Play, Compile, Sample, Audit}
 
 -- the names of the files of a site, as the definitions see them
 abbrev pub site_in : Words → SiteWords
@@ -20,3 +20,4 @@ abbrev pub form_in : Asked → Form
 form_in (asked.Play source site detectors) = Play (source_in source) (site_in site) detectors.now
 form_in (asked.Compile program) = Compile program.now
 form_in (asked.Sample program site seed seconds) = Sample program.now (site_in site) seed seconds.count
+form_in (asked.Audit log site) = Audit log.now (site_in site)

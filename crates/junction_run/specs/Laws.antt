@@ -1,13 +1,15 @@
 -- Laws over the definitions alone.
-use Rattle.std.specs.Prelude.{◌≡◌, List, ℕ, Option, Some, IfSome, Result, Ok, Err, ◌⊎◌}
+use Rattle.std.specs.Prelude.{◌≡◌, List, ℕ, Option, Some, IfSome, Result, Ok, ◌⊎◌}
 use Rattle.sig_io.specs.Outside.{Contents, Rose}
 use Rattle.sig_types.specs.Counts.{Counts}
 use Rattle.controller.specs.Guarded.{IsGuardedRun}
+use Rattle.controller.specs.Past.{Site}
 use Rattle.junction_run.specs.declared.status.Status.{Status}
 use Rattle.junction_run.specs.declared.status.Status.TheVariants.{Memory, ReadFault, WriteFault}
-use Rattle.junction_run.specs.Form.{Form}
+use Rattle.junction_run.specs.Audited.{IsAudit}
+use Rattle.junction_run.specs.Form.{Form, SiteWords, Audit}
 use Rattle.junction_run.specs.Guarded.{IsSafeOf}
-use Rattle.junction_run.specs.Loading.{Unloaded, Refusal, Loaded, Loads, plays}
+use Rattle.junction_run.specs.Loading.{Unloaded, Refusal, Loaded, Loads, Logged, IsLogged, plays}
 use Rattle.junction_run.specs.Programs.{ProgramIs}
 use Rattle.vap_ast.specs.Syntax.{Program}
 use Rattle.junction_run.specs.Answer.{answer_to, Meets}
@@ -22,6 +24,19 @@ abbrev pub ProgramsHaveOneAnswer : Type 0
 ProgramsHaveOneAnswer =
     (bytes : List ℕ) → (r : Result Program Refusal) × ProgramIs bytes r
     × ((s : Result Program Refusal) → ProgramIs bytes s → s ≡ r)
+
+-- at a site each log has one answer: the pictures of its records, and its end or its first refused line
+abbrev pub LogsHaveOneAnswer : Type 0
+LogsHaveOneAnswer =
+    (site : Site) (bytes : List ℕ) → (logged : Logged) × IsLogged site bytes logged
+    × ((other : Logged) → IsLogged site bytes other → other ≡ logged)
+
+-- at the site that the files give, what is judged of the pictures of a log has one text
+abbrev pub LogsHaveOneAudit : Type 0
+LogsHaveOneAudit =
+    (log : List ℕ) (words : SiteWords) (file : Contents) (logged : Logged) → Loads (Audit log words) file (Ok logged) →
+    (text : List ℕ) × IsAudit logged.site logged.pictures text
+    × ((other : List ℕ) → IsAudit logged.site logged.pictures other → other ≡ text)
 
 -- where the files give this, the status is its answer's, but for want of memory and faults
 abbrev pub EndsAsGiven : Type 0

@@ -1,5 +1,6 @@
 pub mod Answer
 pub mod Answers
+pub mod Audited
 pub mod Codes
 pub mod Drawn
 pub mod Ended
@@ -8,6 +9,7 @@ pub mod FormWords
 pub mod Guarded
 pub mod Laws
 pub mod Loading
+pub mod LogJudged
 pub mod Notes
 pub mod Played
 pub mod Programs

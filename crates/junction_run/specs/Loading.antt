@@ -2,6 +2,7 @@
 use Rattle.std.specs.Prelude.{◌≡◌, ◌<◌, ◌≤◌, ℕ, nat_lt, List, length, Option, None, Some, Result, Ok, Err, if◌then◌else◌}
 use Rattle.sig_io.specs.Outside.{Contents}
 use Rattle.sig_types.specs.Pass.{Logic, Store}
+use Rattle.sig_types.specs.Turns.{Picture}
 use Rattle.pua_model.specs.Plan.{PlanOf}
 use Rattle.pua_reader.specs.declared.refusal.PuaWhy.{PuaWhy}
 use Rattle.pua_reader.specs.Accepted.{refusal_of, plan_of_text}
@@ -11,8 +12,10 @@ use Rattle.sig_tables.specs.SiteRules.{rules_by}
 use Rattle.sig_tables.specs.TimesTable.{times_refusal, times_of}
 use Rattle.sig_tables.specs.IntergreenTable.{intergreens_refusal, intergreen_of}
 use Rattle.controller.specs.Past.{Site}
+use Rattle.log_lines.specs.declared.refusal.LogWhy.{LogWhy}
+use Rattle.log_lines.specs.Log.{IsLog}
 use Rattle.junction_run.specs.Codes.{CodeIs}
-use Rattle.junction_run.specs.Form.{SiteWords, Source, ProgramFile, CodeFile, word_of, Form, Play, Compile, Sample}
+use Rattle.junction_run.specs.Form.{SiteWords, Source, ProgramFile, CodeFile, word_of, Form, Play, Compile, Sample, Audit}
 use Rattle.junction_run.specs.Programs.{ProgramIs, logic_of, store_of}
 use Rattle.junction_run.specs.Reasons.{plan_reason, table_reason}
 use Rattle.vap_ast.specs.Syntax.{Program}
@@ -156,24 +159,42 @@ LoadsSource source words file r = AfterSite (played_at source) (site_of words fi
 abbrev pub LoadsProgram : (program : List ℕ) → SiteWords → Contents → Result Playing Unloaded → Type 0
 LoadsProgram program words file r = LoadsSource (ProgramFile program) words file r
 
+-- a log at the site by which it is judged: the pictures of its records, and its first refused line, if there is one
+pub record Logged : Type 0 where
+  pub site : Site
+  pub pictures : List Picture
+  pub refusal : Option (ℕ × LogWhy)
+
+-- a log with these bytes tells this at the site
+abbrev pub IsLogged : Site → List ℕ → Logged → Type 0
+IsLogged site bytes logged = (logged.site ≡ site) × IsLog site.plan.names bytes logged.pictures logged.refusal
+
+-- the site first, and then a log with these bytes
+abbrev pub LogAfterSite : Result Site Unloaded → List ℕ → Result Logged Unloaded → Type 0
+LogAfterSite (Err u) bytes r = r ≡ Err u
+LogAfterSite (Ok site) bytes r = (logged : Logged) × IsLogged site bytes logged × (r ≡ Ok logged)
+
 -- what a form works on
 abbrev pub Loaded : Form → Type 0
 Loaded (Play source site detectors) = Playing
 Loaded (Compile program) = Program
 Loaded (Sample program site seed seconds) = Playing
+Loaded (Audit log site) = Logged
 
 -- what a form plays of it, if anything
 abbrev pub plays : (form : Form) → Loaded form → Option Playing
 plays (Play source site detectors) playing = Some playing
 plays (Compile program) tree = None
 plays (Sample program site seed seconds) playing = Some playing
+plays (Audit log site) logged = None
 
 -- what the files of a form give, each of which is read, measured and judged before the next one: what the form works on, or
--- the first file that is not as it must be
+-- the first file that is not as it must be; a log has no limit, and is judged line by line
 abbrev pub Loads : (form : Form) → Contents → Result (Loaded form) Unloaded → Type 0
 Loads (Play source site detectors) file r = LoadsSource source site file r
 Loads (Compile program) file r = IsSource (ProgramFile program) (file program) r
 Loads (Sample program site seed seconds) file r = LoadsProgram program site file r
+Loads (Audit log site) file r = LogAfterSite (site_of site file) (file log) r
 
 -- ---- which file is read
 
@@ -201,3 +222,4 @@ Reached (Play source site detectors) file word =
     ReachedInPlay (word_of source) site detectors file (λ playing. LoadsSource source site file (Ok playing)) word
 Reached (Compile program) file word = word ≡ program
 Reached (Sample program site seed seconds) file word = ReachedAfterSite program site file word
+Reached (Audit log site) file word = ReachedAfterSite log site file word

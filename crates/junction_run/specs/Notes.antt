@@ -12,7 +12,7 @@ use Rattle.junction_run.specs.declared.status.Status.TheVariants as status
 use Rattle.junction_run.specs.Form.{Form}
 use Rattle.junction_run.specs.Loading.{Unloaded, Loads, Reached}
 use Rattle.junction_run.specs.Answer.{Answer, answer_to, note_of, line_note}
-use Rattle.junction_run.specs.Reasons.{reason_text, stream_reason}
+use Rattle.junction_run.specs.Reasons.{reason_text, line_reason}
 
 -- the note where loading stops
 abbrev pub load_note : LoadStop → List ℕ
@@ -25,7 +25,7 @@ load_note (load.TooLong word) = note_of (word.now ++ codes ": TooLong")
 abbrev pub play_note : PlayStop → List ℕ
 play_note (play.ReadFault word) = note_of (word.now ++ codes ": ReadFault")
 play_note play.WriteFault = note_of (codes "WriteFault")
-play_note (play.RefusedLine word line why) = line_note word.now line (stream_reason why)
+play_note (play.RefusedLine word line reason) = line_note word.now line (line_reason reason)
 
 -- the note of a stop
 abbrev pub stop_note : Stop → List ℕ

@@ -6,7 +6,10 @@ use Rattle.sig_types.specs.Counts.{Counts}
 use Rattle.sig_types.specs.Pass.{Store}
 use Rattle.controller.specs.declared.controller.Controller.{Controller}
 use Rattle.controller.specs.Controls.{site_of, logic_of}
+use Rattle.det_stream.specs.declared.refusal.StreamWhy.{StreamWhy}
 use Rattle.det_stream.specs.Stream.{Stream}
+use Rattle.junction_run.specs.declared.stop.LineReason.{LineReason}
+use Rattle.junction_run.specs.declared.stop.LineReason.TheVariants.{Frame, Record}
 use Rattle.junction_run.specs.declared.stop.LoadStop.TheVariants as load
 use Rattle.junction_run.specs.declared.stop.PlayStop.{PlayStop}
 use Rattle.junction_run.specs.declared.stop.PlayStop.TheVariants.{ReadFault, WriteFault, RefusedLine}
@@ -23,26 +26,31 @@ playing_of controller store = record { logic = logic_of controller; store = stor
 abbrev pub IsPlayStop : List ℕ → Bool → PlayStop → Type 0
 IsPlayStop name failed (ReadFault word) = word.now ≡ name
 IsPlayStop name failed WriteFault = IsTrue failed
-IsPlayStop name failed (RefusedLine word line why) = word.now ≡ name
+IsPlayStop name failed (RefusedLine word line reason) = word.now ≡ name
 
 -- Playing wrote the log of the frames that were given, or only a front of it.
 abbrev pub IsWritten : {A : Type 0} → Result A PlayStop → List ℕ → Option (List ℕ) → Option (List ℕ) → Type 0
 IsWritten (Ok x) log old new = new ≡ append_known old log
 IsWritten (Err (ReadFault word)) log old new = new ≡ append_known old log
 IsWritten (Err WriteFault) log old new = (n : ℕ) × IsCut old new n log
-IsWritten (Err (RefusedLine word line why)) log old new = new ≡ append_known old log
+IsWritten (Err (RefusedLine word line reason)) log old new = new ≡ append_known old log
 
 -- these are the first frames of a detector file
 abbrev pub BeginsWith : Stream → List Counts → Type 0
 BeginsWith stream frames = (rest : List Counts) × (stream.frames ≡ frames ++ rest)
+
+-- this line is the first that is no frame, and this is the reason
+abbrev pub IsNoFrame : Option (ℕ × StreamWhy) → ℕ → LineReason → Type 0
+IsNoFrame refusal line (Frame why) = refusal ≡ Some (line, why)
+IsNoFrame refusal line (Record why) = ⊥
 
 -- Playing was given these frames of a detector file: all up to its end or its first refused line, or the first ones.
 abbrev pub IsPlayed : {A : Type 0} → List ℕ → Result A PlayStop → Stream → List Counts → Type 0
 IsPlayed name (Ok x) stream frames = (stream.frames ≡ frames) × (stream.refusal ≡ None)
 IsPlayed name (Err (ReadFault word)) stream frames = (word.now ≡ name) × BeginsWith stream frames
 IsPlayed name (Err WriteFault) stream frames = BeginsWith stream frames
-IsPlayed name (Err (RefusedLine word line why)) stream frames =
-    (word.now ≡ name) × (stream.frames ≡ frames) × (stream.refusal ≡ Some (line, why))
+IsPlayed name (Err (RefusedLine word line reason)) stream frames =
+    (word.now ≡ name) × (stream.frames ≡ frames) × IsNoFrame stream.refusal line reason
 
 -- A detector file was played so: the log of the frames that were given was written.
 pub record WasPlayed {A : Type 0} (playing : Playing) (name : List ℕ) (stream : Stream) (r : Result A PlayStop)

@@ -20,7 +20,11 @@ use Rattle.vap_code.specs.declared.VerifyWhy.{VerifyWhy}
 use Rattle.vap_code.specs.declared.VerifyWhy.TheVariants as verify
 use Rattle.det_stream.specs.declared.refusal.StreamWhy.{StreamWhy}
 use Rattle.det_stream.specs.declared.refusal.StreamWhy.TheVariants as stream
+use Rattle.log_lines.specs.declared.refusal.LogWhy.{LogWhy}
+use Rattle.log_lines.specs.declared.refusal.LogWhy.TheVariants as log
 use Rattle.junction_run.specs.declared.reasons.Told.{Told}
+use Rattle.junction_run.specs.declared.stop.LineReason.{LineReason}
+use Rattle.junction_run.specs.declared.stop.LineReason.TheVariants.{Frame, Record}
 use Rattle.junction_run.specs.declared.stop.Reason.{Reason}
 use Rattle.junction_run.specs.declared.stop.Reason.TheVariants.{Pua, Table, Lex, Parse, Check, Code, Verify}
 
@@ -119,6 +123,18 @@ stream_reason stream.Unknown = codes "Unknown"
 stream_reason (stream.RearsAhead detector) = codes "RearsAhead " ++ decimal detector.0
 stream_reason stream.LineTooLong = codes "LineTooLong"
 stream_reason stream.TooManySeconds = codes "TooManySeconds"
+
+-- the reason of a refused line of a log
+abbrev pub log_reason : LogWhy → List ℕ
+log_reason log.Header = codes "Header"
+log_reason log.Line = codes "Line"
+log_reason log.LineTooLong = codes "LineTooLong"
+log_reason log.TooManySeconds = codes "TooManySeconds"
+
+-- the reason of a refused line
+abbrev pub line_reason : LineReason → List ℕ
+line_reason (Frame why) = stream_reason why
+line_reason (Record why) = log_reason why
 
 -- the text of a reason
 abbrev pub reason_text : Reason → List ℕ

@@ -23,7 +23,7 @@ load_status (load.TooLong word) = status.TooLong
 abbrev pub play_status : PlayStop → Status
 play_status (play.ReadFault word) = status.ReadFault
 play_status play.WriteFault = status.WriteFault
-play_status (play.RefusedLine word line why) = status.RefusedLine
+play_status (play.RefusedLine word line reason) = status.RefusedLine
 
 -- the status of a stop
 abbrev pub status_of : Stop → Status
@@ -41,7 +41,7 @@ LoadNames Fact (load.TooLong word) = Fact word.now
 abbrev pub PlayNames : (List ℕ → Type 0) → PlayStop → Type 0
 PlayNames Fact (play.ReadFault word) = Fact word.now
 PlayNames Fact play.WriteFault = Unit {0}
-PlayNames Fact (play.RefusedLine word line why) = Fact word.now
+PlayNames Fact (play.RefusedLine word line reason) = Fact word.now
 
 -- the same of either
 abbrev pub Names : (List ℕ → Type 0) → Stop → Type 0

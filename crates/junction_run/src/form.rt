@@ -1,7 +1,7 @@
 // The words of a command.
 ghost use Rattle.std.specs.Prelude.{◌≡◌, None, Some, MatchOption, map, string_bytes};
 ghost use Rattle.sig_types.specs.Text.{number_of, within};
-ghost use Rattle.junction_run.specs.Form.{form_of, form_of_one, form_of_play, form_of_sample};
+ghost use Rattle.junction_run.specs.Form.{form_of, form_of_one, form_of_audit, form_of_play, form_of_sample};
 ghost use Rattle.junction_run.specs.FormWords.{site_in, form_in};
 
 use crate::seconds::SampleSeconds;
@@ -15,6 +15,8 @@ const COMPILE: &str = "compile";
 const EXEC: &str = "exec";
 
 const SAMPLE: &str = "sample";
+
+const AUDIT: &str = "audit";
 
 /// The names of the files of a site.
 #[derive(Clone, Copy)]
@@ -64,6 +66,10 @@ pub(crate) enum Form<'a> {
         seed: u64,
         seconds: SampleSeconds,
     },
+    Audit {
+        log: &'a str,
+        site: SiteWords<'a>,
+    },
 }
 
 // COMMAND PROGRAM
@@ -73,6 +79,18 @@ fn form_of_one<'a>(command: &str, program: &'a str) -> Option<Form<'a>>
 {
     if command == COMPILE {
         Some(Form::Compile { program })
+    } else {
+        None
+    }
+}
+
+// COMMAND LOG PUA TIMES INTERGREENS
+fn form_of_audit<'a>(command: &str, log: &'a str, site: SiteWords<'a>) -> Option<Form<'a>>
+    ensures { MatchOption result (form_of_audit command.now log.now (site_in site.entry) ≡ None)
+        (λ form. form_of_audit command.now log.now (site_in site.entry) ≡ Some (form_in form)) }
+{
+    if command == AUDIT {
+        Some(Form::Audit { log, site })
     } else {
         None
     }
@@ -148,6 +166,10 @@ pub(crate) fn form_of(words: &[String]) -> Option<Form<'_>>
 {
     match words {
         [command, program] => form_of_one(command.as_str(), program.as_str()),
+        [command, log, plan, times, intergreens] => {
+            let site = site_words(plan, times, intergreens);
+            form_of_audit(command.as_str(), log.as_str(), site)
+        }
         [command, file, plan, times, intergreens, detectors] => {
             let site = site_words(plan, times, intergreens);
             form_of_play(command.as_str(), file.as_str(), site, detectors.as_str())

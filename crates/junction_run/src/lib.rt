@@ -4,12 +4,15 @@
 //! the files give, `specs/Answer` what is answered with ample memory and where nothing fails, and what a call may answer in its
 //! place; `specs/Programs` when a text is a program, `specs/Codes` when it is a code and which text compiling gives,
 //! `specs/Records` which log is written, `specs/Guarded` which rules it keeps, `specs/Drawn` which frames a sample has and
-//! `specs/Sampled` what it writes, and `specs/Notes` and `specs/Reasons` have the notes.
+//! `specs/Sampled` what it writes, `specs/Audited` what is written of a log that is judged, and `specs/Notes` and
+//! `specs/Reasons` have the notes.
 //!
 //! A function named `judge_` judges a text, one named `take_` reads a file and judges its text, and one named `load_` takes all
 //! files of a command, one after the other.
 #![tactic(auto)]
 
+mod audit;
+mod audit_text;
 mod code;
 mod compile;
 mod draw;
@@ -33,5 +36,5 @@ pub use load::{Site, load_site};
 pub use notes::{write_stop, write_words};
 pub use run::make_controller;
 pub use status::{Status, exit_status};
-pub use stop::{LoadStop, PlayStop, Reason, Stop, status_of};
+pub use stop::{LineReason, LoadStop, PlayStop, Reason, Stop, status_of};
 pub use top::junction;

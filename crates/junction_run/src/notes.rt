@@ -7,7 +7,7 @@ ghost use Rattle.sig_io.specs.Outside.{Rose};
 ghost use Rattle.junction_run.specs.Answer.{note_of};
 ghost use Rattle.junction_run.specs.Notes.{load_note, play_note, stop_note};
 
-use crate::reasons::{Told, reason, stream_reason};
+use crate::reasons::{Told, line_reason, reason};
 use crate::stop::{LoadStop, PlayStop, Stop};
 use itoa::Buffer;
 use sig_io::{Sink, put_each};
@@ -93,12 +93,16 @@ fn write_play_stop<N: Sink>(stop: &PlayStop<'_>, notes: &mut N)
     match stop {
         PlayStop::ReadFault(word) => write_about(word.as_bytes(), b": ReadFault\n", notes),
         PlayStop::WriteFault => write_pieces(&[b"junction: WriteFault\n"], notes),
-        PlayStop::RefusedLine { word, line, why } => {
+        PlayStop::RefusedLine {
+            word,
+            line,
+            reason: why,
+        } => {
             let mut digits = Buffer::new();
             write_refusal(
                 word.as_bytes(),
                 *line,
-                &stream_reason(*why, &mut digits),
+                &line_reason(*why, &mut digits),
                 notes,
             )
         }

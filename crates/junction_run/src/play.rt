@@ -14,7 +14,7 @@ ghost use Rattle.junction_run.specs.Records.{log_of};
 ghost use Rattle.junction_run.specs.Stop.{PlaysAt, StopsWith, play_status};
 ghost use Rattle.junction_run.specs.declared.status.Status.TheVariants as status;
 
-use crate::stop::PlayStop;
+use crate::stop::{LineReason, PlayStop};
 use controller::Controller;
 use det_stream::{Lines, StreamRefusal};
 use sig_io::{Draft, Files, Sink};
@@ -73,7 +73,8 @@ fn put_seconds<'a, F: Files, O: Sink>(
             Err(StreamRefusal::Memory) => unreachable!(),
             Err(StreamRefusal::Fault) => return Err(PlayStop::ReadFault(word)),
             Err(StreamRefusal::At { line, why }) => {
-                return Err(PlayStop::RefusedLine { word, line, why });
+                let reason = LineReason::Frame(why);
+                return Err(PlayStop::RefusedLine { word, line, reason });
             }
         }
         controller.second(lines.frame());

@@ -11,15 +11,18 @@ ghost use Rattle.junction_run.specs.Reasons.{
   code_reason,
   verify_reason,
   stream_reason,
+  log_reason,
+  line_reason,
   reason_text,
   told_text,
 };
 
-use crate::stop::Reason;
+use crate::stop::{LineReason, Reason};
 use code_file::CodeWhy;
 use code_verify::VerifyWhy;
 use det_stream::StreamWhy;
 use itoa::Buffer;
+use log_lines::LogWhy;
 use pua_model::Plan;
 use pua_reader::PuaWhy;
 use sig_tables::TableWhy;
@@ -203,8 +206,7 @@ fn verify_reason<'x>(why: VerifyWhy) -> Told<'x>
     }
 }
 
-/// The pieces of the reason of a refused detector line.
-pub(crate) fn stream_reason<'x>(why: StreamWhy, digits: &'x mut Buffer) -> Told<'x>
+fn stream_reason<'x>(why: StreamWhy, digits: &'x mut Buffer) -> Told<'x>
     ensures { told_text result ≡ stream_reason why }
 {
     match why {
@@ -217,6 +219,27 @@ pub(crate) fn stream_reason<'x>(why: StreamWhy, digits: &'x mut Buffer) -> Told<
         }
         StreamWhy::LineTooLong => only(b"LineTooLong"),
         StreamWhy::TooManySeconds => only(b"TooManySeconds"),
+    }
+}
+
+fn log_reason<'x>(why: LogWhy) -> Told<'x>
+    ensures { told_text result ≡ log_reason why }
+{
+    match why {
+        LogWhy::Header => only(b"Header"),
+        LogWhy::Line => only(b"Line"),
+        LogWhy::LineTooLong => only(b"LineTooLong"),
+        LogWhy::TooManySeconds => only(b"TooManySeconds"),
+    }
+}
+
+/// The pieces of the reason of a refused line.
+pub(crate) fn line_reason<'x>(reason: LineReason, digits: &'x mut Buffer) -> Told<'x>
+    ensures { told_text result ≡ line_reason reason }
+{
+    match reason {
+        LineReason::Frame(why) => stream_reason(why, digits),
+        LineReason::Record(why) => log_reason(why),
     }
 }
 

@@ -17,7 +17,7 @@ pub enum Status {
     WriteFault,
     /// A file is not as it must be.
     RefusedFile,
-    /// A line of the file that is read second by second is not as it must be.
+    /// A line of the file that is read line by line is not as it must be.
     RefusedLine,
     /// A file has more bytes than its limit.
     TooLong,

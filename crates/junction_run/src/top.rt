@@ -4,12 +4,13 @@ ghost use Rattle.std.specs.Option.{ForSome};
 ghost use Rattle.sig_io.specs.Outside.{Rose};
 ghost use Rattle.junction_run.specs.Answers.{FormAnswer, JunctionAnswers, may_write, seen};
 ghost use Rattle.junction_run.specs.Ended.{IsEnded};
-ghost use Rattle.junction_run.specs.Form.{files_of, reads_lines};
+ghost use Rattle.junction_run.specs.Form.{files_of, reads_lines, writes_lines};
 ghost use Rattle.junction_run.specs.FormWords.{form_in};
 ghost use Rattle.junction_run.specs.Guarded.{IsSafe};
 ghost use Rattle.junction_run.specs.Stop.{StopsAmong, StopsWith, status_of};
 ghost use Rattle.junction_run.specs.declared.status.Status.TheVariants as status;
 
+use crate::audit::audit;
 use crate::compile::compile_file;
 use crate::form::{Form, form_of};
 use crate::notes::{write_stop, write_words};
@@ -31,7 +32,7 @@ fn do_form<'a, F: Files, O: Sink>(
         IsEnded (form_in form.now) file result (O.taken out.old) (O.taken out.new)) }
     ensures safe { IsSafe (form_in form.now) (O.taken out.old) (O.taken out.new) }
     ensures unwritten { IfErr result (λ stop.
-        may_write (reads_lines (form_in form.now)) (status_of stop) ≡ false → O.taken out.new ≡ O.taken out.old) }
+        may_write (writes_lines (form_in form.now)) (status_of stop) ≡ false → O.taken out.new ≡ O.taken out.old) }
     ensures line { StopsWith status_of status.RefusedLine result → reads_lines (form_in form.now) ≡ true }
     ensures word { IfErr result (λ stop. StopsAmong (files_of (form_in form.now)) stop) }
     ensures contents_stay { F.told files.new ≡ F.told files.old }
@@ -53,6 +54,7 @@ fn do_form<'a, F: Files, O: Sink>(
             seed,
             seconds,
         } => sample(alloc, program, site, *seed, *seconds, files, out),
+        Form::Audit { log, site } => audit(alloc, log, site, files, out),
     }
 }
 
@@ -96,6 +98,9 @@ fn answer_form<F: Files, O: Sink, N: Sink>(
 /// - `sample PROGRAM PUA TIMES INTERGREENS SEED SECONDS` writes what the records of SECONDS seconds, 0 to 604,800, add up to,
 ///   in which detectors 1 to 12 have fronts and rears drawn from SEED, 0 to 18,446,744,073,709,551,615. The files are read as
 ///   by `run`.
+/// - `audit LOG PUA TIMES INTERGREENS` writes whether the pictures of a log, whoever wrote it, keep the rules of the guard, and
+///   what the guard makes of each interstage of the plan. After PUA, TIMES and INTERGREENS the log is read line by line to its
+///   end, before the first byte is written; it has no limit but that of its lines.
 pub fn junction<F: Files, O: Sink, N: Sink>(
     alloc: Global,
     words: &[String],

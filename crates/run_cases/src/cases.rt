@@ -25,14 +25,17 @@ pub const RUN: &[&str] = &["run", "p.vap", "p.pua", "t.csv", "g.csv", "d.txt"];
 /// The words of a run of a code file.
 pub const EXEC: &[&str] = &["exec", "c.code", "p.pua", "t.csv", "g.csv", "d.txt"];
 
-/// A command with a program or a code as its first file, and what it must answer.
+/// The words of an audit of a log.
+pub const AUDIT: &[&str] = &["audit", "l.log", "p.pua", "t.csv", "g.csv"];
+
+/// A command with a program, a code or a log as its first file, and what it must answer.
 #[derive(Clone, Copy)]
 pub struct Case<'a> {
     /// What the case shows.
     pub name: &'static str,
     /// The words of the command line.
     pub words: &'static [&'static str],
-    /// The bytes of the file that the second word names: a program or a code.
+    /// The bytes of the file that the second word names: a program, a code or a log.
     pub program: &'a [u8],
     /// The bytes of the PUA file.
     pub plan: &'a [u8],
@@ -46,7 +49,7 @@ pub struct Case<'a> {
     pub room: usize,
     /// The status that is wanted.
     pub status: Status,
-    /// What follows the header in the log that is wanted; None where nothing is to be written.
+    /// What follows the header in the log that is wanted; None where nothing is to be written. An audit writes no log.
     pub records: Option<&'a [u8]>,
     /// The note that is wanted.
     pub note: &'a [u8],
@@ -163,6 +166,23 @@ pub const CYCLE_RUN: Case<'static> = Case {
     ),
     ..DONE
 };
+
+/// A log of four seconds, which are safe.
+pub const AUDIT_LOG: &[u8] =
+    b"VAPLOG 1 K1 K2\n1|S1|RR|-|K1:Intergreen:K2|-\n2|S1|RR|-|K1:Intergreen:K2|-\n3|S1|UR|-|-|-\n4|S1|GR|-|-|-\n";
+
+/// An audit of that log.
+pub const AUDITED: Case<'static> = Case {
+    name: "an audit",
+    words: AUDIT,
+    program: AUDIT_LOG,
+    plan: TWO_STAGES,
+    records: None,
+    ..DONE
+};
+
+/// What an audit writes of that log.
+pub const AUDIT_TEXT: &[u8] = b"SAFE 4\nINTER 1-2 clean\nINTER 2-1 clean\n";
 
 fn file(alloc: Global, name: &str, bytes: &[u8]) -> Result<(String, Vec<u8>), AllocError>
     ensures { IfOk result (λ file. named file ≡ (name.now, bytes.now)) }

@@ -255,9 +255,14 @@ fn the_first_wrong_file_is_told(rt: HostRuntime) -> Result<(), Fail> {
 }
 
 // Words that are no form, and files that are not there.
-const NO_FILES: [(&[&str], Status, &[u8]); 3] = [
+const NO_FILES: [(&[&str], Status, &[u8]); 4] = [
     (&["run", "a", "b"], Status::Words, b"junction: Words\n"),
     (&[], Status::Words, b"junction: Words\n"),
+    (
+        &["audit", "a", "b", "c"],
+        Status::Words,
+        b"junction: Words\n",
+    ),
     (RUN, Status::ReadFault, b"junction: p.pua: ReadFault\n"),
 ];
 

@@ -1,4 +1,5 @@
 use Rattle.junction_run.proofs.Once.{loads_once, programs_have_one_answer, ends_as_given, complete}
+use Rattle.junction_run.proofs.Audits.{logs_have_one_answer, logs_have_one_audit}
 use Rattle.junction_run.proofs.LoadedRuns.{loaded_runs_are_guarded, writes_of_the_files_are_guarded}
 use Rattle.junction_run.proofs.laws.answers_are_right.Goals as goal
 
@@ -19,3 +20,9 @@ returns-clause-programs c = programs_have_one_answer (record { some_tokens = c.o
 
 pub returns-clause-files : goal.returns-clause-files
 returns-clause-files c = writes_of_the_files_are_guarded
+
+pub returns-clause-logs : goal.returns-clause-logs
+returns-clause-logs c = logs_have_one_answer
+
+pub returns-clause-audits : goal.returns-clause-audits
+returns-clause-audits c = logs_have_one_audit

@@ -1,5 +1,5 @@
 use Rattle.std.proofs.Common.{◌∙◌, ◌<◌, ◌++◌, ◌∷◌, [], arith, refl}
-use Rattle.junction_run.specs.Form.{Source, SiteWords, word_of, site_files}
+use Rattle.junction_run.specs.Form.{Source, word_of, site_files}
 use Rattle.junction_run.specs.FormWords.{site_in, source_in}
 use Rattle.junction_run.specs.Loading.{IsSource, played_at}
 use Rattle.junction_run.specs.Sites.{site_of_tables}

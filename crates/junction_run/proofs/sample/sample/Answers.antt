@@ -1,4 +1,4 @@
-use Rattle.std.proofs.Common.{◌≡◌, ◌∙◌, ◌∷◌, [], Ok, refl, sym, ap, subst}
+use Rattle.std.proofs.Common.{◌≡◌, ◌∙◌, Ok, refl, sym, ap, subst}
 use Rattle.std.specs.Io.KnownBytes.{append_known}
 use Rattle.pua_model.specs.Plan.{groups_in}
 use Rattle.controller.specs.Controls.{plan_of}

@@ -1,7 +1,7 @@
 use Rattle.std.proofs.Common.{◌≡◌, ◌∙◌, false, [], sym, subst, refl}
 use Rattle.junction_run.specs.Answer.{Meets}
 use Rattle.junction_run.specs.Answers.{may_write}
-use Rattle.junction_run.specs.Form.{Form, files_of, reads_lines}
+use Rattle.junction_run.specs.Form.{Form, files_of, writes_lines}
 use Rattle.junction_run.specs.FormWords.{form_in}
 use Rattle.junction_run.specs.Notes.{IsNote, NoteMeets, stop_note}
 use Rattle.junction_run.specs.Stop.{status_of}
@@ -28,7 +28,7 @@ returns-in-Err-clause-answer g c =
       not_words = λ at. no_words c.in-Err.stop (sym is ∙ at);
       read_fault = λ at. c.in-Err.ensures.read (sym is ∙ at);
       write_fault = λ at. c.in-Err.ensures.write (sym is ∙ at);
-      unwritten = λ none. c.in-Err.ensures.unwritten (subst (λ s. may_write (reads_lines form) s ≡ false) is none);
+      unwritten = λ none. c.in-Err.ensures.unwritten (subst (λ s. may_write (writes_lines form) s ≡ false) is none);
       line = λ at. c.in-Err.ensures.line (sym is ∙ at);
       answer = λ file e. subst (λ s. Meets form file s (g.O.Sink.taken c.args.out.now) (g.O.Sink.taken c.do_form.new.out)) (sym is) (c.in-Err.ensures.ended file e).0;
       safe = c.do_form.ensures.safe;

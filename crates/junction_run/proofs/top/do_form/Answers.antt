@@ -1,4 +1,4 @@
-use Rattle.std.proofs.Common.{◌≡◌, sym, subst}
+use Rattle.std.proofs.Common.{sym, subst}
 use Rattle.junction_run.specs.Ended.{IsEnded}
 use Rattle.junction_run.specs.FormWords.{form_in}
 use Rattle.junction_run.specs.Guarded.{IsSafe}
@@ -15,3 +15,7 @@ returns-in-Play-clause-safe g c =
 pub returns-in-Sample-clause-ended : goal.returns-in-Sample-clause-ended
 returns-in-Sample-clause-ended g c = λ file e.
     subst (λ f. IsEnded (form_in f) file c.sample.result (g.O.Sink.taken c.args.out.now) (g.O.Sink.taken c.sample.new.out)) (sym c.in-Sample.is) (c.sample.ensures.ended file e)
+
+pub returns-in-Audit-clause-ended : goal.returns-in-Audit-clause-ended
+returns-in-Audit-clause-ended g c = λ file e.
+    subst (λ f. IsEnded (form_in f) file c.audit.result (g.O.Sink.taken c.args.out.now) (g.O.Sink.taken c.audit.new.out)) (sym c.in-Audit.is) (c.audit.ensures.ended file e)
