@@ -10,6 +10,7 @@ pub mod Logs
 pub mod Once
 pub mod Pieces
 pub mod Plays
+pub mod SafeLogs
 pub mod Sampling
 pub mod Tables
 pub mod Texts

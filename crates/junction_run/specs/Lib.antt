@@ -15,6 +15,7 @@ pub mod Played
 pub mod Programs
 pub mod Reasons
 pub mod Records
+pub mod SafeLogs
 pub mod Sampled
 pub mod SiteAnswer
 pub mod Sites

@@ -1,5 +1,6 @@
 //! What follows from the definitions of what the files give and of an answer: each law is a clause of a call that does nothing.
 ghost use Rattle.junction_run.specs.Laws.{LoadsOnce, ProgramsHaveOneAnswer, LogsHaveOneAnswer, LogsHaveOneAudit, EndsAsGiven, IsComplete, LoadedRunsAreGuarded, WritesOfTheFilesAreGuarded};
+ghost use Rattle.junction_run.specs.SafeLogs.{AuditsSaySafe, LoadedRunsAreWithinLimits, WrittenLogsAreJudgedSafe};
 
 use code_verify::one_check_is_first;
 use vap_check::one_answer;
@@ -26,3 +27,13 @@ pub fn answers_are_right()
     one_answer();
     one_check_is_first();
 }
+
+/// What `run` and `exec` write, up to the end of the detector file or its first refused line, is read back, record by record, as the
+/// pictures of the run, and these are judged safe, with the number of its seconds: each run that the files give is within the limits
+/// of a log that can be read. And `audit` of a file that holds it, with the same plan and the same tables, answers `SAFE` and that
+/// number.
+pub fn logs_are_judged_safe()
+    ensures loaded { LoadedRunsAreWithinLimits }
+    ensures written { WrittenLogsAreJudgedSafe }
+    ensures audited { AuditsSaySafe }
+{}
