@@ -1,5 +1,5 @@
 -- How a live run answers.
-use Rattle.std.proofs.Common.{◌≡◌, ◌∙◌, ℕ, false, List, [], ◌++◌, Option, None, Some, Result, Ok, Err, refl, sym, ap, subst, inl, inr, ◌⊎◌}
+use Rattle.std.proofs.Common.{◌≡◌, ◌∙◌, ℕ, List, [], ◌++◌, Option, None, Some, Result, Ok, Err, refl, sym, ap, subst, inl, inr, ◌⊎◌}
 use Rattle.std.proofs.lemmas.List.Elements.{Contains-append_left}
 use Rattle.sig_io.specs.Outside.{Contents}
 use Rattle.sig_types.specs.Counts.{Counts}
@@ -8,7 +8,7 @@ use Rattle.det_stream.specs.Answers.{IsStream}
 use Rattle.det_stream.specs.Stream.{Stream, stream_of}
 use Rattle.junction_run.specs.declared.status.Status.{Status}
 use Rattle.junction_run.specs.declared.status.Status.TheVariants as status
-use Rattle.junction_run.specs.declared.stop.LoadStop.TheVariants as load
+use Rattle.junction_run.specs.declared.stop.LineReason.TheVariants.{Frame, Record}
 use Rattle.junction_run.specs.declared.stop.PlayStop.TheVariants.{ReadFault, WriteFault, RefusedLine}
 use Rattle.junction_run.specs.declared.stop.Stop.{Stop}
 use Rattle.junction_run.specs.declared.stop.Stop.TheVariants.{Load, Play}
@@ -23,54 +23,55 @@ use Rattle.junction_run.specs.SiteAnswer.{IsLoadStatus, IsSiteLoad, IsSiteNote, 
 use Rattle.junction_run.proofs.Ends.{append_known-nil}
 use Rattle.junction_live.specs.Form.{LiveWords}
 use Rattle.junction_live.specs.Answer.{frames_answer, Loads, Meets, NoteMeets, answer_to}
-use Rattle.junction_live.specs.Ended.{GainedLog, GainedFront, IsTaken, IsPlayed}
+use Rattle.junction_live.specs.Ended.{GainedText, GainedBegun, IsTaken, IsPlayed}
 use Rattle.junction_live.specs.Laws.{IsComplete}
 
 -- ---- the detector file
 
 -- it wasn't taken, and nothing was written
-pub taken_played : (A : Type 0) (name bytes : List ℕ) (playing : Playing) (stop : Stop) (out : Option (List ℕ)) → IsTaken name bytes (Err stop) →
-    IsPlayed {A = A} name (stream_of bytes) playing (Err stop) out out
-taken_played A name bytes playing (Load stop) out is = (is, refl)
-taken_played A name bytes playing (Play (ReadFault word)) out is = (is, refl)
-taken_played A name bytes playing (Play WriteFault) out is = absurd is
-taken_played A name bytes playing (Play (RefusedLine word line why)) out is = (is.0, is.1, refl)
+pub taken_played : (A : Type 0) (n : ℕ) (name bytes : List ℕ) (playing : Playing) (stop : Stop) (out : Option (List ℕ)) → IsTaken name bytes (Err stop) →
+    IsPlayed {A = A} n name (stream_of bytes) playing (Err stop) out out
+taken_played A n name bytes playing (Load stop) out is = (is, refl)
+taken_played A n name bytes playing (Play (ReadFault word)) out is = (is, refl)
+taken_played A n name bytes playing (Play WriteFault) out is = absurd is
+taken_played A n name bytes playing (Play (RefusedLine word line reason)) out is = (is.0, is.1, refl)
 
 -- it was played to its end
-pub played_done : {A : Type 0} (name bytes : List ℕ) (frames : List Counts) (playing : Playing) (x : A) (old new : Option (List ℕ)) →
-    IsStream bytes frames None → GainedLog playing frames old new → IsPlayed name (stream_of bytes) playing (Ok x) old new
-played_done name bytes frames playing x old new stream is =
-    (stream.refusal_is, subst (λ fs. GainedLog playing fs old new) (sym stream.frames_are) is)
+pub played_done : {A : Type 0} (n : ℕ) (name bytes : List ℕ) (frames : List Counts) (playing : Playing) (x : A) (old new : Option (List ℕ)) →
+    IsStream bytes frames None → GainedText n playing frames old new → IsPlayed n name (stream_of bytes) playing (Ok x) old new
+played_done n name bytes frames playing x old new stream is =
+    (stream.refusal_is, subst (λ fs. GainedText n playing fs old new) (sym stream.frames_are) is)
 
 -- or the sink failed
-pub played_cut : (A : Type 0) (name bytes : List ℕ) (frames : List Counts) (playing : Playing) (old new : Option (List ℕ)) →
-    IsStream bytes frames None → GainedFront playing frames old new → IsPlayed {A = A} name (stream_of bytes) playing (Err (Play WriteFault)) old new
-played_cut A name bytes frames playing old new stream is =
-    (stream.refusal_is, subst (λ fs. GainedFront playing fs old new) (sym stream.frames_are) is)
+pub played_cut : (A : Type 0) (n : ℕ) (name bytes : List ℕ) (frames : List Counts) (playing : Playing) (old new : Option (List ℕ)) →
+    IsStream bytes frames None → GainedBegun n playing frames old new → IsPlayed {A = A} n name (stream_of bytes) playing (Err (Play WriteFault)) old new
+played_cut A n name bytes frames playing old new stream is =
+    (stream.refusal_is, subst (λ fs. GainedBegun n playing fs old new) (sym stream.frames_are) is)
 
 -- ---- the answer to a form
 
--- how a live run ended at what the files give, where its stream has this refusal
-abbrev EndsWith : {A : Type 0} → (Result Playing Unloaded → Type 0) → (List ℕ → Type 0) → List ℕ → List Counts → Result A Stop → Option (List ℕ) →
+-- how a live run with so many watchers ended at what the files give, where its stream has this refusal
+abbrev EndsWith : {A : Type 0} → ℕ → (Result Playing Unloaded → Type 0) → (List ℕ → Type 0) → List ℕ → List Counts → Result A Stop → Option (List ℕ) →
     Option (List ℕ) → Option (ℕ × StreamWhy) → Type 0
-EndsWith Gives Reached detectors frames r old new refusal = IsEndedBy Gives (answered (λ p. frames_answer detectors p frames refusal)) Reached r old new
+EndsWith n Gives Reached detectors frames r old new refusal = IsEndedBy Gives (answered (λ p. frames_answer n detectors p frames refusal)) Reached r old new
 
 -- it played so
-pub ended : {A : Type 0} (Gives : Result Playing Unloaded → Type 0) (Reached : List ℕ → Type 0) (detectors : List ℕ) (stream : Stream) (playing : Playing)
-    (r : Result A Stop) (old new : Option (List ℕ)) → Gives (Ok playing) → Reached detectors → IsPlayed detectors stream playing r old new →
-    EndsWith Gives Reached detectors stream.frames r old new stream.refusal
-ended Gives Reached detectors stream playing (Ok x) old new loads reached is =
-    subst (EndsWith Gives Reached detectors stream.frames (Ok x) old new) (sym is.0) (Ok playing, loads, refl, (is.1.0, is.1.1, is.1.2))
-ended {A} Gives Reached detectors stream playing (Err (Load stop)) old new loads reached is =
-    subst (λ s. EndsWith {A = A} Gives Reached detectors stream.frames (Err (Load s)) old new stream.refusal) (sym is.0) (is.1, tt)
-ended Gives Reached detectors stream playing (Err (Play (ReadFault word))) old new loads reached is =
+pub ended : {A : Type 0} (n : ℕ) (Gives : Result Playing Unloaded → Type 0) (Reached : List ℕ → Type 0) (detectors : List ℕ) (stream : Stream)
+    (playing : Playing) (r : Result A Stop) (old new : Option (List ℕ)) → Gives (Ok playing) → Reached detectors →
+    IsPlayed n detectors stream playing r old new → EndsWith n Gives Reached detectors stream.frames r old new stream.refusal
+ended n Gives Reached detectors stream playing (Ok x) old new loads reached is =
+    subst (EndsWith n Gives Reached detectors stream.frames (Ok x) old new) (sym is.0) (Ok playing, loads, refl, (is.1.0, is.1.1, is.1.2))
+ended {A} n Gives Reached detectors stream playing (Err (Load stop)) old new loads reached is =
+    subst (λ s. EndsWith {A = A} n Gives Reached detectors stream.frames (Err (Load s)) old new stream.refusal) (sym is.0) (is.1, tt)
+ended n Gives Reached detectors stream playing (Err (Play (ReadFault word))) old new loads reached is =
     (inl is.1, (word.now, subst Reached (sym is.0) reached, refl))
-ended {A} Gives Reached detectors stream playing (Err (Play WriteFault)) old new loads reached is =
-    subst (EndsWith {A = A} Gives Reached detectors stream.frames (Err (Play WriteFault)) old new) (sym is.0)
+ended {A} n Gives Reached detectors stream playing (Err (Play WriteFault)) old new loads reached is =
+    subst (EndsWith {A = A} n Gives Reached detectors stream.frames (Err (Play WriteFault)) old new) (sym is.0)
     ((Ok playing, loads, is.1.0, is.1.1, is.1.2, is.1.3), tt)
-ended {A} Gives Reached detectors stream playing (Err (Play (RefusedLine word line why))) old new loads reached is =
-    subst (EndsWith {A = A} Gives Reached detectors stream.frames (Err (Play (RefusedLine word line why))) old new) (sym is.1)
+ended {A} n Gives Reached detectors stream playing (Err (Play (RefusedLine word line (Frame why)))) old new loads reached is =
+    subst (EndsWith {A = A} n Gives Reached detectors stream.frames (Err (Play (RefusedLine word line (Frame why)))) old new) (sym is.1)
     ((Ok playing, loads, refl, ([], refl, is.2 ∙ sym (append_known-nil old))), (Ok playing, loads, refl, ap (λ v. stream_note v (Some (line, why))) is.0))
+ended n Gives Reached detectors stream playing (Err (Play (RefusedLine word line (Record why)))) old new loads reached is = absurd is.1
 
 -- where a file is refused, out gains nothing
 no_text : (u : Unloaded) (out : Option (List ℕ)) → Gains (unloaded_answer u) (unloaded_answer u).pieces out out

@@ -5,42 +5,27 @@ use Rattle.sig_types.specs.Counts.{Counts}
 use Rattle.sig_types.specs.Pass.{Logic}
 use Rattle.controller.specs.Past.{Site, Past}
 use Rattle.junction_run.specs.declared.status.Status.{Status}
-use Rattle.junction_run.specs.declared.status.Status.TheVariants.{Done, Memory, Words, ReadFault, WriteFault, RefusedFile, RefusedLine, TooLong}
-use Rattle.junction_live.specs.Outcome.{Live, Written, is_done}
+use Rattle.junction_run.specs.declared.status.Status.TheVariants.{WriteFault}
+use Rattle.std.specs.Io.KnownBytes.{append_known}
+use Rattle.junction_live.specs.Outcome.{Live, Written, all_written, cut_off, is_done, log_of}
 use Rattle.junction_live.specs.Play.{NeverAhead, NoMore}
 
-pub done_is : (status : Status) → is_done status ≡ true → status ≡ Done
-done_is Done is = refl
-done_is Memory is = cc
-done_is Words is = cc
-done_is ReadFault is = cc
-done_is WriteFault is = cc
-done_is RefusedFile is = cc
-done_is RefusedLine is = cc
-done_is TooLong is = cc
+-- all was done
+pub all_of : (status : Status) (seconds : ℕ) (made : List Counts) (logic : Logic) (site : Site) (past : Past) (old new : Option (List ℕ)) → is_done status ≡ true →
+    Written seconds logic site past made old new status → (length made ≡ seconds) × (new ≡ append_known old (log_of logic site past made))
+all_of status seconds made logic site past old new is (all_written count text) = (count, text)
+all_of status seconds made logic site past old new is (cut_off le n cut) = cc
 
 pub cut_live : (A : Type 0) {E : Type 0} (status : Status) (fault : E) (frames made : List Counts) (logic : Logic) (site : Site) (past : Past) (old new : Option (List ℕ)) → is_done status ≡ false →
-    Written status (length frames) logic site past made old new → NeverAhead made → NoMore frames made → Live {A = A} (Err fault) frames logic site past old new
-cut_live A Done fault frames made logic site past old new is written ahead less = cc
-cut_live A Memory fault frames made logic site past old new is written ahead less = absurd written
-cut_live A Words fault frames made logic site past old new is written ahead less = absurd written
-cut_live A ReadFault fault frames made logic site past old new is written ahead less = absurd written
-cut_live A WriteFault fault frames made logic site past old new is written ahead less = (made, omega (arith, written.0), written.1, ahead, less)
-cut_live A RefusedFile fault frames made logic site past old new is written ahead less = absurd written
-cut_live A RefusedLine fault frames made logic site past old new is written ahead less = absurd written
-cut_live A TooLong fault frames made logic site past old new is written ahead less = absurd written
+    Written (length frames) logic site past made old new status → NeverAhead made → NoMore frames made → Live {A = A} (Err fault) frames logic site past old new
+cut_live A status fault frames made logic site past old new is (all_written count text) ahead less = cc
+cut_live A status fault frames made logic site past old new is (cut_off le n cut) ahead less = (made, omega (arith, le), (n, cut), ahead, less)
 
 -- unless all was done, the sink failed
 pub cut_is : (status : Status) (seconds : ℕ) (made : List Counts) (logic : Logic) (site : Site) (past : Past) (old new : Option (List ℕ)) → is_done status ≡ false →
-    Written status seconds logic site past made old new → status ≡ WriteFault
-cut_is Done seconds made logic site past old new is written = cc
-cut_is Memory seconds made logic site past old new is written = absurd written
-cut_is Words seconds made logic site past old new is written = absurd written
-cut_is ReadFault seconds made logic site past old new is written = absurd written
-cut_is WriteFault seconds made logic site past old new is written = refl
-cut_is RefusedFile seconds made logic site past old new is written = absurd written
-cut_is RefusedLine seconds made logic site past old new is written = absurd written
-cut_is TooLong seconds made logic site past old new is written = absurd written
+    Written seconds logic site past made old new status → status ≡ WriteFault
+cut_is status seconds made logic site past old new is (all_written count text) = cc
+cut_is status seconds made logic site past old new is (cut_off le n cut) = refl
 
 -- a fault of a later call is one of both
 pub cause_later : {A E : Type 0} (r : Result A E) (first mid last : ℕ) → first ≤ mid → HasCause mid last r → HasCause first last r

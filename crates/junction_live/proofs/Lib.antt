@@ -8,3 +8,5 @@ pub mod Printable
 pub mod Running
 pub mod Sums
 pub mod Showing
+pub mod Sights
+pub mod Texts

@@ -6,10 +6,10 @@ use Rattle.sig_io.specs.Outside.{Contents, Rose}
 use Rattle.junction_run.specs.declared.status.Status.{Status}
 use Rattle.junction_run.specs.declared.status.Status.TheVariants.{Words, ReadFault, WriteFault}
 use Rattle.junction_run.specs.Answers.{Seen, WordsAnswer, may_write}
-use Rattle.junction_run.specs.Guarded.{IsGuardedLog}
 use Rattle.junction_run.specs.Notes.{IsNote}
 use Rattle.junction_live.specs.Form.{LiveWords, live_form, files_of}
 use Rattle.junction_live.specs.Answer.{Meets, NoteMeets}
+use Rattle.junction_live.specs.Guarded.{IsGuardedText}
 
 -- The answer to the form of a live run.
 pub record LiveAnswer (form : LiveWords) (files : Seen Contents) (out notes : Seen (List ℕ)) (status : Status) : Type 0 where
@@ -20,11 +20,11 @@ pub record LiveAnswer (form : LiveWords) (files : Seen Contents) (out notes : Se
   pub write_fault : status ≡ WriteFault → Rose out.before out.after
   -- nothing is written but with Done, and before a fault of the sink
   pub unwritten : may_write false status ≡ false → out.new ≡ out.old
-  -- where the files tell what they hold, the status is the answer's and out has gained its log, but for want of memory and
+  -- where the files tell what they hold, the status is the answer's and out has gained its text, but for want of memory and
   -- faults
   pub answer : ForSome files.old (λ file. Meets form file status out.old out.new)
   -- what was written keeps the guard's rules, whatever the files tell
-  pub safe : IsGuardedLog out.old out.new
+  pub safe : IsGuardedText form.watchers out.old out.new
   -- notes has taken the status's note, unless it failed; where the files tell what they hold, it is the answer's
   pub note : (Rose notes.before notes.after → ⊥) →
       (note : List ℕ) × (notes.new ≡ append_known notes.old note) × IsNote (files_of form) status note

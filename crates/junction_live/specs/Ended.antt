@@ -10,7 +10,8 @@ use Rattle.junction_run.specs.declared.stop.PlayStop.TheVariants.{ReadFault, Wri
 use Rattle.junction_run.specs.declared.stop.Stop.{Stop}
 use Rattle.junction_run.specs.declared.stop.Stop.TheVariants.{Load, Play}
 use Rattle.junction_run.specs.Loading.{Playing}
-use Rattle.junction_live.specs.Answer.{IsWholeLog, IsBegunLog}
+use Rattle.junction_run.specs.Played.{IsNoFrame}
+use Rattle.junction_live.specs.Answer.{IsWholeLog, IsBegunLog, IsWholeText, IsBegunText}
 
 -- a whole detector file with these bytes was read so
 abbrev pub IsTaken : (name bytes : List ℕ) → Result (List Counts) Stop → Type 0
@@ -18,8 +19,8 @@ IsTaken name bytes (Ok frames) = IsStream bytes frames None
 IsTaken name bytes (Err (Load stop)) = stop ≡ load.Memory
 IsTaken name bytes (Err (Play (ReadFault word))) = word.now ≡ name
 IsTaken name bytes (Err (Play WriteFault)) = ⊥
-IsTaken name bytes (Err (Play (RefusedLine word line why))) =
-    (word.now ≡ name) × ((stream_of bytes).refusal ≡ Some (line, why))
+IsTaken name bytes (Err (Play (RefusedLine word line reason))) =
+    (word.now ≡ name) × IsNoFrame (stream_of bytes).refusal line reason
 
 -- out gained the whole log of a live run over these frames
 abbrev pub GainedLog : Playing → List Counts → Option (List ℕ) → Option (List ℕ) → Type 0
@@ -30,16 +31,32 @@ abbrev pub GainedFront : Playing → List Counts → Option (List ℕ) → Optio
 GainedFront playing frames old new = (text : List ℕ) × IsBegunLog playing frames text × (n : ℕ) × IsCut old new n text
 
 -- the log over these frames was written so
-abbrev pub Wrote : {A E : Type 0} → Result A E → List Counts → Playing → Option (List ℕ) → Option (List ℕ) → Type 0
-Wrote (Ok x) frames playing old new = GainedLog playing frames old new
-Wrote (Err fault) frames playing old new = GainedFront playing frames old new
+abbrev pub WroteLog : {A E : Type 0} → Result A E → List Counts → Playing → Option (List ℕ) → Option (List ℕ) → Type 0
+WroteLog (Ok x) frames playing old new = GainedLog playing frames old new
+WroteLog (Err fault) frames playing old new = GainedFront playing frames old new
+
+-- out gained the whole text of a live run with so many watchers
+abbrev pub GainedText : ℕ → Playing → List Counts → Option (List ℕ) → Option (List ℕ) → Type 0
+GainedText watchers playing frames old new =
+    (text : List ℕ) × IsWholeText watchers playing frames text × (new ≡ append_known old text)
+
+-- out gained a front of what was begun of it
+abbrev pub GainedBegun : ℕ → Playing → List Counts → Option (List ℕ) → Option (List ℕ) → Type 0
+GainedBegun watchers playing frames old new =
+    (text : List ℕ) × IsBegunText watchers playing frames text × (n : ℕ) × IsCut old new n text
+
+-- the text over these frames was written so
+abbrev pub Wrote : {A E : Type 0} → ℕ → Result A E → List Counts → Playing → Option (List ℕ) → Option (List ℕ) → Type 0
+Wrote watchers (Ok x) frames playing old new = GainedText watchers playing frames old new
+Wrote watchers (Err fault) frames playing old new = GainedBegun watchers playing frames old new
 
 -- a detector file that is read as this stream was played so
-abbrev pub IsPlayed : {A : Type 0} → (name : List ℕ) → Stream → Playing → Result A Stop → Option (List ℕ) → Option (List ℕ) → Type 0
-IsPlayed name stream playing (Ok x) old new = (stream.refusal ≡ None) × GainedLog playing stream.frames old new
-IsPlayed name stream playing (Err (Load stop)) old new = (stop ≡ load.Memory) × (new ≡ old)
-IsPlayed name stream playing (Err (Play (ReadFault word))) old new = (word.now ≡ name) × (new ≡ old)
-IsPlayed name stream playing (Err (Play WriteFault)) old new =
-    (stream.refusal ≡ None) × GainedFront playing stream.frames old new
-IsPlayed name stream playing (Err (Play (RefusedLine word line why))) old new =
-    (word.now ≡ name) × (stream.refusal ≡ Some (line, why)) × (new ≡ old)
+abbrev pub IsPlayed : {A : Type 0} → (watchers : ℕ) (name : List ℕ) → Stream → Playing → Result A Stop → Option (List ℕ) → Option (List ℕ) → Type 0
+IsPlayed watchers name stream playing (Ok x) old new =
+    (stream.refusal ≡ None) × GainedText watchers playing stream.frames old new
+IsPlayed watchers name stream playing (Err (Load stop)) old new = (stop ≡ load.Memory) × (new ≡ old)
+IsPlayed watchers name stream playing (Err (Play (ReadFault word))) old new = (word.now ≡ name) × (new ≡ old)
+IsPlayed watchers name stream playing (Err (Play WriteFault)) old new =
+    (stream.refusal ≡ None) × GainedBegun watchers playing stream.frames old new
+IsPlayed watchers name stream playing (Err (Play (RefusedLine word line reason))) old new =
+    (word.now ≡ name) × IsNoFrame stream.refusal line reason × (new ≡ old)

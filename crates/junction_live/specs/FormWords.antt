@@ -10,4 +10,5 @@ form_in words = record {
   program = program_named (map string_bytes words.names.now);
   site = site_named (map string_bytes words.names.now);
   detectors = words.detectors.now;
+  watchers = words.watchers.count;
 }

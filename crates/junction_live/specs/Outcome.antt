@@ -19,18 +19,14 @@ use Rattle.junction_live.specs.Play.{Loaded, NeverAhead, SameSums, NoMore}
 abbrev pub log_of : Logic → Site → Past → List Counts → List ℕ
 log_of logic site past made = records_text site.plan.names (run_from logic site past made)
 
--- of that many seconds those of these frames were made, and their records written, or cut
-abbrev pub Written : Status → ℕ → Logic → Site → Past → List Counts → Option (List ℕ) → Option (List ℕ) → Type 0
-Written Done seconds logic site past made old new =
-    (length made ≡ seconds) × (new ≡ append_known old (log_of logic site past made))
-Written WriteFault seconds logic site past made old new =
-    (length made ≤ seconds) × ((n : ℕ) × IsCut old new n (log_of logic site past made))
-Written Memory seconds logic site past made old new = ⊥
-Written Words seconds logic site past made old new = ⊥
-Written ReadFault seconds logic site past made old new = ⊥
-Written RefusedFile seconds logic site past made old new = ⊥
-Written RefusedLine seconds logic site past made old new = ⊥
-Written TooLong seconds logic site past made old new = ⊥
+-- Of that many seconds those of these frames were made, with this status: all of them, and their records were written, or some,
+-- and the records were cut.
+pub data Written (seconds : ℕ) (logic : Logic) (site : Site) (past : Past) (made : List Counts) (old new : Option (List ℕ)) :
+    Status → Type 0 where
+  all_written : length made ≡ seconds → new ≡ append_known old (log_of logic site past made) →
+      Written seconds logic site past made old new Done
+  cut_off : length made ≤ seconds → (n : ℕ) → IsCut old new n (log_of logic site past made) →
+      Written seconds logic site past made old new WriteFault
 
 -- all seconds were made, and their records written
 abbrev pub is_done : Status → Bool
@@ -53,7 +49,7 @@ SecondsMade seconds status start now tick old new =
     (made : List Counts) × Loaded tick made × (length made ≤ seconds)
     × ((past : Past) → StandsFor start past → past.frames ≡ [] →
     StandsFor now (past_of (logic_of start) (site_of start) past made)
-    × Written status seconds (logic_of start) (site_of start) past made old new)
+    × Written seconds (logic_of start) (site_of start) past made old new status)
 
 -- the same, with the records put into a draft; where it hasn't failed, all seconds were made
 abbrev pub SecondsPut : ℕ → Controller → Controller → Ticking → Held → Held → Option (List ℕ) → Option (List ℕ) → Type 0

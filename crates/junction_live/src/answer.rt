@@ -7,7 +7,6 @@ ghost use Rattle.pua_model.specs.Plan.{groups_in};
 ghost use Rattle.vap_ast.specs.Syntax.{Program};
 ghost use Rattle.det_stream.specs.Stream.{stream_of};
 ghost use Rattle.junction_run.specs.Answers.{may_write, seen};
-ghost use Rattle.junction_run.specs.Guarded.{IsGuardedLog};
 ghost use Rattle.junction_run.specs.Loading.{program_at};
 ghost use Rattle.junction_run.specs.Sites.{Runs, site_in};
 ghost use Rattle.junction_run.specs.Stop.{status_of as status_of_stop, StopsAt, StopsWith};
@@ -15,14 +14,17 @@ ghost use Rattle.junction_run.specs.declared.status.Status.TheVariants as status
 ghost use Rattle.junction_live.specs.Answers.{LiveAnswer, LiveAnswers};
 ghost use Rattle.junction_live.specs.Ended.{IsTaken, IsPlayed};
 ghost use Rattle.junction_live.specs.FormWords.{form_in};
+ghost use Rattle.junction_live.specs.Guarded.{IsGuardedText};
 
+use crate::cell::make_watched_cell;
+use crate::count::WatcherCount;
 use crate::form::{LiveWords, live_form};
-use crate::log::write_live;
+use crate::text::write_text;
 use det_board::make_board;
 use det_stream::{Frames, StreamRefusal, read_all};
 use junction_run::{
-    LoadStop, PlayStop, Site, Status, Stop, load_site, make_controller, status_of, write_stop,
-    write_words,
+    LineReason, LoadStop, PlayStop, Site, Status, Stop, load_site, make_controller, status_of,
+    write_stop, write_words,
 };
 use sig_io::{Files, Gate, Sink};
 use std::alloc::Global;
@@ -47,17 +49,19 @@ fn take_frames<'a, F: Files>(
         Err(StreamRefusal::Memory) => Err(Stop::Load(LoadStop::Memory)),
         Err(StreamRefusal::Fault) => Err(Stop::Play(PlayStop::ReadFault(word))),
         Err(StreamRefusal::At { line, why }) => {
-            Err(Stop::Play(PlayStop::RefusedLine { word, line, why }))
+            let reason = LineReason::Frame(why);
+            Err(Stop::Play(PlayStop::RefusedLine { word, line, reason }))
         }
     }
 }
 
-// Plays a detector file at a site. All memory is taken before the first byte is written.
+// Plays a detector file at a site, beside so many watchers. All memory is taken before the first byte is written.
 fn play_site<'a, R: Threads + Sync, F: Files, O: Sink + Send, G: Gate>(
     rt: &R,
     alloc: Global,
     site: Site,
     detectors: &'a str,
+    watchers: WatcherCount,
     files: &mut F,
     out: &mut O,
     gate: &G,
@@ -65,10 +69,10 @@ fn play_site<'a, R: Threads + Sync, F: Files, O: Sink + Send, G: Gate>(
     requires times { length site.times ≡ groups_in site.plan }
     requires intergreens { site.intergreens.count ≡ groups_in site.plan }
     ensures played { (program : Program) → Runs site.code program → ForSome (F.told files.old) (λ file.
-        IsPlayed detectors.now (stream_of (file detectors.now)) (program_at (site_in site) program)
+        IsPlayed watchers.count detectors.now (stream_of (file detectors.now)) (program_at (site_in site) program)
         result (O.taken out.old) (O.taken out.new)) }
     ensures unwritten { IfErr result (λ stop. may_write false (status_of_stop stop) ≡ false → O.taken out.new ≡ O.taken out.old) }
-    ensures guarded { IsGuardedLog (O.taken out.old) (O.taken out.new) }
+    ensures guarded { IsGuardedText watchers.count (O.taken out.old) (O.taken out.new) }
     ensures word { IfErr result (λ stop. StopsAt detectors.now stop) }
     ensures contents_stay { F.told files.new ≡ F.told files.old }
     ensures later_files { F.faults files.old ≤ F.faults files.new }
@@ -88,7 +92,13 @@ fn play_site<'a, R: Threads + Sync, F: Files, O: Sink + Send, G: Gate>(
         Ok(made) => made,
         Err(_memory) => return Err(Stop::Load(LoadStop::Memory)),
     };
-    match write_live(rt, controller, &frames, board, feeders, tick, out, gate) {
+    let cell = match make_watched_cell(alloc, controller.plan(), watchers, &frames) {
+        Ok(cell) => cell,
+        Err(_memory) => return Err(Stop::Load(LoadStop::Memory)),
+    };
+    match write_text(
+        rt, controller, &frames, board, feeders, tick, cell, out, gate,
+    ) {
         Ok(()) => Ok(()),
         Err(_fault) => Err(Stop::Play(PlayStop::WriteFault)),
     }
@@ -117,7 +127,16 @@ fn answer_form<R: Threads + Sync, F: Files, O: Sink + Send, N: Sink, G: Gate>(
         Ok(site) => site,
         Err(status) => return status,
     };
-    match play_site(rt, alloc, site, form.detectors, files, out, gate) {
+    match play_site(
+        rt,
+        alloc,
+        site,
+        form.detectors,
+        form.watchers,
+        files,
+        out,
+        gate,
+    ) {
         Ok(()) => Status::Done,
         Err(stop) => {
             write_stop(&stop, notes);
@@ -126,15 +145,17 @@ fn answer_form<R: Threads + Sync, F: Files, O: Sink + Send, N: Sink, G: Gate>(
     }
 }
 
-/// Does what the words say, over these files: `out` gains the log of the played stream, and `notes` one line unless all was
-/// done.
+/// Does what the words say, over these files: `out` gains the log of the played stream and then a line for each watcher, and
+/// `notes` one line unless all was done.
 ///
-/// The words are those of the command line without the program's name: `live PROGRAM PUA TIMES INTERGREENS DETECTORS`.
+/// The words are those of the command line without the program's name: `live PROGRAM PUA TIMES INTERGREENS DETECTORS`, and
+/// behind them, where watchers look on, their number of 1 to 8.
 /// The files are read in the order PUA, TIMES, INTERGREENS, PROGRAM, at most 1,048,576 bytes of each, and then the whole of
 /// DETECTORS; each is judged before the next one is read, and all memory is taken before the header is written. A feeder for
 /// each of 64 detectors plays its events line by line, while the controller takes a frame and makes a second for each line;
-/// when all feeders have returned, a closing second has what no take has read. Before each event its actor calls
-/// `gate.pass`. Where no thread can be had the caller does the work itself.
+/// when all feeders have returned, a closing second has what no take has read. Each watcher looks 16 times meanwhile at the
+/// picture that was published last. Before each event and each look its actor calls `gate.pass`. Where no thread can be had the
+/// caller does the work itself.
 pub fn live<R: Threads + Sync, F: Files, O: Sink + Send, N: Sink, G: Gate>(
     rt: &R,
     alloc: Global,

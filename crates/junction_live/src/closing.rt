@@ -15,8 +15,8 @@ use sig_io::{Failed, Gate, Sink};
 use signal_log::write_second;
 use std::thread::Threads;
 
-// Whether all seconds were made, and their records written.
-fn is_done(status: Status) -> bool
+/// Whether all seconds were made, and their records written.
+pub(crate) fn is_done(status: Status) -> bool
     ensures { result ≡ is_done_spec status }
 {
     match status {

@@ -1,7 +1,11 @@
 // The words of a live run.
 ghost use Rattle.std.specs.Prelude.{◌≡◌, None, Some, MatchOption, IfSome, length, map, string_bytes};
+ghost use Rattle.sig_types.specs.Text.{number_of, within};
 ghost use Rattle.junction_live.specs.Form.{begins_live, live_form};
 ghost use Rattle.junction_live.specs.FormWords.{form_in};
+
+use crate::count::WatcherCount;
+use sig_types::text::number;
 
 const LIVE: &str = "live";
 
@@ -11,6 +15,7 @@ pub(crate) struct LiveWords<'a> {
     /// The names of the program, the PUA file, the times and the intergreens.
     pub(crate) names: &'a [String],
     pub(crate) detectors: &'a str,
+    pub(crate) watchers: WatcherCount,
 }
 
 /// Whether the first word asks for a live run.
@@ -20,6 +25,17 @@ pub fn begins_live(words: &[String]) -> bool
     match words {
         [command, ..] => command.as_str() == LIVE,
         [] => false,
+    }
+}
+
+// A number of watchers.
+fn watchers_of(word: &str) -> Option<WatcherCount>
+    ensures { MatchOption result (within 1 8 (number_of word.now) ≡ None)
+        (λ watchers. within 1 8 (number_of word.now) ≡ Some watchers.count) }
+{
+    match number(word.as_bytes(), 1, 8) {
+        Some(count) => Some(WatcherCount { count: count as u8 }),
+        None => None,
     }
 }
 
@@ -37,6 +53,26 @@ pub(crate) fn live_form(words: &[String]) -> Option<LiveWords<'_>>
             Some(LiveWords {
                 names: &words[1..5],
                 detectors: detectors.as_str(),
+                watchers: WatcherCount { count: 0 },
+            })
+        }
+        [
+            command,
+            _program,
+            _plan,
+            _times,
+            _intergreens,
+            detectors,
+            watchers,
+        ] => {
+            if command.as_str() != LIVE {
+                return None;
+            }
+            let watchers = watchers_of(watchers.as_str())?;
+            Some(LiveWords {
+                names: &words[1..5],
+                detectors: detectors.as_str(),
+                watchers,
             })
         }
         _ => None,

@@ -1,5 +1,5 @@
 //! What follows from the definitions of a live run's answer: each law is a clause of a call that does nothing.
-ghost use Rattle.junction_live.specs.Laws.{IsComplete};
+ghost use Rattle.junction_live.specs.Laws.{IsComplete, TextIsLog};
 
 use junction_run::laws::answers_are_right;
 
@@ -9,3 +9,8 @@ pub fn live_answers_are_complete()
 {
     answers_are_right();
 }
+
+/// Without watchers the text of a live run is its log.
+pub fn without_watchers_there_is_the_log()
+    ensures { TextIsLog }
+{}

@@ -9,7 +9,7 @@ ghost use Rattle.controller.specs.Controls.{StandsFor, site_of};
 ghost use Rattle.controller.specs.Past.{opening};
 ghost use Rattle.det_board.specs.Passes.{IsOpening};
 ghost use Rattle.junction_run.specs.Played.{playing_of};
-ghost use Rattle.junction_live.specs.Ended.{Wrote};
+ghost use Rattle.junction_live.specs.Ended.{WroteLog};
 
 use crate::closing::play_out;
 use controller::Controller;
@@ -35,7 +35,7 @@ pub(crate) fn write_live<R: Threads + Sync, O: Sink + Send, G: Gate>(
     requires frames { AreFrames frames.now }
     ensures log { (store : Store) → StandsFor controller (opening (site_of controller) store) →
         IsTwoWay (site_of controller).rules → (site_of controller).rules.count ≡ groups_in (site_of controller).plan →
-        Wrote result frames.now (playing_of controller store) (O.taken out.old) (O.taken out.new) }
+        WroteLog result frames.now (playing_of controller store) (O.taken out.old) (O.taken out.new) }
     ensures cause { HasCause (O.faults out.old) (O.faults out.new) result }
 {
     let plan = controller.plan();

@@ -6,3 +6,5 @@
 mod live_runs;
 #[cfg(test)]
 mod sums;
+#[cfg(test)]
+mod watched_runs;

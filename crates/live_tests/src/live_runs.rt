@@ -13,7 +13,7 @@ use std::alloc::{AllocError, Global};
 use std::test::Fail;
 use std::thread::Threads;
 
-const LIVE: &[&str] = &["live", "p.vap", "p.pua", "t.csv", "g.csv", "d.txt"];
+pub(crate) const LIVE: &[&str] = &["live", "p.vap", "p.pua", "t.csv", "g.csv", "d.txt"];
 
 // What a live run answers to these words, over these files and this output, with the notes.
 fn live_answer<R: Threads + Sync, F: Files, O: Sink + Send, G: Gate>(
@@ -30,6 +30,20 @@ fn live_answer<R: Threads + Sync, F: Files, O: Sink + Send, G: Gate>(
     Ok((status, notes))
 }
 
+/// What these words of a live run answer over the files of a case, with the output and the notes.
+pub(crate) fn play_by<R: Threads + Sync, G: Gate>(
+    rt: &R,
+    alloc: Global,
+    words: &[&str],
+    case: &Case<'_>,
+    gate: &G,
+) -> Result<(Status, MemSink, MemSink), Fail> {
+    let mut files = MemFiles::new(files(alloc, case)?, Vec::new(alloc), 50);
+    let mut out = MemSink::new(alloc, case.room, Vec::new(alloc))?;
+    let (status, notes) = live_answer(rt, alloc, words, &mut files, &mut out, gate)?;
+    Ok((status, out, notes))
+}
+
 // What a live run of a case answers, with the output and the notes.
 fn play<R: Threads + Sync, G: Gate>(
     rt: &R,
@@ -37,10 +51,7 @@ fn play<R: Threads + Sync, G: Gate>(
     case: &Case<'_>,
     gate: &G,
 ) -> Result<(Status, MemSink, MemSink), Fail> {
-    let mut files = MemFiles::new(files(alloc, case)?, Vec::new(alloc), 50);
-    let mut out = MemSink::new(alloc, case.room, Vec::new(alloc))?;
-    let (status, notes) = live_answer(rt, alloc, LIVE, &mut files, &mut out, gate)?;
-    Ok((status, out, notes))
+    play_by(rt, alloc, LIVE, case, gate)
 }
 
 // Two fronts of one detector in one line.
@@ -200,17 +211,18 @@ fn tells_last(alloc: Global, asked: &[u8], note: &[u8]) -> Result<bool, Fail> {
     Ok(*last == b'!' && in_order && note == wanted.as_bytes())
 }
 
-// Whether a live run is done before its call of that number on this side, which fails; an error where it answers otherwise than
-// it must. After a read that failed nothing is asked for, and nothing is written. After a write that failed nothing is written,
-// and no event is counted twice.
-fn is_done_before<R: Threads + Sync>(
+/// Whether these words of a live run are done before the call of that number on this side, which fails; an error where they answer
+/// otherwise than they must. After a read that failed nothing is asked for, and nothing is written. After a write that failed
+/// nothing is written, and no event is counted twice.
+pub(crate) fn is_done_before<R: Threads + Sync>(
     rt: &R,
     alloc: Global,
+    words: &[&str],
     side: Side,
     call: u64,
 ) -> Result<bool, Fail> {
     let (mut files, mut out) = failing(alloc, &TWO_FRONTS, side, call)?;
-    let (status, notes) = live_answer(rt, alloc, LIVE, &mut files, &mut out, &FreeGate)?;
+    let (status, notes) = live_answer(rt, alloc, words, &mut files, &mut out, &FreeGate)?;
     let note = notes.bytes();
     let as_wanted = match status {
         Status::ReadFault => {
@@ -240,8 +252,8 @@ fn is_done_before<R: Threads + Sync>(
 
 #[test]
 fn each_call_of_a_live_run_fails_in_turn(rt: HostRuntime) -> Result<(), Fail> {
-    let reads = failing_calls(|call| is_done_before(&rt, rt.alloc(), Side::Read, call))?;
-    let writes = failing_calls(|call| is_done_before(&rt, rt.alloc(), Side::Write, call))?;
+    let reads = failing_calls(|call| is_done_before(&rt, rt.alloc(), LIVE, Side::Read, call))?;
+    let writes = failing_calls(|call| is_done_before(&rt, rt.alloc(), LIVE, Side::Write, call))?;
     assert!(rt; 100 < reads && 5 < writes, "{reads} {writes}");
     Ok(())
 }

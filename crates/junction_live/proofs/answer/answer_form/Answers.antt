@@ -14,6 +14,7 @@ use Rattle.junction_run.proofs.Ends.{append_known-nil, note_is, no_words, stops_
 use Rattle.junction_live.specs.Answer.{Loads, Reached, Meets, NoteMeets}
 use Rattle.junction_live.specs.Form.{LiveWords, files_of}
 use Rattle.junction_live.specs.FormWords.{form_in}
+use Rattle.junction_live.specs.Guarded.{log_guarded}
 use Rattle.junction_live.proofs.Answering.{site_meets, site_note_meets, site_ends, note_more, ended}
 use Rattle.junction_live.proofs.answer.answer_form.Goals as goal
 
@@ -28,7 +29,7 @@ returns-in-Err-clause-answer g c =
       write_fault = λ at. absurd ((site_ends s e.statuses).1 at);
       unwritten = λ none. refl;
       answer = λ file told. site_meets form file s _ (e.loaded file told);
-      safe = unwritten refl;
+      safe = log_guarded (unwritten refl);
       note = λ clean.
           let n = e.note clean in
           (n.0, n.1, note_more (site_files form.site ++ form.program ∷ []) (form.detectors ∷ []) s n.0 n.2, λ file told. site_note_meets form file s n.0 (n.3 file told));
@@ -50,7 +51,7 @@ returns-in-Ok-play_site-clause-answer g c =
           let l = loaded file told in
           let playing = program_at (sites.site_in c.in-Ok.site) l.0 in
           let done : Result (Unit {0}) Stop = Ok (tt {0}) in
-          ended (Loads form file) (Reached form file) form.detectors (stream_of (file form.detectors)) playing done (g.O.Sink.taken c.args.out.now) (g.O.Sink.taken c.play_site.new.out) l.1 (ReachedInPlay.at_detectors playing l.1)
+          ended form.watchers (Loads form file) (Reached form file) form.detectors (stream_of (file form.detectors)) playing done (g.O.Sink.taken c.args.out.now) (g.O.Sink.taken c.play_site.new.out) l.1 (ReachedInPlay.at_detectors playing l.1)
           (c.in-Ok-play_site.ensures.played l.0 l.2 file (c.load_site.ensures.contents_stay ∙ told));
       safe = c.play_site.ensures.guarded;
       note = λ clean. ([], ap (λ n. g.N.Sink.taken n) c.in-Ok.ensures.quiet ∙ sym (append_known-nil (g.N.Sink.taken c.args.notes.now)), refl, λ file told. tt);
@@ -76,7 +77,7 @@ returns-in-Err-play_site-clause-answer g c =
           let l = loaded file told in
           let playing = program_at (sites.site_in c.in-Ok.site) l.0 in
           subst (λ s. Meets form file s (g.O.Sink.taken c.args.out.now) (g.O.Sink.taken c.play_site.new.out)) (sym is)
-          (ended (Loads form file) (Reached form file) form.detectors (stream_of (file form.detectors)) playing named _ _ l.1 (ReachedInPlay.at_detectors playing l.1)
+          (ended form.watchers (Loads form file) (Reached form file) form.detectors (stream_of (file form.detectors)) playing named _ _ l.1 (ReachedInPlay.at_detectors playing l.1)
           (e.played l.0 l.2 file (c.load_site.ensures.contents_stay ∙ told))).0;
       safe = c.play_site.ensures.guarded;
       note = λ clean. (
@@ -87,7 +88,7 @@ returns-in-Err-play_site-clause-answer g c =
             let l = loaded file told in
             let playing = program_at (sites.site_in c.in-Ok.site) l.0 in
             subst (λ s. NoteMeets form file s (stop_note stop)) (sym is)
-            (ended (Loads form file) (Reached form file) form.detectors (stream_of (file form.detectors)) playing named (g.O.Sink.taken c.args.out.now) (g.O.Sink.taken c.play_site.new.out) l.1
+            (ended form.watchers (Loads form file) (Reached form file) form.detectors (stream_of (file form.detectors)) playing named (g.O.Sink.taken c.args.out.now) (g.O.Sink.taken c.play_site.new.out) l.1
             (ReachedInPlay.at_detectors playing l.1) (e.played l.0 l.2 file (c.load_site.ensures.contents_stay ∙ told))).1,
       );
     }

@@ -2,8 +2,7 @@ use Rattle.std.proofs.Common.{◌∙◌, ◌∷◌, [], ◌++◌, length, sym, a
 use Rattle.sig_types.specs.Counts.{Takes}
 use Rattle.controller.specs.Controls.{site_of, logic_of}
 use Rattle.controller.specs.Second.{past_of}
-use Rattle.junction_live.specs.Outcome.{Written}
-use Rattle.junction_live.proofs.Ended.{cut_is, cut_live, done_is}
+use Rattle.junction_live.proofs.Ended.{all_of, cut_is, cut_live}
 use Rattle.junction_live.proofs.ClosingSecond.{Ready, takes_close, same_sums, no_more, ahead_closed, closed_printable, all_passes}
 use Rattle.junction_live.proofs.Loads.{never_ahead}
 use Rattle.junction_live.proofs.Running.{Made, frames_are, written_more, cut_more}
@@ -58,7 +57,7 @@ returns-in-Ok-clause-live g c = λ past s none.
     let ready : Ready c.args.board c.args.frames.now c.args.feeders.items p.new.feeders.items c.args.tick p.result.2 m.0 f =
     record { opening = c.requires.opening; played = e.feeders; count = e.feeders_count; loaded = m.1; closes = c.end_board-closing.ensures } in
     let made' : Made p.result.1 c.second.new.self f = record { stands = c.second.ensures.stands; record_is = c.second.ensures.record; site = c.second.ensures.site; logic_is = c.second.ensures.logic } in
-    let w = subst (λ st. Written st (length c.args.frames.now) (logic_of c.args.controller) (site_of c.args.controller) past m.0 (g.O.Sink.taken c.args.out.now) (g.O.Sink.taken p.new.out)) (done_is _ (sym c.is_done.ensures ∙ c.if-not-is_done.false)) (m.3 past s none).1 in (
+    let w = all_of p.result.0 (length c.args.frames.now) m.0 _ _ past _ _ (sym c.is_done.ensures ∙ c.if-not-is_done.false) (m.3 past s none).1 in (
       m.0 ++ f ∷ [],
       omega (arith, length-append m.0 (f ∷ []), w.0),
       closed_printable _ _ _ _ _ _ m.0 f ready,
@@ -76,7 +75,7 @@ returns-clause-live g c = λ past s none.
     let ready : Ready c.args.board c.args.frames.now c.args.feeders.items p.new.feeders.items c.args.tick p.result.2 m.0 f =
     record { opening = c.requires.opening; played = e.feeders; count = e.feeders_count; loaded = m.1; closes = c.end_board-closing.ensures } in
     let made' : Made p.result.1 c.second.new.self f = record { stands = c.second.ensures.stands; record_is = c.second.ensures.record; site = c.second.ensures.site; logic_is = c.second.ensures.logic } in
-    let w = subst (λ st. Written st (length c.args.frames.now) (logic_of c.args.controller) (site_of c.args.controller) past m.0 (g.O.Sink.taken c.args.out.now) (g.O.Sink.taken p.new.out)) (done_is _ (sym c.is_done.ensures ∙ c.if-not-is_done.false)) (m.3 past s none).1 in
+    let w = all_of p.result.0 (length c.args.frames.now) m.0 _ _ past _ _ (sym c.is_done.ensures ∙ c.if-not-is_done.false) (m.3 past s none).1 in
     let same = same_sums _ _ _ _ _ _ m.0 f ready in (
       m.0 ++ f ∷ [],
       omega (arith, length-append m.0 (f ∷ []), w.0),

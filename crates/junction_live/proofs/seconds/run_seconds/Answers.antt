@@ -1,5 +1,6 @@
 use Rattle.std.proofs.Common.{◌∙◌, List, ℕ, Option, sym}
 use Rattle.junction_run.proofs.Ends.{is_cut}
+use Rattle.junction_live.specs.Outcome.{all_written, cut_off}
 use Rattle.junction_live.proofs.seconds.run_seconds.Goals as goal
 
 pub returns-then-failed-clause-made : goal.returns-then-failed-clause-made
@@ -11,7 +12,7 @@ returns-then-failed-clause-made g c =
       put.2,
       λ past s none.
           let made = put.4 past s none in
-          (made.0, (put.2, (_, is_cut start _ c.put_seconds.new.draft _ (sym c.failed.ensures ∙ c.if-failed.true) (made.1 start (c.new-draft.ensures.text start))))),
+          (made.0, cut_off put.2 _ (is_cut start _ c.put_seconds.new.draft _ (sym c.failed.ensures ∙ c.if-failed.true) (made.1 start (c.new-draft.ensures.text start)))),
     )
 
 pub returns-in-Ok-clause-made : goal.returns-in-Ok-clause-made
@@ -23,7 +24,7 @@ returns-in-Ok-clause-made g c =
       put.2,
       λ past s none.
           let made = put.4 past s none in
-          (made.0, (put.3 (sym c.failed.ensures ∙ c.if-failed.false), c.in-Ok.ensures.ok start _ (made.1 start (c.new-draft.ensures.text start)))),
+          (made.0, all_written (put.3 (sym c.failed.ensures ∙ c.if-failed.false)) (c.in-Ok.ensures.ok start _ (made.1 start (c.new-draft.ensures.text start)))),
     )
 
 pub returns-in-Err-clause-made : goal.returns-in-Err-clause-made
@@ -35,5 +36,5 @@ returns-in-Err-clause-made g c =
       put.2,
       λ past s none.
           let made = put.4 past s none in
-          (made.0, (put.2, (_, c.in-Err.ensures.fault start _ (made.1 start (c.new-draft.ensures.text start))))),
+          (made.0, cut_off put.2 _ (c.in-Err.ensures.fault start _ (made.1 start (c.new-draft.ensures.text start)))),
     )
