@@ -3,14 +3,18 @@ ghost use Rattle.std.specs.Prelude.{◌≡◌, true, false, map, string_bytes};
 ghost use Rattle.junction_run.specs.Answers.{JunctionAnswers, seen};
 ghost use Rattle.junction_live.specs.Answers.{LiveAnswers};
 ghost use Rattle.junction_live.specs.Form.{begins_live};
+ghost use Rattle.junction_net.specs.Form.{begins_net};
+ghost use Rattle.junction_net.specs.NetAnswers.{NetAnswers};
 
 use junction_live::{begins_live, live};
+use junction_net::{begins_net, net};
 use junction_run::{Status, junction};
 use sig_io::{Files, Gate, Sink};
 use std::alloc::Global;
 use std::thread::Threads;
 
-/// Does what the words say: a live run where the first word is `live`, and else what `junction` does.
+/// Does what the words say: a live run where the first word is `live`, several junctions at once where it is `net`, and else
+/// what `junction` does.
 ///
 /// The words are those of the command line without the program's name.
 pub fn program<R: Threads + Sync, F: Files, O: Sink + Send, N: Sink, G: Gate>(
@@ -27,7 +31,13 @@ pub fn program<R: Threads + Sync, F: Files, O: Sink + Send, N: Sink, G: Gate>(
         (seen (O.taken out.old) (O.taken out.new) (O.faults out.old) (O.faults out.new))
         (seen (N.taken notes.old) (N.taken notes.new) (N.faults notes.old) (N.faults notes.new))
         result }
-    ensures others { begins_live (map string_bytes words.now) ≡ false → JunctionAnswers (map string_bytes words.now)
+    ensures net { begins_net (map string_bytes words.now) ≡ true → NetAnswers (map string_bytes words.now)
+        (seen (F.told files.old) (F.told files.new) (F.faults files.old) (F.faults files.new))
+        (seen (O.taken out.old) (O.taken out.new) (O.faults out.old) (O.faults out.new))
+        (seen (N.taken notes.old) (N.taken notes.new) (N.faults notes.old) (N.faults notes.new))
+        result }
+    ensures others { begins_live (map string_bytes words.now) ≡ false → begins_net (map string_bytes words.now) ≡ false →
+        JunctionAnswers (map string_bytes words.now)
         (seen (F.told files.old) (F.told files.new) (F.faults files.old) (F.faults files.new))
         (seen (O.taken out.old) (O.taken out.new) (O.faults out.old) (O.faults out.new))
         (seen (N.taken notes.old) (N.taken notes.new) (N.faults notes.old) (N.faults notes.new))
@@ -38,6 +48,8 @@ pub fn program<R: Threads + Sync, F: Files, O: Sink + Send, N: Sink, G: Gate>(
 {
     if begins_live(words) {
         live(rt, alloc, words, files, out, notes, gate)
+    } else if begins_net(words) {
+        net(rt, alloc, words, files, out, notes, gate)
     } else {
         junction(alloc, words, files, out, notes)
     }
