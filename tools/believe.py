@@ -42,9 +42,13 @@ THEOREMS = [
      ["FrontIsEvent", "RearIsEvent", "ReadRearsIsEvent", "ReadFrontsIsEvent", "DealMoves", "GiveBackMoves", "TakesInOrder"]),
     ("what is judged of a history: safe, or the first rule that it breaks", "`Auditor::verdict`", "sig_audit", "Verdict", ["IsVerdict"]),
     ("what is judged of an interstage", "`inter_check`", "sig_audit", "Trial", ["IsInterEnd"]),
-    ("the whole contract of `run`, `compile`, `exec` and `sample`", "`junction_run::junction`",
+    ("what is written of a log that is judged", "`junction_run::junction`", "junction_run", "Audited", ["IsAudit"]),
+    ("the log of each run is judged safe", "`junction_run::laws::logs_are_judged_safe`", "junction_run", "SafeLogs",
+     ["WrittenLogsAreJudgedSafe", "AuditsSaySafe"]),
+    ("the whole contract of `run`, `compile`, `exec`, `sample` and `audit`", "`junction_run::junction`",
      "junction_run", "Answers", ["JunctionAnswers"]),
     ("the whole contract of `live`", "`junction_live::live`", "junction_live", "Answers", ["LiveAnswers"]),
+    ("the whole contract of `net`", "`junction_net::net`", "junction_net", "NetAnswers", ["NetAnswers"]),
 ]
 
 DEFINITION = re.compile(r"((?:abbrev |unfoldable |pub )*)(record |data )?([^\s(:{]+)(.*)")
