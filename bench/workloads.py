@@ -4,7 +4,8 @@
 The site is the four-arm junction of crates/junction/examples/four_arms. `traffic` has an entry d:1:1 in line k for each
 detector d from 1 to 12 for which d + 5 divides k + 7 d; `empty` has as many empty lines; the program `units.vap` spends
 all 10,000 units of each second. `names.vap` declares many constants, and `colliding.vap` as many whose names have hashes that
-collide (names.rs, built with rustc).
+collide (names.rs, built with rustc). `kinds.vap` has as many names of each other kind as there may be, and uses them;
+`colliding_kinds.vap` is the same with names that collide.
 """
 import itertools
 import os
@@ -37,6 +38,21 @@ def constants(names):
     return "PROGRAM names;\nCONST\n" + ",\n".join(f"{name} = 1" for name in names) + ";\nPROG_ENDE: .\n"
 
 
+def kinds(names):
+    """Returns a program with constants, arrays, subroutines, timers, variables and labels of these names."""
+    rest = iter(names)
+    consts, arrays, subs, timers, variables, labels = (list(itertools.islice(rest, most)) for most in (4_096, 32, 64, 64, 256, 4_096))
+    lines = ["PROGRAM kinds;", "CONST " + ",\n".join(f"{name} = 1" for name in consts) + ";"]
+    lines += ["ARRAY " + ",\n".join(f"{name}[2] = [1, 2]" for name in arrays) + ";"]
+    lines += [f"SUBROUTINE {name};\nPROG_ENDE: ." for name in subs]
+    lines += [f"START({name}); {variable} := {name};" for name, variable in zip(timers, variables)]
+    lines += [f"GOSUB {name};" for name in subs]
+    for turn, label in enumerate(labels):
+        array, variable, const = arrays[turn % len(arrays)], variables[turn % len(variables)], consts[turn]
+        lines += [f"{label}: {variable} := {array}[{const}] + {variable};", f"GOTO {label};"]
+    return "\n".join(lines) + "\nPROG_ENDE: .\n"
+
+
 def colliding(folder):
     """Returns names of six letters whose hashes collide."""
     program = os.path.join(folder, "names")
@@ -49,13 +65,17 @@ def main():
     os.makedirs(folder, exist_ok=True)
     for name in ("four_arms.vap", "junction.pua", "times.csv", "intergreens.csv"):
         shutil.copy(os.path.join(EXAMPLE, name), folder)
+    usual = ["".join(letters) for letters in itertools.islice(itertools.product("klmnopqrst", repeat=6), NAMES)]
+    alike = colliding(folder)
     texts = {
         "traffic.txt": "".join(map(traffic, range(1, SECONDS + 1))),
         "empty.txt": "\n" * SECONDS,
         "units.vap": UNITS,
         "units.txt": "\n" * UNITS_SECONDS,
-        "names.vap": constants("".join(letters) for letters in itertools.islice(itertools.product("klmnopqrst", repeat=6), NAMES)),
-        "colliding.vap": constants(colliding(folder)),
+        "names.vap": constants(usual),
+        "colliding.vap": constants(alike),
+        "kinds.vap": kinds(usual),
+        "colliding_kinds.vap": kinds(alike),
     }
     for name, text in texts.items():
         with open(os.path.join(folder, name), "w") as file:
