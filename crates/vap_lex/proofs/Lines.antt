@@ -10,7 +10,7 @@ use Rattle.vap_lex.specs.declared.token.TokenKind.{TokenKind}
 use Rattle.vap_lex.specs.Kept.{IsKept, IsUnsigned, HasLine}
 use Rattle.vap_lex.specs.declared.token.Token.{Token}
 use Rattle.vap_lex.specs.declared.piece.Piece.{Piece}
-use Rattle.vap_lex.specs.Piece.{front}
+use Rattle.vap_lex.specs.Piece.{beginning}
 use Rattle.vap_lex.specs.Tokens.{Scans, step, End, line_at, kind_at, found, start_of}
 
 fold_from : (bytes : List ℕ) (n : ℕ) → fold (λ a x. a + (if x == 10 then 1 else 0)) n bytes ≡ n + count_by (λ b. b == 10) bytes
@@ -31,7 +31,7 @@ counted text p n = sym (fold_from (take n (drop p text)) (count_by (λ b. b == 1
 pub line_on : (text : List ℕ) (p n : ℕ) → line_at text p + count_by (λ b. b == 10) (take n (drop p text)) ≡ line_at text (p + n)
 line_on text p n = let both = counted text p n in omega (arith, both)
 
-pub goes : (text : List ℕ) (p n line : ℕ) (piece : Piece) (tokens : List Token) → p < length text → front (drop p text) ≡ Ok (piece, n) → line ≡ line_at text p
+pub goes : (text : List ℕ) (p n line : ℕ) (piece : Piece) (tokens : List Token) → p < length text → beginning (drop p text) ≡ Ok (piece, n) → line ≡ line_at text p
     → ((ts : List Token) (e : End) → Scans text p ts e → Scans text (start_of text) (tokens ++ ts) e)
     → (ts : List Token) (e : End) → Scans text (p + n) ts e → Scans text (start_of text) ((tokens ++ found p line (kind_at piece (take n (drop p text)))) ++ ts) e
 goes text p n line piece tokens lt is line-is so_far ts e rest =

@@ -3,7 +3,7 @@ use Rattle.std.proofs.Common.{◌≡◌, ℕ, ◌+◌, List, ◌++◌, take, dro
 use Rattle.vap_lex.specs.declared.token.Token.{Token}
 use Rattle.vap_lex.specs.declared.piece.Piece.{Piece}
 use Rattle.vap_lex.specs.declared.piece.LexWhy.{LexWhy}
-use Rattle.vap_lex.specs.Piece.{front}
+use Rattle.vap_lex.specs.Piece.{beginning}
 use Rattle.vap_lex.specs.Tokens.{Scans, ends, refuses, step, End, done, stuck, line_at, kind_at, found, HasTokens, start_of}
 use Rattle.vap_lex.specs.Refusal.{IsStuck}
 
@@ -21,12 +21,12 @@ same text _ _ _ _ _ (ends p le) (ends q le') = (refl, refl)
 same text _ _ _ _ _ (ends p le) (refuses q why lt is) = absurd (omega arith)
 same text _ _ _ _ _ (ends p le) (step q n piece ts e lt is more) = absurd (omega arith)
 same text _ _ _ _ _ (refuses p why lt is) (ends q le) = absurd (omega arith)
-same text _ _ _ _ _ (refuses p why lt is) (refuses q why' lt' is') = (refl, ap (λ w. stuck p w) (err_is why why' (front (drop p text)) is is'))
-same text _ _ _ _ _ (refuses p why lt is) (step q n piece ts e lt' is' more) = apart (piece, n) why (front (drop p text)) is' is
+same text _ _ _ _ _ (refuses p why lt is) (refuses q why' lt' is') = (refl, ap (λ w. stuck p w) (err_is why why' (beginning (drop p text)) is is'))
+same text _ _ _ _ _ (refuses p why lt is) (step q n piece ts e lt' is' more) = apart (piece, n) why (beginning (drop p text)) is' is
 same text _ _ _ _ _ (step p n piece ts e lt is more) (ends q le) = absurd (omega arith)
-same text _ _ _ _ _ (step p n piece ts e lt is more) (refuses q why lt' is') = apart (piece, n) why (front (drop p text)) is is'
+same text _ _ _ _ _ (step p n piece ts e lt is more) (refuses q why lt' is') = apart (piece, n) why (beginning (drop p text)) is is'
 same text _ _ _ _ _ (step p n piece ts e lt is more) (step q m other us f lt' is' more') =
-    let one : (piece, n) ≡ (other, m) = ok_is (piece, n) (other, m) (front (drop p text)) is is' in
+    let one : (piece, n) ≡ (other, m) = ok_is (piece, n) (other, m) (beginning (drop p text)) is is' in
     let rest = same text (p + n) ts us e f more (subst (λ k. Scans text (p + k) us f) (sym (ap (λ r. r.1) one)) more') in
     (ap (λ (r : Piece × ℕ). found p (line_at text p) (kind_at r.0 (take r.1 (drop p text))) ++ ts) one ∙ ap (λ (vs : List Token). found p (line_at text p) (kind_at other (take m (drop p text))) ++ vs) rest.0, rest.1)
 

@@ -10,7 +10,7 @@ use Rattle.vap_lex.specs.declared.piece.Piece.{Piece}
 use Rattle.vap_lex.specs.declared.piece.LexWhy.{LexWhy}
 use Rattle.vap_lex.specs.declared.piece.LexWhy.TheVariants.{Byte, Decimal}
 use Rattle.vap_lex.specs.declared.piece.Piece.TheVariants.{Gap, Word}
-use Rattle.vap_lex.specs.Piece.{front, sign, sign_or, long_sign, short_sign, digits, number, number_piece, byte_at, run_len, is_blank, comment_gap, comment_len}
+use Rattle.vap_lex.specs.Piece.{beginning, sign, sign_or, long_sign, short_sign, digits, number, number_piece, byte_at, run_len, is_blank, comment_gap, comment_len}
 use Rattle.vap_lex.specs.Tokens.{Scans, ends, refuses, step, End, done, stuck, line_at, kind_at, found, HasTokens, start_of}
 use Rattle.vap_lex.specs.Refusal.{IsStuck}
 
@@ -48,8 +48,8 @@ numbered bytes =
     let value : Option ℕ = number (take len bytes) in
     one_of (byte_at bytes len == 46 && is_digit (byte_at bytes (len + 1))) (Err Decimal) (number_piece len value) tt (number_moves len value (omega arith))
 
-moves : (bytes : List ℕ) → Moves (front bytes)
-unfolding front
+moves : (bytes : List ℕ) → Moves (beginning bytes)
+unfolding beginning
 moves bytes =
     let first : ℕ = byte_at bytes 0 in
     let behind : Result (Piece × ℕ) LexWhy = if is_digit first then digits bytes else sign bytes in
@@ -65,9 +65,9 @@ module _ (text : List ℕ) where
   Scanned p = (ts : List Token) × (e : End) × Scans text p ts e
 
   -- this stands at the place, and what is behind it is scanned
-  from_front : (p : ℕ) (r : Result (Piece × ℕ) LexWhy) → p < length text → front (drop p text) ≡ r → Moves r → ((n : ℕ) → 0 < n → Scanned (p + n)) → Scanned p
-  from_front p (Err why) lt is moves behind = ([], stuck p why, refuses p why lt is)
-  from_front p (Ok r) lt is moves behind =
+  from_beginning : (p : ℕ) (r : Result (Piece × ℕ) LexWhy) → p < length text → beginning (drop p text) ≡ r → Moves r → ((n : ℕ) → 0 < n → Scanned (p + n)) → Scanned p
+  from_beginning p (Err why) lt is moves behind = ([], stuck p why, refuses p why lt is)
+  from_beginning p (Ok r) lt is moves behind =
       let more = behind r.1 moves in
       (found p (line_at text p) (kind_at r.0 (take r.1 (drop p text))) ++ more.0, more.1, step p r.1 r.0 more.0 more.1 lt is more.2)
 
@@ -75,7 +75,7 @@ module _ (text : List ℕ) where
   scanned zero p le = ([], done, ends p (omega (arith, le)))
   scanned (suc fuel) p le =
       elim (cases_lt p (length text)) [
-        | inl lt ↦ from_front p (front (drop p text)) lt refl (moves (drop p text)) (λ n some. scanned fuel (p + n) (omega (arith, le, some)))
+        | inl lt ↦ from_beginning p (beginning (drop p text)) lt refl (moves (drop p text)) (λ n some. scanned fuel (p + n) (omega (arith, le, some)))
         | inr past ↦ ([], done, ends p past)
       ]
 

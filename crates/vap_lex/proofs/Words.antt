@@ -1,4 +1,4 @@
--- A run of bytes from the front on passes its test, and a word is one letter and a run.
+-- A run of bytes from the beginning on passes its test, and a word is one letter and a run.
 use Rattle.std.proofs.Common.{◌≡◌, ℕ, ◌+◌, ◌<◌, List, [], ◌∷◌, length, take, drop, Bool, true, ap, ◌∙◌, arith, add-one}
 use Rattle.std.specs.Prelude.{slice_index}
 use Rattle.std.specs.List.{AllPass, prefix_len}

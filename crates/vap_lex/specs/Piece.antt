@@ -1,4 +1,4 @@
--- What stands at the front of a text.
+-- What stands at the beginning of a text.
 use Rattle.std.specs.Prelude.{pos, ℕ, ◌+◌, ◌-◌, ◌*◌, Bool, false, ◌||◌, ◌&&◌, if◌then◌else◌, ◌==◌, nat_le, List, [], ◌∷◌, length, take, drop, fold, slice_index, take_while, Option, Some, None, Result, Ok, Err}
 use Rattle.std.specs.Option.{option_map}
 use Rattle.sig_types.specs.Text.{is_digit, is_letter}
@@ -15,7 +15,7 @@ use Rattle.vap_lex.specs.Kept.{IsNatural}
 abbrev pub is_blank : ℕ → Bool
 is_blank b = b == 32 || b == 9 || b == 13 || b == 10
 
--- how many bytes from the front on pass the test
+-- how many bytes from the beginning on pass the test
 abbrev pub run_len : (ℕ → Bool) → List ℕ → ℕ
 run_len test bytes = length (take_while test bytes)
 
@@ -94,9 +94,9 @@ abbrev pub comment_gap : Option ℕ → Result (Piece × ℕ) LexWhy
 comment_gap (Some n) = Ok (Gap, n + 2)
 comment_gap None = Err OpenComment
 
--- what stands at the front, and how many bytes it has
-unfoldable pub front : List ℕ → Result (Piece × ℕ) LexWhy
-front bytes =
+-- what stands at the beginning, and how many bytes it has
+unfoldable pub beginning : List ℕ → Result (Piece × ℕ) LexWhy
+beginning bytes =
     if is_blank (byte_at bytes 0) then Ok (Gap, 1)
     else (if byte_at bytes 0 == 47 && byte_at bytes 1 == 42 then comment_gap (comment_len (drop 2 bytes))
     else (if is_letter (byte_at bytes 0) then Ok (Word, run_len is_word_byte (drop 1 bytes) + 1)

@@ -7,7 +7,7 @@ use Rattle.vap_lex.specs.declared.token.TokenKind.TheVariants as kind
 use Rattle.vap_lex.specs.declared.piece.LexWhy.{LexWhy}
 use Rattle.vap_lex.specs.declared.piece.Piece.{Piece}
 use Rattle.vap_lex.specs.declared.piece.Piece.TheVariants.{Gap, Word, Number, Sign}
-use Rattle.vap_lex.specs.Piece.{front}
+use Rattle.vap_lex.specs.Piece.{beginning}
 
 -- the line of a place, from 1
 abbrev pub line_at : List ℕ → ℕ → ℕ
@@ -37,9 +37,9 @@ pub data End : Type 0 where
 -- From a place on, a text has these tokens, up to its end or to the place that is refused.
 pub data Scans (text : List ℕ) : ℕ → List Token → End → Type 0 where
   ends : (p : ℕ) → length text ≤ p → Scans text p [] done
-  refuses : (p : ℕ) (why : LexWhy) → p < length text → front (drop p text) ≡ Err why → Scans text p [] (stuck p why)
+  refuses : (p : ℕ) (why : LexWhy) → p < length text → beginning (drop p text) ≡ Err why → Scans text p [] (stuck p why)
   step : (p n : ℕ) (piece : Piece) (ts : List Token) (e : End)
-      → p < length text → front (drop p text) ≡ Ok (piece, n) → Scans text (p + n) ts e
+      → p < length text → beginning (drop p text) ≡ Ok (piece, n) → Scans text (p + n) ts e
       → Scans text p (found p (line_at text p) (kind_at piece (take n (drop p text))) ++ ts) e
 
 -- the text has these tokens and no place that is refused

@@ -1,4 +1,4 @@
-// What stands at the front of a text.
+// What stands at the beginning of a text.
 ghost use Rattle.std.specs.Prelude.{◌≡◌, ◌<◌, ◌≤◌, ◌^◌, length, take, IfOk, IfSome};
 ghost use Rattle.sig_types.specs.Text.{is_digit};
 ghost use Rattle.vap_ast.specs.Name.{is_word_byte, IsWord};
@@ -52,7 +52,7 @@ fn is_word_byte(b: u8) -> bool
     is_letter(b) || is_digit(b)
 }
 
-// How many bytes from the front on a word may have.
+// How many bytes from the beginning on a word may have.
 fn word_len(bytes: &[u8]) -> usize
     ensures len { result ≡ spec.run_len is_word_byte bytes.now }
     ensures within { result ≤ length bytes.now }
@@ -60,7 +60,7 @@ fn word_len(bytes: &[u8]) -> usize
     bytes.iter().take_while(|b| is_word_byte(**b)).count()
 }
 
-// How many digits stand at the front.
+// How many digits stand at the beginning.
 fn digits_len(bytes: &[u8]) -> usize
     ensures len { result ≡ spec.run_len is_digit bytes.now }
     ensures within { result ≤ length bytes.now }
@@ -164,7 +164,7 @@ fn long_sign(first: u8, second: u8) -> Option<Sign>
     }
 }
 
-// The longest sign at the front, and how many bytes it has.
+// The longest sign at the beginning, and how many bytes it has.
 #[tactic(auto, unfolding(crate::specs::Piece::sign))]
 fn sign(bytes: &[u8]) -> Result<(Piece, usize), LexWhy>
     ensures sign { result ≡ spec.sign bytes.now }
@@ -181,7 +181,7 @@ fn sign(bytes: &[u8]) -> Result<(Piece, usize), LexWhy>
     }
 }
 
-// The number at the front, and how many digits it has.
+// The number at the beginning, and how many digits it has.
 #[tactic(auto, unfolding(crate::specs::Piece::digits))]
 fn digits(bytes: &[u8]) -> Result<(Piece, usize), LexWhy>
     requires not_empty { 0 < length bytes.now }
@@ -201,12 +201,12 @@ fn digits(bytes: &[u8]) -> Result<(Piece, usize), LexWhy>
     }
 }
 
-/// What stands at the front, and how many bytes it has.
-#[tactic(auto, unfolding(crate::specs::Piece::front))]
-pub(crate) fn front(bytes: &[u8]) -> Result<(Piece, usize), LexWhy>
+/// What stands at the beginning, and how many bytes it has.
+#[tactic(auto, unfolding(crate::specs::Piece::beginning))]
+pub(crate) fn beginning(bytes: &[u8]) -> Result<(Piece, usize), LexWhy>
     requires not_empty { 0 < length bytes.now }
     requires short { length bytes.now < 2 ^ 32 }
-    ensures front { result ≡ spec.front bytes.now }
+    ensures beginning { result ≡ spec.beginning bytes.now }
     ensures within { IfOk result (λ r. (0 < r.1) × (r.1 ≤ length bytes.now)) }
     ensures unsigned { IfOk result (λ r. IsNumbered r.0) }
     ensures word { IfOk result (λ r. r.0 ≡ Word → IsWord (take r.1 bytes.now)) }

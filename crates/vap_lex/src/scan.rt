@@ -11,7 +11,7 @@ ghost use Rattle.vap_lex.specs.declared.piece.Piece.TheVariants.{Word};
 ghost use Rattle.vap_lex.specs.declared.scan.LexRefusal.TheVariants.{Memory};
 ghost use Rattle.vap_lex.specs.declared.token.Token.{Token};
 
-use crate::piece::{LexWhy, Piece, front};
+use crate::piece::{LexWhy, Piece, beginning};
 use crate::token::{Token, TokenKind, Tokens};
 use sig_types::Memory as OutOfMemory;
 use std::alloc::{AllocFailed, Global};
@@ -81,7 +81,7 @@ pub fn tokens(alloc: Global, bytes: &[u8]) -> Result<Tokens, LexRefusal>
     let mut line = 1;
     while place < bytes.len() {
         let (_, rest) = bytes.split_at(place);
-        let (piece, len) = match front(rest) {
+        let (piece, len) = match beginning(rest) {
             Ok(found) => found,
             Err(why) => return Err(LexRefusal::At { line, why }),
         };

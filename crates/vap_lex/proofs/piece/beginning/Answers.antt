@@ -2,7 +2,7 @@ use Rattle.std.proofs.Common.{◌≡◌, sym, ap, ◌∙◌, true}
 use Rattle.std.specs.Prelude.{slice_index}
 use Rattle.sig_types.specs.Text.{is_letter}
 use Rattle.vap_lex.proofs.Words.{word_is}
-use Rattle.vap_lex.proofs.piece.front.Goals as goal
+use Rattle.vap_lex.proofs.piece.beginning.Goals as goal
 
 pub returns-then-is_letter-clause-word : goal.returns-then-is_letter-clause-word
 returns-then-is_letter-clause-word c =
