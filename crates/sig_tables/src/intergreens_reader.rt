@@ -10,7 +10,7 @@ ghost use Rattle.sig_tables.specs.IntergreenTable.{seconds_in, pair_in, intergre
 ghost use Rattle.sig_tables.specs.Pairs.{between, cell_of};
 ghost use Rattle.sig_tables.specs.Held.{empties, IsPairOf, no_pair, HoldsPairs};
 
-use crate::header::{Table, begin};
+use crate::header::{Table, read_header};
 use crate::intergreens::{Intergreens, place_of};
 use crate::records::field;
 use crate::refusal::{TableRefusal, TableWhy};
@@ -66,7 +66,7 @@ fn entry_of(row: &ByteRecord, plan: &Plan) -> Result<Entry, TableWhy>
 }
 
 // The entry of a record that is accepted after those whose seconds stand in the cells.
-fn accepted(cells: &[Option<u8>], row: &ByteRecord, plan: &Plan) -> Result<Entry, TableWhy>
+fn judge_entry(cells: &[Option<u8>], row: &ByteRecord, plan: &Plan) -> Result<Entry, TableWhy>
     requires size { length cells.now ≡ 4096 }
     requires at_most { groups_in plan.now ≤ 64 }
     ensures refused { IfErr result (λ why. (rows : List Row) (pairs : List (GroupNo × GroupNo)) →
@@ -131,7 +131,7 @@ impl Listed {
     }
 
     // Whether each pair is listed the other way too; the first that isn't is refused.
-    fn both_ways(&self) -> Result<(), TableRefusal>
+    fn judge_both_ways(&self) -> Result<(), TableRefusal>
         requires size { length self.now.cells.items ≡ 4096 }
         requires at_most { length self.now.pairs.items ≤ 4096 }
         requires inside { (k : ℕ) → k < length self.now.pairs.items →
@@ -174,13 +174,13 @@ pub fn read_intergreens(
     ensures seconds { IfOk result (λ p. (i g : ℕ) → between p i g ≡ intergreen_of plan.now bytes.now i g) }
 {
     let groups = plan.groups();
-    let mut records = begin(alloc, bytes, Table::Intergreens)?;
+    let mut records = read_header(alloc, bytes, Table::Intergreens)?;
     let mut listed = Listed {
         cells: no_cells(alloc, 4096)?,
         pairs: Vec::new(alloc),
     };
     while records.next()? {
-        match accepted(&listed.cells, &records.row, plan) {
+        match judge_entry(&listed.cells, &records.row, plan) {
             Ok(entry) => listed.put(entry)?,
             Err(why) => {
                 return Err(TableRefusal::At {
@@ -190,6 +190,6 @@ pub fn read_intergreens(
             }
         }
     }
-    listed.both_ways()?;
+    listed.judge_both_ways()?;
     Ok(Intergreens::of(groups, listed.cells))
 }

@@ -65,26 +65,26 @@ returns-in-Err-clause-refused c =
     refused_next c.args.plan.now c.args.bytes.now c.loop-listed.records c.next.new.self c.loop-listed.listed.cells.items c.loop-listed.listed.pairs.items (fields_of c.next.new.self.row) c.in-Err.why reads has
     (c.in-Err.ensures.refused reads.rows c.loop-listed.listed.pairs.items holds)
 
-pub returns-in_err-both_ways-clause-refused : goal.returns-in_err-both_ways-clause-refused
-returns-in_err-both_ways-clause-refused c =
+pub returns-in_err-judge_both_ways-clause-refused : goal.returns-in_err-judge_both_ways-clause-refused
+returns-in_err-judge_both_ways-clause-refused c =
     let reads = c.loop-listed.invariant in
     let all = c.in_ok-next.ensures.end (search rules) c.args.bytes.now (reads.header ∷ reads.rows) reads.read in
     let last = refused_last c.args.plan.now c.args.bytes.now c.loop-listed.records c.loop-listed.listed.cells.items c.loop-listed.listed.pairs.items reads all in
-    let p = err_from_is_err_and c.from_residual-in_err-both_ways.result c.from_residual-in_err-both_ways.ensures.1 in
-    rw (p.1, p.2, last) (c.in_err-both_ways.ensures.refused c.args.plan.now reads.rows reads.holds)
+    let p = err_from_is_err_and c.from_residual-in_err-judge_both_ways.result c.from_residual-in_err-judge_both_ways.ensures.1 in
+    rw (p.1, p.2, last) (c.in_err-judge_both_ways.ensures.refused c.args.plan.now reads.rows reads.holds)
 
 pub of-requires : goal.of-requires
 of-requires c =
     let reads = c.loop-listed.invariant in
     rw c.groups-groups.ensures.count (are_pairs c.args.plan.now reads.rows c.loop-listed.listed.cells.items c.loop-listed.listed.pairs.items reads.holds c.groups-groups.ensures.plan.has_groups
-    c.groups-groups.ensures.plan.groups_at_most (c.in_ok-both_ways.ensures.both c.args.plan.now reads.rows reads.holds))
+    c.groups-groups.ensures.plan.groups_at_most (c.in_ok-judge_both_ways.ensures.both c.args.plan.now reads.rows reads.holds))
 
 pub returns-clause-accepted : goal.returns-clause-accepted
 returns-clause-accepted c =
     let reads = c.loop-listed.invariant in
     let all = c.in_ok-next.ensures.end (search rules) c.args.bytes.now (reads.header ∷ reads.rows) reads.read in
     refused_last c.args.plan.now c.args.bytes.now c.loop-listed.records c.loop-listed.listed.cells.items c.loop-listed.listed.pairs.items reads all
-    ∙ c.in_ok-both_ways.ensures.none c.args.plan.now reads.rows reads.holds
+    ∙ c.in_ok-judge_both_ways.ensures.none c.args.plan.now reads.rows reads.holds
 
 pub returns-clause-seconds : goal.returns-clause-seconds
 returns-clause-seconds c =

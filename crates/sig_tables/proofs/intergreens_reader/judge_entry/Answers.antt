@@ -3,7 +3,7 @@ use Rattle.std.specs.Prelude.{is_some, ◌==◌}
 use Rattle.std.proofs.lemmas.Result.{err_from_is_err_and}
 use Rattle.csv.specs.Records.{fields_of}
 use Rattle.sig_tables.proofs.PairLists.{reason_form, reason_twice, reason_self, reason_none, held_listed}
-use Rattle.sig_tables.proofs.intergreens_reader.accepted.Goals as goal
+use Rattle.sig_tables.proofs.intergreens_reader.judge_entry.Goals as goal
 
 pub returns-in_err-entry-clause-refused : goal.returns-in_err-entry-clause-refused
 returns-in_err-entry-clause-refused c =

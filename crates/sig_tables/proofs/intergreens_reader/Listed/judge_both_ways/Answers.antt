@@ -4,7 +4,7 @@ use Rattle.sig_types.specs.declared.numbers.GroupNo.{GroupNo}
 use Rattle.sig_tables.specs.declared.refusal.TableWhy.TheVariants as why
 use Rattle.sig_tables.specs.Held.{no_pair}
 use Rattle.sig_tables.proofs.OneWays.{BothBelow, both_below, one_way_at, both_listed}
-use Rattle.sig_tables.proofs.intergreens_reader.Listed.both_ways.Goals as goal
+use Rattle.sig_tables.proofs.intergreens_reader.Listed.judge_both_ways.Goals as goal
 
 pub returns-then-is_none-clause-refused : goal.returns-then-is_none-clause-refused
 returns-then-is_none-clause-refused c = λ plan rows holds.

@@ -1,5 +1,5 @@
 use Rattle.sig_tables.proofs.OneWays.{BothBelow}
-use Rattle.sig_tables.proofs.intergreens_reader.Listed.both_ways.Given as goal
+use Rattle.sig_tables.proofs.intergreens_reader.Listed.judge_both_ways.Given as goal
 
 abbrev pub invariant-loop-k : goal.invariant-loop-k
 invariant-loop-k l = BothBelow l.self.cells.items l.self.pairs.items l.k
