@@ -18,7 +18,7 @@ use Rattle.pua_reader.specs.Words.{Text, words, kind_of, is_text, signed_of, pla
 use Rattle.pua_reader.specs.Groups.{place_of, groups_with}
 use Rattle.pua_reader.specs.Stages.{stage_of, stages_with}
 use Rattle.pua_reader.specs.Interstages.{OpenInterstageOf, open_at, form_of, word, last_word, or_none, end_or_none, set_row, length_reasons, stage_reasons, ends_reasons, form_why, open_after_form, interstage_of, interstage_by_keys, interstage_reasons, interstages_with}
-use Rattle.pua_reader.specs.PlanDraft.{PlanDraftOf, draft_of, judge, line_why, after_line, row_why, row_why_in, after_row, after_row_in, interstage_end_why, after_section_end, section_why, after_section_line, at_next_line, kind_why, after_kind, is_over, is_interstage, end_why, lacks}
+use Rattle.pua_reader.specs.PlanDraft.{PlanDraftOf, draft_of, judge, line_why, after_line, row_why, row_why_in, after_row, after_row_in, interstage_end_why, after_section_end, section_why, after_section_line, at_next_line, kind_why, after_kind, is_over, is_interstage, end_why, missing_part}
 use Rattle.pua_reader.specs.Accepted.{lines_in, refusal_of, plan_of_text, plan_in}
 use Rattle.pua_reader.specs.Legal.{Legal}
 use Rattle.pua_reader.specs.SectionRows.{section_by, section_with, section_from, file_groups, file_stages}
@@ -407,7 +407,7 @@ unfolding end_why
 draft_gives lines none ended =
     let so = rw (take_all (length lines) lines (omega arith)) at (so_far_to lines (length lines) (omega arith) none) in
     let given = rw (take_all (length lines) lines (omega arith)) at (given_to lines (length lines) (omega arith) none) in
-    let both = none_next (interstage_end_why (draft_of lines)) (with_line 0 (lacks (after_section_end (draft_of lines)))) ended in
+    let both = none_next (interstage_end_why (draft_of lines)) (with_line 0 (missing_part (after_section_end (draft_of lines)))) ended in
     let now : PartsIn (is_interstage (draft_of lines).section) (draft_of lines) (interstage_sections lines) =
     subst (λ (s : Section). PartsIn (is_interstage s) (draft_of lines) (interstage_sections lines)) (sym so.arrived) given.parts in
     let there = file_parts (after_section_end (draft_of lines)) lines (end_says (draft_of lines) _ _ _ so.says) in

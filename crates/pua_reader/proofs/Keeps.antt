@@ -18,7 +18,7 @@ use Rattle.pua_reader.specs.Words.{Text, words, kind_of, may_follow, is_text, pl
 use Rattle.pua_reader.specs.Groups.{group_why, groups_with}
 use Rattle.pua_reader.specs.Stages.{stage_row_why, stages_with, is_stage_row, start_with}
 use Rattle.pua_reader.specs.Interstages.{open_at, interstage_row_why, open_after, interstage_of, interstage_reasons, interstages_with}
-use Rattle.pua_reader.specs.PlanDraft.{PlanDraftOf, empty_draft, row_why, row_why_in, after_row, after_row_in, is_interstage, interstage_end_why, after_section_end, section_why, after_section_line, at_next_line, kind_why, after_kind, is_over, line_why, after_line, lacks}
+use Rattle.pua_reader.specs.PlanDraft.{PlanDraftOf, empty_draft, row_why, row_why_in, after_row, after_row_in, is_interstage, interstage_end_why, after_section_end, section_why, after_section_line, at_next_line, kind_why, after_kind, is_over, line_why, after_line, missing_part}
 use Rattle.pua_reader.specs.Accepted.{plan_in, start_number}
 use Rattle.pua_reader.specs.Legal.{AreGroups, AreStages, IsStage, Leads, AreInterstages, Legal}
 use Rattle.pua_reader.proofs.Small.{at_none, none_first, none_next}
@@ -266,8 +266,8 @@ some_length : {A : Type 0} (xs : List A) → (length xs == 0) ≡ false → 1 �
 some_length [] e = cc
 some_length (x ∷ xs) e = omega arith
 
-pub is_full : (g : PlanDraftOf) → None ≡ lacks g → IsFull g
-unfolding lacks
+pub is_full : (g : PlanDraftOf) → None ≡ missing_part g → IsFull g
+unfolding missing_part
 is_full g none =
     let one = none_first ((length g.groups == 0) || (length g.stages == 0)) _ _ (sym none) in
     let two = none_first (is_none g.start) _ _ one.1 in
@@ -325,7 +325,7 @@ plan_is g groups stages start interstages full =
     }
 
 -- the plan of a file whose last section ended well, and that lacks nothing
-pub ended_plan : (g h : PlanDraftOf) → Legal g → interstage_end_why g ≡ None → h ≡ after_section_end g → None ≡ lacks h → IsPlan (plan_in h) × (is_some h.start ≡ true)
+pub ended_plan : (g h : PlanDraftOf) → Legal g → interstage_end_why g ≡ None → h ≡ after_section_end g → None ≡ missing_part h → IsPlan (plan_in h) × (is_some h.start ≡ true)
 ended_plan g h legal ended is none =
     let well : IsClosed g h = subst (λ (x : PlanDraftOf). IsClosed g x) (sym is) (ended_well g legal ended) in
     let full = is_full h none in

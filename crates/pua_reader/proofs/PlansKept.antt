@@ -4,7 +4,7 @@ use Rattle.std.proofs.lemmas.List.{take_all}
 use Rattle.sig_types.specs.FirstRefused.{refused_to, first_refused, with_line}
 use Rattle.pua_model.specs.Plan.{IsPlan}
 use Rattle.pua_reader.specs.Words.{Text}
-use Rattle.pua_reader.specs.PlanDraft.{draft_of, judge, after_section_end, end_why, interstage_end_why, lacks}
+use Rattle.pua_reader.specs.PlanDraft.{draft_of, judge, after_section_end, end_why, interstage_end_why, missing_part}
 use Rattle.pua_reader.specs.Accepted.{lines_in, refusal_of, plan_of_text, plan_in}
 use Rattle.pua_reader.specs.Laws.{PlansAreWhole}
 use Rattle.pua_reader.specs.Legal.{Legal}
@@ -29,7 +29,7 @@ draft_ends : (lines : List Text) → first_refused judge lines [] ≡ None → e
 unfolding end_why
 draft_ends lines none ended =
     let legal = rw (take_all (length lines) lines (omega arith)) at (legal_to lines (length lines) (omega arith) none) in
-    let parts = none_next (interstage_end_why (draft_of lines)) (with_line 0 (lacks (after_section_end (draft_of lines)))) ended in
+    let parts = none_next (interstage_end_why (draft_of lines)) (with_line 0 (missing_part (after_section_end (draft_of lines)))) ended in
     (ended_plan (draft_of lines) (after_section_end (draft_of lines)) legal parts.0 refl (sym (at_none 0 _ parts.1))).0
 
 pub plans_are_whole : PlansAreWhole

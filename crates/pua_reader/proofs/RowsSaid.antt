@@ -15,7 +15,7 @@ use Rattle.pua_reader.specs.Words.{Text, words, kind_of, may_follow, is_text, pl
 use Rattle.pua_reader.specs.Groups.{group_row, put, put_row, group_reasons, group_why, groups_with}
 use Rattle.pua_reader.specs.Stages.{is_red_word, greens_of, stage_of, stages_with, start_why, start_with, start_reasons, is_stage_word}
 use Rattle.pua_reader.specs.Interstages.{open_at, interstages_with, interstage_of}
-use Rattle.pua_reader.specs.PlanDraft.{PlanDraftOf, draft_of, judge, line_why, after_line, row_why, row_why_in, after_row, after_row_in, interstage_end_why, after_section_end, section_why, after_section_line, at_next_line, kind_why, after_kind, is_over, is_interstage, end_why, lacks}
+use Rattle.pua_reader.specs.PlanDraft.{PlanDraftOf, draft_of, judge, line_why, after_line, row_why, row_why_in, after_row, after_row_in, interstage_end_why, after_section_end, section_why, after_section_line, at_next_line, kind_why, after_kind, is_over, is_interstage, end_why, missing_part}
 use Rattle.pua_reader.specs.Accepted.{lines_in, refusal_of, plan_of_text, plan_in, start_number}
 use Rattle.pua_reader.specs.SectionRows.{section_by, section_with, section_from, is_row, same_section, row_here, rows_from, rows_in, group_before, groups_from, put_all, by_number, file_groups, stages_from, file_stages, SaysItsRows, PlanSaysItsRows}
 use Rattle.pua_reader.proofs.Small.{at_none, none_first, none_next}
@@ -410,7 +410,7 @@ draft_says : (lines : List Text) → first_refused judge lines [] ≡ None → e
 unfolding end_why
 draft_says lines none ended =
     let so = rw (take_all (length lines) lines (omega arith)) at (so_far_to lines (length lines) (omega arith) none) in
-    let parts = none_next (interstage_end_why (draft_of lines)) (with_line 0 (lacks (after_section_end (draft_of lines)))) ended in
+    let parts = none_next (interstage_end_why (draft_of lines)) (with_line 0 (missing_part (after_section_end (draft_of lines)))) ended in
     let full = is_full (after_section_end (draft_of lines)) (sym (at_none 0 _ parts.1)) in
     plan_says (after_section_end (draft_of lines)) lines (end_says (draft_of lines) _ _ _ so.says) full.start
 

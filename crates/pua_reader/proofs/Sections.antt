@@ -6,7 +6,7 @@ use Rattle.pua_reader.specs.declared.refusal.PuaWhy.{PuaWhy}
 use Rattle.pua_reader.specs.declared.section.Section.{Section}
 use Rattle.pua_reader.specs.Words.{Text}
 use Rattle.pua_reader.specs.Interstages.{open_at, interstage_of, interstages_with}
-use Rattle.pua_reader.specs.PlanDraft.{PlanDraftOf, interstage_end_why, after_section_end, section_why, is_interstage, lacks, end_why}
+use Rattle.pua_reader.specs.PlanDraft.{PlanDraftOf, interstage_end_why, after_section_end, section_why, is_interstage, missing_part, end_why}
 
 lines_by : (b : Bool) (g : PlanDraftOf) → (if b then record g { interstages = interstages_with g.interstages (interstage_of g.current); current = open_at 0 0 } else g).lines ≡ g.lines
 lines_by true g = refl
@@ -25,14 +25,14 @@ section_refused g new s line why ended is refused =
     rw (ended, here, count) refl
 
 -- a file ends, and its last section ended well
-pub end_refused : (g new : PlanDraftOf) (why : PuaWhy) → interstage_end_why g ≡ None → new ≡ after_section_end g → Some why ≡ lacks new → end_why g ≡ Some (0, why)
+pub end_refused : (g new : PlanDraftOf) (why : PuaWhy) → interstage_end_why g ≡ None → new ≡ after_section_end g → Some why ≡ missing_part new → end_why g ≡ Some (0, why)
 unfolding end_why
 end_refused g new why ended is refused =
-    let here : lacks (after_section_end g) ≡ Some why = rw (← is) (sym refused) in
+    let here : missing_part (after_section_end g) ≡ Some why = rw (← is) (sym refused) in
     rw (ended, here) refl
 
-pub end_accepted : (g new : PlanDraftOf) → interstage_end_why g ≡ None → new ≡ after_section_end g → None ≡ lacks new → end_why g ≡ None
+pub end_accepted : (g new : PlanDraftOf) → interstage_end_why g ≡ None → new ≡ after_section_end g → None ≡ missing_part new → end_why g ≡ None
 unfolding end_why
 end_accepted g new ended is fits =
-    let here : lacks (after_section_end g) ≡ None = rw (← is) (sym fits) in
+    let here : missing_part (after_section_end g) ≡ None = rw (← is) (sym fits) in
     rw (ended, here) refl

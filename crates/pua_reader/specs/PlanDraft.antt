@@ -140,12 +140,12 @@ abbrev pub judge : List Text → Text → Option (ℕ × PuaWhy)
 judge before line = line_why (draft_of before) line
 
 -- what a file lacks
-unfoldable pub lacks : PlanDraftOf → Option PuaWhy
-lacks g = first_reason (
+unfoldable pub missing_part : PlanDraftOf → Option PuaWhy
+missing_part g = first_reason (
     when ((length g.groups == 0) || (length g.stages == 0)) why.Section
     ∷ when (is_none g.start) why.NoStart
     ∷ [])
 
 -- the reason to refuse a file that ends there; line 0 is the whole file
 unfoldable pub end_why : PlanDraftOf → Option (ℕ × PuaWhy)
-end_why g = option_or (interstage_end_why g) (with_line 0 (lacks (after_section_end g)))
+end_why g = option_or (interstage_end_why g) (with_line 0 (missing_part (after_section_end g)))

@@ -3,7 +3,7 @@ ghost use Rattle.std.specs.Prelude.{◌-◌, ◌≡◌, ◌≤◌, ◌<◌, ◌+
 ghost use Rattle.pua_model.specs.Plan.{IsPlan};
 ghost use Rattle.pua_reader.specs.Rules.{RowStopIs};
 ghost use Rattle.pua_reader.specs.Accepted.{RefusedAs, plan_in};
-ghost use Rattle.pua_reader.specs.PlanDraft.{empty_draft, row_why, after_row, row_why_in, after_row_in, interstage_end_why, after_section_end, section_why, after_section_line, line_why, after_line, end_why, lacks, kind_why, after_kind};
+ghost use Rattle.pua_reader.specs.PlanDraft.{empty_draft, row_why, after_row, row_why_in, after_row_in, interstage_end_why, after_section_end, section_why, after_section_line, line_why, after_line, end_why, missing_part, kind_why, after_kind};
 
 use crate::groups::read_group;
 use crate::interstages::{OpenInterstage, interstage_of, interstage_why};
@@ -103,7 +103,7 @@ impl PlanDraft {
 
     // Ends the section of an interstage, where one is read.
     #[tactic(auto, unfolding(crate::specs::PlanDraft::interstage_end_why, crate::specs::PlanDraft::after_section_end, crate::specs::Interstages::interstage_reasons))]
-    fn close(&mut self, alloc: Global) -> Result<(), PuaRefusal>
+    fn end_interstage(&mut self, alloc: Global) -> Result<(), PuaRefusal>
         requires { Legal (draft_value self.old) }
         ensures { MatchResult result
             (λ _. (interstage_end_why (draft_value self.old) ≡ None)
@@ -153,7 +153,7 @@ impl PlanDraft {
 
     // Begins a section.
     #[tactic(auto, unfolding(crate::specs::PlanDraft::after_section_line))]
-    fn begin(&mut self, alloc: Global, section: Section) -> Result<(), PuaRefusal>
+    fn begin_section(&mut self, alloc: Global, section: Section) -> Result<(), PuaRefusal>
         ensures { MatchResult result (λ _. draft_value self.new ≡ after_section_line (draft_value self.old) section)
             (λ refusal. refusal ≡ PuaRefusal.Memory) }
     {
@@ -180,14 +180,14 @@ impl PlanDraft {
             × (draft_value self.new ≡ after_kind (Kind.Begins section) (draft_value self.old) line.now))
             (λ refusal. RefusedAs refusal (kind_why (Kind.Begins section) (draft_value self.old) line.now)) }
     {
-        self.close(alloc)?;
+        self.end_interstage(alloc)?;
         if let Some(why) = self.section_why(section, line) {
             return Err(PuaRefusal::At {
                 line: self.lines,
                 why,
             });
         }
-        self.begin(alloc, section)
+        self.begin_section(alloc, section)
     }
 
     /// Takes the next line, where it is not refused.
@@ -220,9 +220,9 @@ impl PlanDraft {
     }
 
     // What the file lacks.
-    #[tactic(auto, unfolding(crate::specs::PlanDraft::lacks))]
-    fn lacks(&self) -> Option<PuaWhy>
-        ensures { result ≡ lacks (draft_value self.now) }
+    #[tactic(auto, unfolding(crate::specs::PlanDraft::missing_part))]
+    fn missing_part(&self) -> Option<PuaWhy>
+        ensures { result ≡ missing_part (draft_value self.now) }
     {
         if self.groups.is_empty() || self.stages.is_empty() {
             Some(PuaWhy::Section)
@@ -263,8 +263,8 @@ impl PlanDraft {
             (λ plan. (end_why (draft_value self) ≡ None) × (plan ≡ plan_in (after_section_end (draft_value self))))
             (λ refusal. RefusedAs refusal (end_why (draft_value self))) }
     {
-        self.close(alloc)?;
-        if let Some(why) = self.lacks() {
+        self.end_interstage(alloc)?;
+        if let Some(why) = self.missing_part() {
             return Err(PuaRefusal::At { line: 0, why });
         }
         Ok(self.into_plan())
