@@ -15,17 +15,17 @@ use Rattle.sig_types.proofs.LastBelow.{least_below-some}
 use Rattle.sig_guard.specs.Count.{many}
 use Rattle.sig_guard.specs.declared.turn.Breach.{Breach}
 use Rattle.sig_guard.specs.Refusals.{OneRefusalEach, RefusalsNameGroups}
-use Rattle.sig_guard.specs.Step.{alone, end_breach, guard_refused, is_green_short, is_in_conflict, is_red_short, is_uncleared, listed, natural, refusal, refused_ends_to, refused_to, start_breach, starts_to, wants_end, wants_start, with_group}
+use Rattle.sig_guard.specs.Step.{alone, end_breach, guard_refused, is_green_short, is_in_conflict, is_red_short, is_uncleared, with_refusal, natural_picture, refusal, refused_ends_below, refused_below, start_breach, with_starts_below, wants_end, wants_start, with_group}
 use Rattle.sig_guard.proofs.Counts.{many_apart}
-use Rattle.sig_guard.proofs.EachRefusal.{listed_all}
+use Rattle.sig_guard.proofs.EachRefusal.{with_refusal_all}
 
 -- ---- how many
 
-listed_few : (wished : Bool) (g : ℕ) (o : Option Breach) (refused : List TurnRefusal) → length (listed wished g o refused) ≤ (if wished then suc (length refused) else length refused)
-listed_few true g None refused = omega arith
-listed_few false g None refused = omega arith
-listed_few true g (Some breach) refused = omega (arith, length-append refused (refusal g breach ∷ []))
-listed_few false g (Some breach) refused = omega arith
+with_refusal_few : (wished : Bool) (g : ℕ) (o : Option Breach) (refused : List TurnRefusal) → length (with_refusal wished g o refused) ≤ (if wished then suc (length refused) else length refused)
+with_refusal_few true g None refused = omega arith
+with_refusal_few false g None refused = omega arith
+with_refusal_few true g (Some breach) refused = omega (arith, length-append refused (refusal g breach ∷ []))
+with_refusal_few false g (Some breach) refused = omega arith
 
 more_listed : (wished : Bool) (n k most : ℕ) → n ≤ (if wished then suc k else k) → k ≤ most → n ≤ (if wished then suc most else most)
 more_listed true n k most one few = omega (arith, one, few)
@@ -35,21 +35,21 @@ counted_after : (wished : Bool) (before n : ℕ) → (if wished then suc (before
 counted_after true before n = omega arith
 counted_after false before n = refl
 
-few_ends : (r : Rules) (h : History) (m : ℕ) (wishes : List Bool) (g : ℕ) → length (refused_ends_to r h m wishes g) ≤ many (wants_end (natural r h m) wishes) g
+few_ends : (r : Rules) (h : History) (m : ℕ) (wishes : List Bool) (g : ℕ) → length (refused_ends_below r h m wishes g) ≤ many (wants_end (natural_picture r h m) wishes) g
 few_ends r h m wishes zero = omega arith
 few_ends r h m wishes (suc g) =
-    more_listed (wants_end (natural r h m) wishes g) _ (length (refused_ends_to r h m wishes g)) (many (wants_end (natural r h m) wishes) g)
-    (listed_few (wants_end (natural r h m) wishes g) g (end_breach r h m g) (refused_ends_to r h m wishes g)) (few_ends r h m wishes g)
+    more_listed (wants_end (natural_picture r h m) wishes g) _ (length (refused_ends_below r h m wishes g)) (many (wants_end (natural_picture r h m) wishes) g)
+    (with_refusal_few (wants_end (natural_picture r h m) wishes g) g (end_breach r h m g) (refused_ends_below r h m wishes g)) (few_ends r h m wishes g)
 
 few_turns : (r : Rules) (h : History) (m : ℕ) (wishes : List Bool) (g : ℕ) →
-    length (refused_to r h m wishes g) ≤ many (wants_end (natural r h m) wishes) r.count + many (wants_start (natural r h m) wishes) g
+    length (refused_below r h m wishes g) ≤ many (wants_end (natural_picture r h m) wishes) r.count + many (wants_start (natural_picture r h m) wishes) g
 few_turns r h m wishes zero = omega (arith, few_ends r h m wishes r.count)
 few_turns r h m wishes (suc g) =
-    let ends : ℕ = many (wants_end (natural r h m) wishes) r.count in
-    let starts : ℕ = many (wants_start (natural r h m) wishes) g in
-    rw (← counted_after (wants_start (natural r h m) wishes g) ends starts)
-    (more_listed (wants_start (natural r h m) wishes g) _ (length (refused_to r h m wishes g)) (ends + starts)
-    (listed_few (wants_start (natural r h m) wishes g) g (start_breach r h m (starts_to r h m wishes g) g) (refused_to r h m wishes g)) (few_turns r h m wishes g))
+    let ends : ℕ = many (wants_end (natural_picture r h m) wishes) r.count in
+    let starts : ℕ = many (wants_start (natural_picture r h m) wishes) g in
+    rw (← counted_after (wants_start (natural_picture r h m) wishes g) ends starts)
+    (more_listed (wants_start (natural_picture r h m) wishes g) _ (length (refused_below r h m wishes g)) (ends + starts)
+    (with_refusal_few (wants_start (natural_picture r h m) wishes g) g (start_breach r h m (with_starts_below r h m wishes g) g) (refused_below r h m wishes g)) (few_turns r h m wishes g))
 
 no_end : (on wished : Bool) → (not on && wished) ≡ true → (on && not wished) ≡ false
 no_end true wished start = cc
@@ -58,7 +58,7 @@ no_end false wished start = refl
 pub one_refusal_each : OneRefusalEach
 unfolding guard_refused
 one_refusal_each r h wishes =
-    let n : Picture = natural r h (length h - 1) in
+    let n : Picture = natural_picture r h (length h - 1) in
     omega (
       arith,
       few_turns r h (length h - 1) wishes r.count,
@@ -133,19 +133,19 @@ known : (F : Breach → Type 0) (o : Option Breach) (breach : Breach) → IfSome
 known F None breach is e = cc
 known F (Some b) breach is e = let same : b ≡ breach = cc in rw (← same) is
 
-ends_named : (r : Rules) (h : History) (m : ℕ) (wishes : List Bool) (g : ℕ) → g ≤ r.count → All (IsTurn r.count) (refused_ends_to r h m wishes g)
+ends_named : (r : Rules) (h : History) (m : ℕ) (wishes : List Bool) (g : ℕ) → g ≤ r.count → All (IsTurn r.count) (refused_ends_below r h m wishes g)
 ends_named r h m wishes zero le = All-nil (IsTurn r.count)
 ends_named r h m wishes (suc g) le =
-    listed_all (IsTurn r.count) (wants_end (natural r h m) wishes g) g (end_breach r h m g) (refused_ends_to r h m wishes g)
+    with_refusal_all (IsTurn r.count) (wants_end (natural_picture r h m) wishes g) g (end_breach r h m g) (refused_ends_below r h m wishes g)
     (λ breach wished is. known (λ b. IsTurn r.count (refusal g b)) (end_breach r h m g) breach (end_named r h m g (omega arith)) is)
     (ends_named r h m wishes g (omega arith))
 
-turns_named : (r : Rules) (h : History) (m : ℕ) (wishes : List Bool) (g : ℕ) → g ≤ r.count → All (IsTurn r.count) (refused_to r h m wishes g)
+turns_named : (r : Rules) (h : History) (m : ℕ) (wishes : List Bool) (g : ℕ) → g ≤ r.count → All (IsTurn r.count) (refused_below r h m wishes g)
 turns_named r h m wishes zero le = ends_named r h m wishes r.count (omega arith)
 turns_named r h m wishes (suc g) le =
-    listed_all (IsTurn r.count) (wants_start (natural r h m) wishes g) g (start_breach r h m (starts_to r h m wishes g) g) (refused_to r h m wishes g)
-    (λ breach wished is. known (λ b. IsTurn r.count (refusal g b)) (start_breach r h m (starts_to r h m wishes g) g) breach
-    (start_named r h m g (omega arith) (starts_to r h m wishes g)) is)
+    with_refusal_all (IsTurn r.count) (wants_start (natural_picture r h m) wishes g) g (start_breach r h m (with_starts_below r h m wishes g) g) (refused_below r h m wishes g)
+    (λ breach wished is. known (λ b. IsTurn r.count (refusal g b)) (start_breach r h m (with_starts_below r h m wishes g) g) breach
+    (start_named r h m g (omega arith) (with_starts_below r h m wishes g)) is)
     (turns_named r h m wishes g (omega arith))
 
 pub refusals_name_groups : RefusalsNameGroups

@@ -18,8 +18,8 @@ abbrev pub shows_wish : Aspect → Bool → Bool
 shows_wish x green = if green then is_green x else is_red x
 
 -- a group that showed this, and shows that by nature, is left as it is where both are the same and no turn is wished
-abbrev pub is_left : Aspect → Aspect → Bool → Bool
-is_left aspect next green = same_aspect aspect next && (if green then is_on aspect else not (is_on aspect))
+abbrev pub stays : Aspect → Aspect → Bool → Bool
+stays aspect next green = same_aspect aspect next && (if green then is_on aspect else not (is_on aspect))
 
 -- group g shows by nature in the second after m what it showed, and no turn of it is wished
 abbrev pub IsSteady : Rules → History → ℕ → List Bool → ℕ → Type 0

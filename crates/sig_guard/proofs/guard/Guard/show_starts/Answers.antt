@@ -20,8 +20,8 @@ loop-g-init c =
       count = omega (arith, c.requires.count);
     }
 
-pub start_one-requires-clause-room : goal.start_one-requires-clause-room
-start_one-requires-clause-room c = λ wants.
+pub decide_start-requires-clause-room : goal.decide_start-requires-clause-room
+decide_start-requires-clause-room c = λ wants.
     let w = c.args.wishes.now in
     let count = (kept_rules c.args.self.now).count in
     let lt : c.loop-g.g < count = omega (arith, c.loop-g-test.true, c.groups-g-end.ensures.count) in
