@@ -21,7 +21,7 @@ use Rattle.vap_parse.specs.declared.kind.Reason.{Reason}
 use Rattle.vap_parse.specs.declared.kind.Reason.TheVariants.{Unexpected, Frequency, TooDeep}
 use Rattle.vap_parse.specs.Input.{Mark, fine, deep, wrong, Input, input, Outcome, Parser, and_then, ◌>>=◌, pure, ended, ended_at, max_operators}
 use Rattle.vap_parse.specs.Kinds.{same_kind}
-use Rattle.vap_parse.specs.Descent.{program, whole, text}
+use Rattle.vap_parse.specs.Descent.{program, text, outcome_of}
 use Rattle.vap_parse.specs.Forms.{Marked, tokens, fines}
 use Rattle.vap_parse.specs.Grammar as g
 use Rattle.vap_parse.specs.Grammar.{Text, Accepts, Begins, Ends, Refuses}
@@ -42,8 +42,8 @@ finish_ends : (p : Program) (n : ℕ) → finish p (input [] n) ≡ Ok (p, input
 unfolding ended
 finish_ends p n = refl
 
-text_complete : (ms : List Marked) (p : Program) → (s : Text ms p) → whole (start (tokens ms ++ [])) ≡ after ms (Ok (p, input [] s.0)) []
-unfolding whole same_kind
+text_complete : (ms : List Marked) (p : Program) → (s : Text ms p) → text (start (tokens ms ++ [])) ≡ after ms (Ok (p, input [] s.0)) []
+unfolding text same_kind
 text_complete ms p s =
     ap (λ (out : Outcome Program). and_then out finish) (program_law.complete max_operators s.0 ms p s.1 [] refl)
     ∙ then_after ms (Ok (p, input [] s.0)) [] finish
@@ -67,8 +67,8 @@ meets_finish front p (t ∷ ts) n s = record {
   spelled = subst (λ (ms : List Marked). Text ms p) (sym (append-nil (fines (front ++ [])))) (subst (λ (f : List Token). Text (fines f) p) (sym (append-nil front)) s);
 }
 
-meets_text : (ts : List Token) → Meets Texts [] ts (text ts)
-unfolding text whole
+meets_text : (ts : List Token) → Meets Texts [] ts (outcome_of ts)
+unfolding outcome_of text
 meets_text ts = step (g.program max_operators) Texts ts (program (start ts)) finish (program_law.meets max_operators ts)
     (λ ms p n s. ([], p, n, subst (λ (ms : List Marked). Text ms p) (sym (append-nil ms)) (n, s)))
     (λ front p j s. meets_finish front p j.rest j.operators (j.operators, s))
@@ -91,9 +91,9 @@ unfolding ended
 local_finish p z z' n _ _ (cut t) = both_err Unexpected (t ∷ z) (t ∷ z') (cut t)
 local_finish p z z' n _ _ (more t {r = r} {r' = r'} a) = both_err Unexpected (t ∷ r) (t ∷ r') (more t a)
 
-local_whole : Local whole
-unfolding whole
-local_whole = local_bind program finish program_law.local never_finish local_finish
+local_text : Local text
+unfolding text
+local_text = local_bind program finish program_law.local never_finish local_finish
 
 -- ---- nothing is left behind a text
 
@@ -112,8 +112,8 @@ finish_at_end p i = by i.rest i.operators where
   by [] n = refl
   by (t ∷ ts) n = tt
 
-text_at_end : (ts : List Token) → AtEnd (text ts)
-unfolding text whole
+text_at_end : (ts : List Token) → AtEnd (outcome_of ts)
+unfolding outcome_of text
 text_at_end ts = then_at_end (program (start ts)) finish finish_at_end
 
 -- ---- marks
@@ -142,11 +142,11 @@ marked ((t, fine) ∷ ms) p rest r e = marked ms p rest r e
 marked ((t, deep) ∷ ms) p rest r e = absurd (let why : TooDeep ≡ Unexpected = ap (λ (q : Reason × List Token). q.0) (err_is _ _ e) in cc)
 marked ((t, wrong) ∷ ms) p rest r e = absurd (let why : Frequency ≡ Unexpected = ap (λ (q : Reason × List Token). q.0) (err_is _ _ e) in cc)
 
-pub accepted : (ts : List Token) (p : Program) → (s : Accepts ts p) → text ts ≡ Ok (p, input [] s.0)
-unfolding text
+pub accepted : (ts : List Token) (p : Program) → (s : Accepts ts p) → outcome_of ts ≡ Ok (p, input [] s.0)
+unfolding outcome_of
 accepted ts p s =
     let same : tokens (fines ts) ++ [] ≡ ts = append-nil (tokens (fines ts)) ∙ tokens-fines ts in
-    sym (ap (λ (s : List Token). whole (start s)) same) ∙ text_complete (fines ts) p s ∙ after-fines ts (Ok (p, input [] s.0)) []
+    sym (ap (λ (s : List Token). text (start s)) same) ∙ text_complete (fines ts) p s ∙ after-fines ts (Ok (p, input [] s.0)) []
 
 -- ---- what is answered
 
@@ -177,15 +177,15 @@ tokens_marked : (front : List Token) (t : Token) (mark : Mark) (ms : List Marked
 tokens_marked [] t mark ms = refl
 tokens_marked (u ∷ front) t mark ms = ap (λ (s : List Token). u ∷ s) (tokens_marked front t mark ms)
 
-no_further : (front : List Token) (t : Token) (s : List Token) (mark : Mark) → text (front ++ t ∷ s) ≡ Err (Unexpected, t ∷ s) → Begins (fines front ++ (t, mark) ∷ []) → ⊥
-unfolding text
+no_further : (front : List Token) (t : Token) (s : List Token) (mark : Mark) → outcome_of (front ++ t ∷ s) ≡ Err (Unexpected, t ∷ s) → Begins (fines front ++ (t, mark) ∷ []) → ⊥
+unfolding outcome_of
 no_further front t s mark e begins =
     let ms = (fines front ++ (t, mark) ∷ []) ++ begins.0 in
     let same : tokens ms ++ [] ≡ front ++ t ∷ tokens begins.0 =
     append-nil (tokens ms) ∙ tokens_marked front t mark begins.0 in
-    let agree = local_whole s (tokens begins.0) max_operators (front ++ t ∷ s) (front ++ t ∷ tokens begins.0) (alike_front front t s (tokens begins.0)) in
-    let stopped = agree_err s (tokens begins.0) (whole (start (front ++ t ∷ s))) (whole (start (front ++ t ∷ tokens begins.0))) Unexpected (t ∷ s) agree e (omega arith) in
-    let read : whole (start (front ++ t ∷ tokens begins.0)) ≡ after ms (Ok (begins.1, input [] begins.2.0)) [] = sym (ap (λ (s : List Token). whole (start s)) same) ∙ text_complete ms begins.1 begins.2 in
+    let agree = local_text s (tokens begins.0) max_operators (front ++ t ∷ s) (front ++ t ∷ tokens begins.0) (alike_front front t s (tokens begins.0)) in
+    let stopped = agree_err s (tokens begins.0) (text (start (front ++ t ∷ s))) (text (start (front ++ t ∷ tokens begins.0))) Unexpected (t ∷ s) agree e (omega arith) in
+    let read : text (start (front ++ t ∷ tokens begins.0)) ≡ after ms (Ok (begins.1, input [] begins.2.0)) [] = sym (ap (λ (s : List Token). text (start s)) same) ∙ text_complete ms begins.1 begins.2 in
     marked ms (begins.1, input [] begins.2.0) [] stopped.0 (sym read ∙ stopped.1)
 
 grow : (ms : List Marked) (m : Marked) (more : List Marked) → ms ++ m ∷ more ≡ (ms ++ m ∷ []) ++ more
@@ -197,12 +197,12 @@ bad_by mark front t s others p b spelled =
     let marks : others ≡ (t, mark) ∷ b.others = b.marked ∙ ap (λ (u : Token). (u, mark) ∷ b.others) (sym first) in
     (b.others, p, subst (λ (ms : List Marked). Text ms p) (ap (λ (ms : List Marked). fines front ++ ms) marks ∙ grow (fines front) (t, mark) b.others) spelled)
 
-refused_by : (why : Reason) (rest : List Token) (ts : List Token) → text ts ≡ Err (why, rest) → (m : Lost Texts [] ts why rest) → Ends why m.front rest
+refused_by : (why : Reason) (rest : List Token) (ts : List Token) → outcome_of ts ≡ Err (why, rest) → (m : Lost Texts [] ts why rest) → Ends why m.front rest
 refused_by Unexpected [] ts e m =
     let same : ts ≡ m.front = m.parts ∙ append-nil m.front in
-    ((m.more, m.value, m.spelled), λ p whole. absurd (let read = accepted m.front p whole in let again : text m.front ≡ Err (Unexpected, []) = ap text (sym same) ∙ e in cc))
+    ((m.more, m.value, m.spelled), λ p whole. absurd (let read = accepted m.front p whole in let again : outcome_of m.front ≡ Err (Unexpected, []) = ap outcome_of (sym same) ∙ e in cc))
 refused_by Unexpected (t ∷ s) ts e m =
-    ((m.more, m.value, m.spelled), λ mark begins. no_further m.front t s mark (ap text (sym m.parts) ∙ e) begins)
+    ((m.more, m.value, m.spelled), λ mark begins. no_further m.front t s mark (ap outcome_of (sym m.parts) ∙ e) begins)
 refused_by TooDeep [] ts e m = absurd (let none = m.shows.first in cc)
 refused_by Frequency [] ts e m = absurd (let none = m.shows.first in cc)
 refused_by TooDeep (t ∷ s) ts e m = bad_by deep m.front t s m.more m.value m.shows m.spelled
@@ -214,12 +214,12 @@ abbrev pub Exact : List Token → Outcome Program → Type 0
 Exact ts (Ok p) = Accepts ts p.0
 Exact ts (Err e) = Refuses ts e.0 e.1
 
-exact_by : (ts : List Token) (out : Outcome Program) → text ts ≡ out → AtEnd out → Meets Texts [] ts out → Exact ts out
+exact_by : (ts : List Token) (out : Outcome Program) → outcome_of ts ≡ out → AtEnd out → Meets Texts [] ts out → Exact ts out
 exact_by ts (Ok p) e end m = is_accepted ts p.0 p.1 end m
 exact_by ts (Err f) e end m = (m.front, m.parts, refused_by f.0 f.1 ts e m)
 
-pub exact : (ts : List Token) → Exact ts (text ts)
-exact ts = exact_by ts (text ts) refl (text_at_end ts) (meets_text ts)
+pub exact : (ts : List Token) → Exact ts (outcome_of ts)
+exact ts = exact_by ts (outcome_of ts) refl (text_at_end ts) (meets_text ts)
 
 -- ---- a text has a tree or a refusal
 
@@ -228,7 +228,7 @@ by_outcome ts (Ok p) is = inl (p.0, is)
 by_outcome ts (Err e) is = inr (e.0, e.1, is)
 
 pub has_answer : (ts : List Token) → ((p : Program) × Accepts ts p) ⊎ ((w : Reason) × (r : List Token) × Refuses ts w r)
-has_answer ts = by_outcome ts (text ts) (exact ts)
+has_answer ts = by_outcome ts (outcome_of ts) (exact ts)
 
 -- ---- a text has one refusal at most
 
@@ -248,15 +248,15 @@ module _ (mark : Mark) (why : Reason) (bad : (t : Token) (ms : List Marked) (p :
   after_bad [] t ms p = bad t ms p
   after_bad (u ∷ front) t ms p = after_bad front t ms p
 
-  bad_refused : (front : List Token) (t : Token) (s : List Token) → Begins (fines front ++ (t, mark) ∷ []) → text (front ++ t ∷ s) ≡ Err (why, t ∷ s)
-  unfolding text
+  bad_refused : (front : List Token) (t : Token) (s : List Token) → Begins (fines front ++ (t, mark) ∷ []) → outcome_of (front ++ t ∷ s) ≡ Err (why, t ∷ s)
+  unfolding outcome_of
   bad_refused front t s begins =
       let ms = (fines front ++ (t, mark) ∷ []) ++ begins.0 in
       let same : tokens ms ++ [] ≡ front ++ t ∷ tokens begins.0 = append-nil (tokens ms) ∙ tokens_marked front t mark begins.0 in
-      let read : whole (start (front ++ t ∷ tokens begins.0)) ≡ Err (why, t ∷ tokens begins.0) =
-      sym (ap (λ (s : List Token). whole (start s)) same) ∙ text_complete ms begins.1 begins.2 ∙ after_bad front t begins.0 (begins.1, input [] begins.2.0) ∙ ap (λ (ts : List Token). Err (why, t ∷ ts)) (append-nil (tokens begins.0)) in
-      let agree = local_whole (tokens begins.0) s max_operators (front ++ t ∷ tokens begins.0) (front ++ t ∷ s) (alike_front front t (tokens begins.0) s) in
-      let stopped = agree_err (tokens begins.0) s (whole (start (front ++ t ∷ tokens begins.0))) (whole (start (front ++ t ∷ s))) why (t ∷ tokens begins.0) agree read (omega arith) in
+      let read : text (start (front ++ t ∷ tokens begins.0)) ≡ Err (why, t ∷ tokens begins.0) =
+      sym (ap (λ (s : List Token). text (start s)) same) ∙ text_complete ms begins.1 begins.2 ∙ after_bad front t begins.0 (begins.1, input [] begins.2.0) ∙ ap (λ (ts : List Token). Err (why, t ∷ ts)) (append-nil (tokens begins.0)) in
+      let agree = local_text (tokens begins.0) s max_operators (front ++ t ∷ tokens begins.0) (front ++ t ∷ s) (alike_front front t (tokens begins.0) s) in
+      let stopped = agree_err (tokens begins.0) s (text (start (front ++ t ∷ tokens begins.0))) (text (start (front ++ t ∷ s))) why (t ∷ tokens begins.0) agree read (omega arith) in
       stopped.1 ∙ ap (λ (r : List Token). Err (why, r)) (at_cut t stopped.2 refl)
 
 -- what follows marks is a refusal no further back
@@ -281,29 +281,29 @@ after-ahead [] ms out rest = refl
 after-ahead (t ∷ front) ms out rest = after-ahead front ms out rest
 
 -- A front of a text is read without a refusal.
-stuck_inside : (front : List Token) (u : Token) (m rest : List Token) (why : Reason) → Begins (fines (front ++ u ∷ m)) → text ((front ++ u ∷ m) ++ rest) ≡ Err (why, u ∷ m ++ rest) → ⊥
-unfolding text
+stuck_inside : (front : List Token) (u : Token) (m rest : List Token) (why : Reason) → Begins (fines (front ++ u ∷ m)) → outcome_of ((front ++ u ∷ m) ++ rest) ≡ Err (why, u ∷ m ++ rest) → ⊥
+unfolding outcome_of
 stuck_inside front u m rest why begins e =
     let ts = tokens begins.0 in
     let ms = fines (front ++ u ∷ m) ++ begins.0 in
     let same : tokens ms ++ [] ≡ front ++ u ∷ (m ++ ts) = append-nil (tokens ms) ∙ tokens-ahead (front ++ u ∷ m) begins.0 ∙ append_assoc front (u ∷ m) ts in
-    let read : whole (start (front ++ u ∷ (m ++ ts))) ≡ after begins.0 (Ok (begins.1, input [] begins.2.0)) [] =
-    sym (ap (λ (s : List Token). whole (start s)) same) ∙ text_complete ms begins.1 begins.2 ∙ after-ahead (front ++ u ∷ m) begins.0 (Ok (begins.1, input [] begins.2.0)) [] in
-    let refused : whole (start (front ++ u ∷ (m ++ rest))) ≡ Err (why, u ∷ m ++ rest) = ap (λ (s : List Token). whole (start s)) (sym (append_assoc front (u ∷ m) rest)) ∙ e in
-    let agree = local_whole (m ++ rest) (m ++ ts) max_operators (front ++ u ∷ (m ++ rest)) (front ++ u ∷ (m ++ ts)) (alike_front front u (m ++ rest) (m ++ ts)) in
-    let stopped = agree_err (m ++ rest) (m ++ ts) (whole (start (front ++ u ∷ (m ++ rest)))) (whole (start (front ++ u ∷ (m ++ ts)))) why (u ∷ m ++ rest) agree refused (omega arith) in
+    let read : text (start (front ++ u ∷ (m ++ ts))) ≡ after begins.0 (Ok (begins.1, input [] begins.2.0)) [] =
+    sym (ap (λ (s : List Token). text (start s)) same) ∙ text_complete ms begins.1 begins.2 ∙ after-ahead (front ++ u ∷ m) begins.0 (Ok (begins.1, input [] begins.2.0)) [] in
+    let refused : text (start (front ++ u ∷ (m ++ rest))) ≡ Err (why, u ∷ m ++ rest) = ap (λ (s : List Token). text (start s)) (sym (append_assoc front (u ∷ m) rest)) ∙ e in
+    let agree = local_text (m ++ rest) (m ++ ts) max_operators (front ++ u ∷ (m ++ rest)) (front ++ u ∷ (m ++ ts)) (alike_front front u (m ++ rest) (m ++ ts)) in
+    let stopped = agree_err (m ++ rest) (m ++ ts) (text (start (front ++ u ∷ (m ++ rest)))) (text (start (front ++ u ∷ (m ++ ts)))) why (u ∷ m ++ rest) agree refused (omega arith) in
     let place : stopped.0 ≡ u ∷ (m ++ ts) = at_cut u stopped.2 refl in
     let le = after_length begins.0 (begins.1, input [] begins.2.0) why stopped.0 (sym read ∙ stopped.1) in
     let len : length stopped.0 ≡ length (u ∷ (m ++ ts)) = ap length place in
     absurd (omega (arith, len, le, length-append m ts))
 
-inside : (front before m rest r : List Token) (why : Reason) → front ≡ before ++ m → r ≡ m ++ rest → Begins (fines front) → text (front ++ rest) ≡ Err (why, r) → length rest < length r → ⊥
+inside : (front before m rest r : List Token) (why : Reason) → front ≡ before ++ m → r ≡ m ++ rest → Begins (fines front) → outcome_of (front ++ rest) ≡ Err (why, r) → length rest < length r → ⊥
 inside front before [] rest r why is r-is begins e longer = absurd (let len : length r ≡ length rest = ap length r-is in omega arith)
 inside front before (u ∷ m) rest r why is r-is begins e longer =
     stuck_inside before u m rest why (subst (λ (f : List Token). Begins (fines f)) is begins)
-    (ap (λ (f : List Token). text (f ++ rest)) (sym is) ∙ e ∙ ap (λ (r : List Token). Err (why, r)) r-is)
+    (ap (λ (f : List Token). outcome_of (f ++ rest)) (sym is) ∙ e ∙ ap (λ (r : List Token). Err (why, r)) r-is)
 
-reaches : (front rest : List Token) (why : Reason) (r : List Token) → Begins (fines front) → text (front ++ rest) ≡ Err (why, r) → Refuses (front ++ rest) why r → length rest < length r → ⊥
+reaches : (front rest : List Token) (why : Reason) (r : List Token) → Begins (fines front) → outcome_of (front ++ rest) ≡ Err (why, r) → Refuses (front ++ rest) why r → length rest < length r → ⊥
 reaches front rest why r begins e refuses longer =
     let m = split refuses.0 front r rest (sym refuses.1) (omega arith) in
     inside front refuses.0 m.0 rest r why m.1 m.2 begins e longer
@@ -344,7 +344,7 @@ at_or_behind front t s (v ∷ m) why front' r is r-is ends none =
     absurd (none fine (begins_less front t m begins.0 there))
 
 -- the answer of the functions on lists, where the tokens are refused so
-unexpected_at : (front : List Token) (t : Token) (s : List Token) (out : Outcome Program) → text (front ++ t ∷ s) ≡ out → Exact (front ++ t ∷ s) out → Ends Unexpected front (t ∷ s) → out ≡ Err (Unexpected, t ∷ s)
+unexpected_at : (front : List Token) (t : Token) (s : List Token) (out : Outcome Program) → outcome_of (front ++ t ∷ s) ≡ out → Exact (front ++ t ∷ s) out → Ends Unexpected front (t ∷ s) → out ≡ Err (Unexpected, t ∷ s)
 unexpected_at front t s (Ok p) e exact_ ends = absurd (ends.1 fine (begins_less front t s [] (accepted_begins (front ++ t ∷ s) p.0 exact_)))
 unexpected_at front t s (Err f) e exact_ ends =
     elim (cases_lt (length (t ∷ s)) (length f.1)) [
@@ -366,7 +366,7 @@ at_the_end TooDeep front (t ∷ r) none ends = absurd cc
 at_the_end Frequency front [] none ends = absurd ends
 at_the_end Frequency front (t ∷ r) none ends = absurd cc
 
-too_early : (front : List Token) (out : Outcome Program) → text (front ++ []) ≡ out → Exact (front ++ []) out → Ends Unexpected front [] → out ≡ Err (Unexpected, [])
+too_early : (front : List Token) (out : Outcome Program) → outcome_of (front ++ []) ≡ out → Exact (front ++ []) out → Ends Unexpected front [] → out ≡ Err (Unexpected, [])
 too_early front (Ok p) e exact_ ends = absurd (ends.1 p.0 (subst (λ (ts : List Token). Accepts ts p.0) (append-nil front) exact_))
 too_early front (Err f) e exact_ ends =
     elim (cases_lt 0 (length f.1)) [
@@ -376,17 +376,17 @@ too_early front (Err f) e exact_ ends =
           ap (λ (w : Reason). Err (w, f.1)) (at_the_end f.0 exact_.0 f.1 none exact_.2) ∙ ap (λ (r : List Token). Err (Unexpected, r)) none
     ]
 
-refused_at : (why : Reason) (front rest : List Token) → Ends why front rest → text (front ++ rest) ≡ Err (why, rest)
-refused_at Unexpected front [] ends = too_early front (text (front ++ [])) refl (exact (front ++ [])) ends
-refused_at Unexpected front (t ∷ s) ends = unexpected_at front t s (text (front ++ t ∷ s)) refl (exact (front ++ t ∷ s)) ends
+refused_at : (why : Reason) (front rest : List Token) → Ends why front rest → outcome_of (front ++ rest) ≡ Err (why, rest)
+refused_at Unexpected front [] ends = too_early front (outcome_of (front ++ [])) refl (exact (front ++ [])) ends
+refused_at Unexpected front (t ∷ s) ends = unexpected_at front t s (outcome_of (front ++ t ∷ s)) refl (exact (front ++ t ∷ s)) ends
 refused_at TooDeep front [] ends = absurd ends
 refused_at TooDeep front (t ∷ s) ends = bad_refused deep TooDeep (λ t ms p. refl) front t s ends
 refused_at Frequency front [] ends = absurd ends
 refused_at Frequency front (t ∷ s) ends = bad_refused wrong Frequency (λ t ms p. refl) front t s ends
 
 -- Where the tokens are refused so, that is what is answered: so there is one refusal at most, and none of a text.
-pub refused : (ts : List Token) (why : Reason) (rest : List Token) → Refuses ts why rest → text ts ≡ Err (why, rest)
-refused ts why rest refuses = ap text refuses.1 ∙ refused_at why refuses.0 rest refuses.2
+pub refused : (ts : List Token) (why : Reason) (rest : List Token) → Refuses ts why rest → outcome_of ts ≡ Err (why, rest)
+refused ts why rest refuses = ap outcome_of refuses.1 ∙ refused_at why refuses.0 rest refuses.2
 
 pub one_tree : (ts : List Token) (p q : Program) → Accepts ts p → Accepts ts q → p ≡ q
 one_tree ts p q a b = let one = accepted ts p a in let two = accepted ts q b in ap (λ (x : Program × Input). x.0) (ok_is _ _ (sym one ∙ two))

@@ -16,7 +16,7 @@ use Rattle.vap_parse.specs.Grammar as g
 use Rattle.vap_parse.proofs.Law.{Law, no_kind, gives_law, then_law, either_law}
 use Rattle.vap_parse.proofs.Rounds.{many_law}
 use Rattle.vap_parse.proofs.Skips.{any_kind}
-use Rattle.vap_parse.proofs.Tokens.{expect_law, enter_law, called_law, number_law, operator_law, reading_law, aspect_law, is_reading}
+use Rattle.vap_parse.proofs.Tokens.{expect_law, enter_law, name_law, number_law, operator_law, reading_law, aspect_law, is_reading}
 
 -- ---- what rules begin with, and what may go on with them
 
@@ -96,33 +96,33 @@ module _ (l : ℕ) (deep : Rank → Parser Expr) (Deep : Rank → Form Expr) (de
   unfolding r.a_reading g.a_reading same_kind
   a_reading_law = then_law is_reading no_kind reading_law (λ x. then_law (is k.Open) no_kind arguments_law (λ xs. gives_law _) refl) refl
 
-  pub state_law : Law (r.state l deep) (g.state l Deep) (is k.CurrentState) no_kind false
-  unfolding r.state g.state same_kind
-  state_law = then_law (is k.CurrentState) no_kind (expect_law k.CurrentState refl) (λ _. then_law (is k.Open) no_kind (enter_law l k.Open refl) (λ _. then_law (starts rank.Or) no_kind (deeper rank.Or) (λ x. then_law comma no_kind (expect_law k.Comma refl) (λ _. then_law (is k.Name) no_kind aspect_law (λ a. then_law (is k.Close) no_kind (expect_law k.Close refl) (λ _. gives_law _) refl) refl) refl) refl) refl) refl
+  pub current_state_law : Law (r.current_state l deep) (g.current_state l Deep) (is k.CurrentState) no_kind false
+  unfolding r.current_state g.current_state same_kind
+  current_state_law = then_law (is k.CurrentState) no_kind (expect_law k.CurrentState refl) (λ _. then_law (is k.Open) no_kind (enter_law l k.Open refl) (λ _. then_law (starts rank.Or) no_kind (deeper rank.Or) (λ x. then_law comma no_kind (expect_law k.Comma refl) (λ _. then_law (is k.Name) no_kind aspect_law (λ a. then_law (is k.Close) no_kind (expect_law k.Close refl) (λ _. gives_law _) refl) refl) refl) refl) refl) refl
 
   pub empty_brackets_law : Law (r.empty_brackets l deep) (g.empty_brackets l Deep) (is k.Open) no_kind false
   unfolding r.empty_brackets g.empty_brackets same_kind
   empty_brackets_law = then_law (is k.Open) no_kind (enter_law l k.Open refl) (λ _. expect_law k.Close refl) refl
 
-  pub active_law : Law (r.active l deep) (g.active l Deep) (is k.AnyInterstageActive) (is k.Open) false
-  unfolding r.active g.active same_kind
-  active_law = then_law (is k.AnyInterstageActive) (is k.Open) (expect_law k.AnyInterstageActive refl) (λ _. then_law (is k.Open) (is k.Open) (either_law (is k.Open) (is k.Open) (is k.Open) empty_brackets_law (gives_law 0) refl) (λ _. gives_law _) refl) refl
+  pub any_interstage_law : Law (r.any_interstage l deep) (g.any_interstage l Deep) (is k.AnyInterstageActive) (is k.Open) false
+  unfolding r.any_interstage g.any_interstage same_kind
+  any_interstage_law = then_law (is k.AnyInterstageActive) (is k.Open) (expect_law k.AnyInterstageActive refl) (λ _. then_law (is k.Open) (is k.Open) (either_law (is k.Open) (is k.Open) (is k.Open) empty_brackets_law (gives_law 0) refl) (λ _. gives_law _) refl) refl
 
   pub cell_of_law : (w : List ℕ) → Law (r.cell_of l deep w) (g.cell_of l Deep w) (is k.OpenIndex) no_kind false
   unfolding r.cell_of g.cell_of same_kind
   cell_of_law w = then_law (is k.OpenIndex) no_kind index_law (λ i. gives_law _) refl
 
-  pub named_law : Law (r.named l deep) (g.named l Deep) (is k.Name) (is k.OpenIndex) false
-  unfolding r.named g.named same_kind
-  named_law = then_law (is k.Name) (is k.OpenIndex) called_law (λ w. either_law (is k.OpenIndex) (is k.OpenIndex) (is k.OpenIndex) (cell_of_law w.0) (gives_law _) refl) refl
+  pub name_or_cell_law : Law (r.name_or_cell l deep) (g.name_or_cell l Deep) (is k.Name) (is k.OpenIndex) false
+  unfolding r.name_or_cell g.name_or_cell same_kind
+  name_or_cell_law = then_law (is k.Name) (is k.OpenIndex) name_law (λ w. either_law (is k.OpenIndex) (is k.OpenIndex) (is k.OpenIndex) (cell_of_law w.0) (gives_law _) refl) refl
 
   pub atom_law : Law (r.atom l deep) (g.atom l Deep) (starts rank.Atom) (goes rank.Atom) false
   unfolding r.atom g.atom same_kind
   atom_law = either_law (is k.Number) (starts rank.Atom) (goes rank.Atom) literal_alone
-      (either_law (is k.Name) (λ kd. is k.Name kd || (is k.Open kd || (is k.CurrentState kd || (is k.AnyInterstageActive kd || is_reading kd)))) (goes rank.Atom) named_law
+      (either_law (is k.Name) (λ kd. is k.Name kd || (is k.Open kd || (is k.CurrentState kd || (is k.AnyInterstageActive kd || is_reading kd)))) (goes rank.Atom) name_or_cell_law
       (either_law (is k.Open) (λ kd. is k.Open kd || (is k.CurrentState kd || (is k.AnyInterstageActive kd || is_reading kd))) (goes rank.Atom) brackets_law
-      (either_law (is k.CurrentState) (λ kd. is k.CurrentState kd || (is k.AnyInterstageActive kd || is_reading kd)) (goes rank.Atom) state_law
-      (either_law (is k.AnyInterstageActive) (λ kd. is k.AnyInterstageActive kd || is_reading kd) (goes rank.Atom) active_law a_reading_law refl) refl) refl) refl) refl
+      (either_law (is k.CurrentState) (λ kd. is k.CurrentState kd || (is k.AnyInterstageActive kd || is_reading kd)) (goes rank.Atom) current_state_law
+      (either_law (is k.AnyInterstageActive) (λ kd. is k.AnyInterstageActive kd || is_reading kd) (goes rank.Atom) any_interstage_law a_reading_law refl) refl) refl) refl) refl
 
   pub negative_law : Law (r.negative l deep) (g.negative l Deep) (is k.Minus) (goes rank.Sign) false
   unfolding r.negative g.negative same_kind
@@ -180,19 +180,19 @@ module _ (l : ℕ) (deep : Rank → Parser Expr) (Deep : Rank → Form Expr) (de
   unfolding r.disjunction g.disjunction r.chain g.chain same_kind
   disjunction_law = then_law (starts rank.Or) (goes rank.Or) conjunction_law (λ x. many_law (is_operator rank.Or) (is_operator rank.Or) (goes rank.Or) disjunction_operation_law refl x) refl
 
-  ranked_law : (x : Rank) → Law (r.ranked l deep x) (g.ranked l Deep x) (starts x) (goes x) false
-  ranked_law rank.Or = disjunction_law
-  ranked_law rank.And = conjunction_law
-  ranked_law rank.Not = negation_law
-  ranked_law rank.Compare = comparison_law
-  ranked_law rank.Sum = sum_law
-  ranked_law rank.Product = product_law
-  ranked_law rank.Sign = sign_law
-  ranked_law rank.Atom = atom_law
+  of_rank_law : (x : Rank) → Law (r.of_rank l deep x) (g.of_rank l Deep x) (starts x) (goes x) false
+  of_rank_law rank.Or = disjunction_law
+  of_rank_law rank.And = conjunction_law
+  of_rank_law rank.Not = negation_law
+  of_rank_law rank.Compare = comparison_law
+  of_rank_law rank.Sum = sum_law
+  of_rank_law rank.Product = product_law
+  of_rank_law rank.Sign = sign_law
+  of_rank_law rank.Atom = atom_law
 
 pub inner_law : (l : ℕ) (x : Rank) → Law (r.inner l x) (g.inner l x) (starts x) (goes x) false
 inner_law zero x = literal_law x
-inner_law (suc l) x = ranked_law l (r.inner l) (g.inner l) (inner_law l) x
+inner_law (suc l) x = of_rank_law l (r.inner l) (g.inner l) (inner_law l) x
 
 pub expr_law : (l : ℕ) (x : Rank) → Law (r.expr l x) (g.expr l x) (starts x) (goes x) false
-expr_law l x = ranked_law l (r.inner l) (g.inner l) (inner_law l) x
+expr_law l x = of_rank_law l (r.inner l) (g.inner l) (inner_law l) x

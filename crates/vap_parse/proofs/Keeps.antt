@@ -115,8 +115,8 @@ module _ (most : ℕ) where
   lined None line x e = absurd cc
   lined {A = A} (Some y) line x e = let same : (y, line) ≡ x = cc in ap (λ (w : A × ℕ). w.1) same
 
-  called_keep : Keeps g.called (λ w. IsLine most w.1)
-  called_keep = picks_keep name_at no_limit as_many (λ w. IsLine most w.1) (λ o t x e marks line. subst (IsLine most) (lined (name_in t.kind) t.line x e) line)
+  name_keep : Keeps g.name (λ w. IsLine most w.1)
+  name_keep = picks_keep name_at no_limit as_many (λ w. IsLine most w.1) (λ o t x e marks line. subst (IsLine most) (lined (name_in t.kind) t.line x e) line)
 
   command_keep : Keeps g.command (λ w. IsLine most w.1)
   command_keep = picks_keep (λ t. with_line (command_of (kind_of t.kind)) t.line) no_limit as_many (λ w. IsLine most w.1) (λ o t x e marks line. subst (IsLine most) (lined (command_of (kind_of t.kind)) t.line x e) line)
@@ -188,25 +188,25 @@ module _ (most : ℕ) where
     unfolding g.a_reading
     a_reading_keep = then_keep (any_keep g.reading) (λ r _. then_keep arguments_keep (λ xs h. gives_keep (omega arith)))
 
-    state_keep : Keeps (g.state l Deep) (Roomy l rank.Atom)
-    unfolding g.state
-    state_keep = then_keep (any_keep (g.expect k.CurrentState)) (λ _ _. then_keep (enter_keep l k.Open) (λ _ h. then_keep (deeper h.1 rank.Or) (λ x j. then_keep (any_keep (g.expect k.Comma)) (λ _ _. then_keep (any_keep g.aspect) (λ a _. then_keep (any_keep (g.expect k.Close)) (λ _ _. gives_keep (omega arith)))))))
+    current_state_keep : Keeps (g.current_state l Deep) (Roomy l rank.Atom)
+    unfolding g.current_state
+    current_state_keep = then_keep (any_keep (g.expect k.CurrentState)) (λ _ _. then_keep (enter_keep l k.Open) (λ _ h. then_keep (deeper h.1 rank.Or) (λ x j. then_keep (any_keep (g.expect k.Comma)) (λ _ _. then_keep (any_keep g.aspect) (λ a _. then_keep (any_keep (g.expect k.Close)) (λ _ _. gives_keep (omega arith)))))))
 
-    active_keep : Keeps (g.active l Deep) (Roomy l rank.Atom)
-    unfolding g.active
-    active_keep = then_keep (any_keep (g.expect k.AnyInterstageActive)) (λ _ _. then_keep (any_keep (Either (g.empty_brackets l Deep) (Gives 0))) (λ _ _. gives_keep (omega arith)))
+    any_interstage_keep : Keeps (g.any_interstage l Deep) (Roomy l rank.Atom)
+    unfolding g.any_interstage
+    any_interstage_keep = then_keep (any_keep (g.expect k.AnyInterstageActive)) (λ _ _. then_keep (any_keep (Either (g.empty_brackets l Deep) (Gives 0))) (λ _ _. gives_keep (omega arith)))
 
     cell_of_keep : (w : List ℕ) → Keeps (g.cell_of l Deep w) (Roomy l rank.Atom)
     unfolding g.cell_of
     cell_of_keep w = then_keep index_keep (λ i h. gives_keep (omega arith))
 
-    named_keep : Keeps (g.named l Deep) (Roomy l rank.Atom)
-    unfolding g.named
-    named_keep = then_keep (any_keep g.called) (λ w _. either_keep (cell_of_keep w.0) (gives_keep (omega arith)))
+    name_or_cell_keep : Keeps (g.name_or_cell l Deep) (Roomy l rank.Atom)
+    unfolding g.name_or_cell
+    name_or_cell_keep = then_keep (any_keep g.name) (λ w _. either_keep (cell_of_keep w.0) (gives_keep (omega arith)))
 
     atom_keep : Keeps (g.atom l Deep) (Roomy l rank.Atom)
     unfolding g.atom
-    atom_keep = either_keep (literal_keep l rank.Atom) (either_keep named_keep (either_keep brackets_keep (either_keep state_keep (either_keep active_keep a_reading_keep))))
+    atom_keep = either_keep (literal_keep l rank.Atom) (either_keep name_or_cell_keep (either_keep brackets_keep (either_keep current_state_keep (either_keep any_interstage_keep a_reading_keep))))
 
     negative_keep : Keeps (g.negative l Deep) (Roomy l rank.Sign)
     unfolding g.negative
@@ -264,24 +264,24 @@ module _ (most : ℕ) where
     unfolding g.disjunction g.chain
     disjunction_keep = then_keep conjunction_keep (λ x h. many_keep disjunction_operation_keep x (omega arith))
 
-    ranked_keep : (x : Rank) → Keeps (g.ranked l Deep x) (Roomy l x)
-    ranked_keep rank.Or = disjunction_keep
-    ranked_keep rank.And = conjunction_keep
-    ranked_keep rank.Not = negation_keep
-    ranked_keep rank.Compare = comparison_keep
-    ranked_keep rank.Sum = sum_keep
-    ranked_keep rank.Product = product_keep
-    ranked_keep rank.Sign = sign_keep
-    ranked_keep rank.Atom = atom_keep
+    of_rank_keep : (x : Rank) → Keeps (g.of_rank l Deep x) (Roomy l x)
+    of_rank_keep rank.Or = disjunction_keep
+    of_rank_keep rank.And = conjunction_keep
+    of_rank_keep rank.Not = negation_keep
+    of_rank_keep rank.Compare = comparison_keep
+    of_rank_keep rank.Sum = sum_keep
+    of_rank_keep rank.Product = product_keep
+    of_rank_keep rank.Sign = sign_keep
+    of_rank_keep rank.Atom = atom_keep
 
   deep_keep : (l : ℕ) → 0 < l → (x : Rank) → Keeps (g.inner l x) (Deeper l x)
   deep_keep zero lt x = absurd (omega arith)
-  deep_keep (suc l) lt x = weaken (λ e h. one_more x e h) (ranked_keep l (g.inner l) (deep_keep l) x) where
+  deep_keep (suc l) lt x = weaken (λ e h. one_more x e h) (of_rank_keep l (g.inner l) (deep_keep l) x) where
     one_more : (x : Rank) (e : Expr) → Roomy l x e → Deeper (suc l) x e
     one_more x e h = omega arith
 
   expr_keep : (l : ℕ) (x : Rank) → Keeps (g.expr l x) (Roomy l x)
-  expr_keep l x = ranked_keep l (g.inner l) (deep_keep l) x
+  expr_keep l x = of_rank_keep l (g.inner l) (deep_keep l) x
 
   -- ---- statements
 
@@ -310,7 +310,7 @@ module _ (most : ℕ) where
 
     named_item_keep : Keeps g.named_item Good
     unfolding g.named_item
-    named_item_keep = then_keep called_keep (λ w line. either_keep (labelled_keep w line) (either_keep (assigned_keep w line) (anew_keep (cell_assigned_keep w line))))
+    named_item_keep = then_keep name_keep (λ w line. either_keep (labelled_keep w line) (either_keep (assigned_keep w line) (anew_keep (cell_assigned_keep w line))))
 
     goto_keep : Keeps g.goto Good
     unfolding g.goto
@@ -318,23 +318,23 @@ module _ (most : ℕ) where
 
     gosub_keep : Keeps g.gosub Good
     unfolding g.gosub
-    gosub_keep = then_keep (expect_keep k.Gosub) (λ at line. then_keep (any_keep g.called) (λ w _. gives_keep (line, tt)))
+    gosub_keep = then_keep (expect_keep k.Gosub) (λ at line. then_keep (any_keep g.name) (λ w _. gives_keep (line, tt)))
 
     trace_keep : Keeps g.trace Good
     unfolding g.trace
     trace_keep = then_keep (expect_keep k.Trace) (λ at line. then_keep (any_keep (g.expect k.Open)) (λ _ _. then_keep (any_keep Balanced) (λ _ _. gives_keep (line, tt))))
 
-    timing_keep : Keeps g.timing Good
-    unfolding g.timing
-    timing_keep = then_keep timer_keep (λ what line. then_keep (any_keep (g.expect k.Open)) (λ _ _. then_keep (any_keep g.called) (λ w _. then_keep (any_keep (g.expect k.Close)) (λ _ _. gives_keep (line, tt)))))
+    timer_statement_keep : Keeps g.timer_statement Good
+    unfolding g.timer_statement
+    timer_statement_keep = then_keep timer_keep (λ what line. then_keep (any_keep (g.expect k.Open)) (λ _ _. then_keep (any_keep g.name) (λ w _. then_keep (any_keep (g.expect k.Close)) (λ _ _. gives_keep (line, tt)))))
 
-    commanded_keep : Keeps g.commanded Good
-    unfolding g.commanded
-    commanded_keep = then_keep command_keep (λ what line. then_keep (anew_keep (arguments_keep max_levels (g.inner max_levels) (deep_keep max_levels))) (λ xs h. gives_keep (line, omega arith)))
+    command_statement_keep : Keeps g.command_statement Good
+    unfolding g.command_statement
+    command_statement_keep = then_keep command_keep (λ what line. then_keep (anew_keep (arguments_keep max_levels (g.inner max_levels) (deep_keep max_levels))) (λ xs h. gives_keep (line, omega arith)))
 
-    simple_keep : Keeps g.simple Good
-    unfolding g.simple
-    simple_keep = either_keep goto_keep (either_keep gosub_keep (either_keep trace_keep (either_keep timing_keep commanded_keep)))
+    simple_statement_keep : Keeps g.simple_statement Good
+    unfolding g.simple_statement
+    simple_statement_keep = either_keep goto_keep (either_keep gosub_keep (either_keep trace_keep (either_keep timer_statement_keep command_statement_keep)))
 
     abbrev All_good : List Item → Type 0
     All_good xs = ParsedItems most ifs (one_after_another xs)
@@ -348,21 +348,21 @@ module _ (most : ℕ) where
       unfolding g.other_branch
       other_branch_keep lt = then_keep (any_keep (g.expect k.Else)) (λ _ _. deeper lt)
 
-      otherwise_keep : 0 < ifs → Keeps (g.otherwise ifs Deep) (λ xs. ParsedItems most (ifs - 1) (one_after_another xs))
-      unfolding g.otherwise
-      otherwise_keep lt = either_keep (other_branch_keep lt) (gives_keep tt)
+      else_branch_keep : 0 < ifs → Keeps (g.else_branch ifs Deep) (λ xs. ParsedItems most (ifs - 1) (one_after_another xs))
+      unfolding g.else_branch
+      else_branch_keep lt = either_keep (other_branch_keep lt) (gives_keep tt)
 
       branch_keep : Keeps (g.branch ifs Deep) Good
       unfolding g.branch
-      branch_keep = then_keep (enter_keep ifs k.If) (λ at line. then_keep expression_keep (λ x h. then_keep (any_keep (g.expect k.Then)) (λ _ _. then_keep (deeper line.1) (λ ys j. then_keep (otherwise_keep line.1) (λ ns i. then_keep (any_keep (g.expect k.End)) (λ _ _. gives_keep (line.0, (h, line.1, j, i))))))))
+      branch_keep = then_keep (enter_keep ifs k.If) (λ at line. then_keep expression_keep (λ x h. then_keep (any_keep (g.expect k.Then)) (λ _ _. then_keep (deeper line.1) (λ ys j. then_keep (else_branch_keep line.1) (λ ns i. then_keep (any_keep (g.expect k.End)) (λ _ _. gives_keep (line.0, (h, line.1, j, i))))))))
 
-      one_keep : Keeps (g.one ifs Deep) Good
-      unfolding g.one
-      one_keep = either_keep named_item_keep (either_keep branch_keep simple_keep)
+      item_keep : Keeps (g.item ifs Deep) Good
+      unfolding g.item
+      item_keep = either_keep named_item_keep (either_keep branch_keep simple_statement_keep)
 
       one_more_keep : (xs : List Item) → All_good xs → Keeps (g.one_more ifs Deep xs) All_good
       unfolding g.one_more
-      one_more_keep xs h = then_keep one_keep (λ x j. then_keep (any_keep g.semis) (λ _ _. gives_keep (items-snoc xs x h j)))
+      one_more_keep xs h = then_keep item_keep (λ x j. then_keep (any_keep g.semis) (λ _ _. gives_keep (items-snoc xs x h j)))
 
       items_keep : Keeps (g.items ifs Deep) All_good
       unfolding g.items
@@ -395,7 +395,7 @@ module _ (most : ℕ) where
 
   constant_keep : Keeps g.constant (λ c. IsLine most c.line)
   unfolding g.constant
-  constant_keep = then_keep called_keep (λ w line. then_keep (any_keep (g.expect k.Eq)) (λ _ _. then_keep (any_keep g.value) (λ v _. gives_keep line)))
+  constant_keep = then_keep name_keep (λ w line. then_keep (any_keep (g.expect k.Eq)) (λ _ _. then_keep (any_keep g.value) (λ v _. gives_keep line)))
 
   next_constant_keep : (cs : List Constant) → Lined cs → Keeps (g.next_constant cs) Lined
   unfolding g.next_constant
@@ -407,7 +407,7 @@ module _ (most : ℕ) where
 
   array_keep : Keeps g.array (λ a. IsLine most a.line)
   unfolding g.array
-  array_keep = then_keep called_keep (λ w line. then_keep (any_keep (g.expect k.OpenIndex)) (λ _ _. then_keep (any_keep g.number) (λ n _. then_keep (any_keep (g.expect k.CloseIndex)) (λ _ _. then_keep (any_keep (g.expect k.Eq)) (λ _ _. then_keep (any_keep g.values) (λ vs _. gives_keep line))))))
+  array_keep = then_keep name_keep (λ w line. then_keep (any_keep (g.expect k.OpenIndex)) (λ _ _. then_keep (any_keep g.number) (λ n _. then_keep (any_keep (g.expect k.CloseIndex)) (λ _ _. then_keep (any_keep (g.expect k.Eq)) (λ _ _. then_keep (any_keep g.values) (λ vs _. gives_keep line))))))
 
   next_array_keep : (xs : List Array) → LinedArrays xs → Keeps (g.next_array xs) LinedArrays
   unfolding g.next_array
@@ -430,7 +430,7 @@ module _ (most : ℕ) where
 
   sub_keep : Keeps g.sub (ParsedRoutine most)
   unfolding g.sub
-  sub_keep = then_keep (any_keep (g.expect k.Subroutine)) (λ _ _. then_keep called_keep (λ w line. then_keep body_keep (λ xs h. then_keep (any_keep g.ending) (λ _ _. gives_keep (record { line = line; body = h })))))
+  sub_keep = then_keep (any_keep (g.expect k.Subroutine)) (λ _ _. then_keep name_keep (λ w line. then_keep body_keep (λ xs h. then_keep (any_keep g.ending) (λ _ _. gives_keep (record { line = line; body = h })))))
 
   abbrev Subs : List Routine → Type 0
   Subs rs = All (λ r. ParsedRoutine most r) rs
@@ -441,7 +441,7 @@ module _ (most : ℕ) where
 
   program_keep : Keeps g.program (Parsed most)
   unfolding g.program
-  program_keep = then_keep (any_keep (g.expect k.Program)) (λ _ _. then_keep called_keep (λ w line. then_keep (any_keep g.semis) (λ _ _.
+  program_keep = then_keep (any_keep (g.expect k.Program)) (λ _ _. then_keep name_keep (λ w line. then_keep (any_keep g.semis) (λ _ _.
       then_keep (many_keep declaration_keep ([], []) (All-nil (λ c. IsLine most c.line), All-nil (λ a. IsLine most a.line))) (λ d h.
       then_keep (many_keep next_sub_keep [] (All-nil (λ r. ParsedRoutine most r))) (λ rs i.
       then_keep main_keep (λ xs j. then_keep (any_keep g.ending) (λ _ _. gives_keep (record { consts = h.0; arrays = h.1; subs = i; main = record { line = line; body = j } }))))))))

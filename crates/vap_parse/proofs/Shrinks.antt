@@ -10,12 +10,12 @@ use Rattle.vap_parse.specs.declared.kind.Rank.TheVariants as rank
 use Rattle.vap_parse.specs.Input.{Mark, fine, deep, wrong, Input, Outcome, Parser, and_then, kind, by_mark, picked, token_at, token, many}
 use Rattle.vap_parse.specs.Forms.{Form}
 use Rattle.vap_parse.specs.Kinds.{begins, declares}
-use Rattle.vap_parse.specs.Descent.{is, is_operator, IsChain, operation, expr, inner, next_argument, one_semi, one, one_more, inside, body, next_constant, next_array, next_value, Declared, declaration, next_sub}
+use Rattle.vap_parse.specs.Descent.{is, is_operator, IsChain, operation, expr, inner, next_argument, one_semi, item, one_more, inside, body, next_constant, next_array, next_value, Declared, declaration, next_sub}
 use Rattle.vap_parse.specs.Grammar as g
 use Rattle.vap_parse.proofs.Meets.{Within}
 use Rattle.vap_parse.proofs.Law.{Law, never}
 use Rattle.vap_parse.proofs.Rounds.{Shorter, shorter, many_once}
-use Rattle.vap_parse.proofs.TextLaws.{one_semi_law, one_more_law, one_law, inside_law, next_constant_law, next_array_law, next_value_law, declaration_law, next_sub_law}
+use Rattle.vap_parse.proofs.TextLaws.{one_semi_law, one_more_law, item_law, inside_law, next_constant_law, next_array_law, next_value_law, declaration_law, next_sub_law}
 use Rattle.vap_parse.proofs.ExprLaws.{product_operation_law, sum_operation_law, conjunction_operation_law, disjunction_operation_law, next_argument_law, inner_law}
 
 -- a token is taken
@@ -65,8 +65,8 @@ semis_once u i = many_once (is k.Semi) one_semi_law u i
 pub items_once : (n : ℕ) (xs : List Item) (i : Input) → OneRound begins (one_more n (inside n)) xs i
 items_once n xs i = many_once begins (one_more_law n (inside n) (g.inside n) (inside_law n)) xs i
 
-pub one_takes : (n : ℕ) (i j : Input) (x : Item) → one n (inside n) i ≡ Ok (x, j) → length j.rest < length i.rest
-one_takes n i j x e = takes (one_law n (inside n) (g.inside n) (inside_law n)) i j x e
+pub item_takes : (n : ℕ) (i j : Input) (x : Item) → item n (inside n) i ≡ Ok (x, j) → length j.rest < length i.rest
+item_takes n i j x e = takes (item_law n (inside n) (g.inside n) (inside_law n)) i j x e
 
 pub inside_is : (n : ℕ) → 0 < n → inside n ≡ body (n - 1)
 inside_is zero some = absurd (omega arith)

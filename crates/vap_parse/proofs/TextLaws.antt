@@ -14,7 +14,7 @@ use Rattle.vap_parse.specs.Grammar as g
 use Rattle.vap_parse.proofs.Law.{Law, no_kind, gives_law, then_law, either_law, anew_law}
 use Rattle.vap_parse.proofs.Rounds.{many_law}
 use Rattle.vap_parse.proofs.Skips.{any_kind, balanced_law}
-use Rattle.vap_parse.proofs.Tokens.{expect_law, enter_law, called_law, number_law, frequency_law, command_law, timer_law, is_command}
+use Rattle.vap_parse.proofs.Tokens.{expect_law, enter_law, name_law, number_law, frequency_law, command_law, timer_law, is_command}
 use Rattle.vap_parse.proofs.ExprLaws.{starts, goes, index_law, arguments_law, expr_law, inner_law}
 
 -- what an item begins with, and what may go on with it
@@ -56,11 +56,11 @@ cell_assigned_law w = then_law (is k.OpenIndex) (goes rank.Or) (index_law max_le
 
 pub named_item_law : Law r.named_item g.named_item (is k.Name) (goes rank.Or) false
 unfolding r.named_item g.named_item same_kind
-named_item_law = then_law (is k.Name) (goes rank.Or) called_law (λ w. either_law (is k.Colon) (λ kd. is k.Colon kd || (is k.Assign kd || is k.OpenIndex kd)) (goes rank.Or) (labelled_law w) (either_law (is k.Assign) (λ kd. is k.Assign kd || is k.OpenIndex kd) (goes rank.Or) (assigned_law w) (anew_law (cell_assigned_law w)) refl) refl) refl
+named_item_law = then_law (is k.Name) (goes rank.Or) name_law (λ w. either_law (is k.Colon) (λ kd. is k.Colon kd || (is k.Assign kd || is k.OpenIndex kd)) (goes rank.Or) (labelled_law w) (either_law (is k.Assign) (λ kd. is k.Assign kd || is k.OpenIndex kd) (goes rank.Or) (assigned_law w) (anew_law (cell_assigned_law w)) refl) refl) refl
 
 pub to_label_law : Law r.to_label g.to_label (is k.Name) no_kind false
 unfolding r.to_label g.to_label same_kind
-to_label_law = then_law (is k.Name) no_kind called_law (λ w. gives_law _) refl
+to_label_law = then_law (is k.Name) no_kind name_law (λ w. gives_law _) refl
 
 pub to_end_law : Law r.to_end g.to_end (is k.ProgEnde) no_kind false
 unfolding r.to_end g.to_end same_kind
@@ -72,48 +72,48 @@ goto_law = then_law (is k.Goto) no_kind (expect_law k.Goto refl) (λ line. then_
 
 pub gosub_law : Law r.gosub g.gosub (is k.Gosub) no_kind false
 unfolding r.gosub g.gosub same_kind
-gosub_law = then_law (is k.Gosub) no_kind (expect_law k.Gosub refl) (λ line. then_law (is k.Name) no_kind called_law (λ w. gives_law _) refl) refl
+gosub_law = then_law (is k.Gosub) no_kind (expect_law k.Gosub refl) (λ line. then_law (is k.Name) no_kind name_law (λ w. gives_law _) refl) refl
 
 pub trace_law : Law r.trace g.trace (is k.Trace) no_kind false
 unfolding r.trace g.trace same_kind
 trace_law = then_law (is k.Trace) no_kind (expect_law k.Trace refl) (λ line. then_law (is k.Open) no_kind (expect_law k.Open refl) (λ _. then_law any_kind no_kind balanced_law (λ _. gives_law _) refl) refl) refl
 
-pub timing_law : Law r.timing g.timing is_timer no_kind false
-unfolding r.timing g.timing same_kind
-timing_law = then_law is_timer no_kind timer_law (λ what. then_law (is k.Open) no_kind (expect_law k.Open refl) (λ _. then_law (is k.Name) no_kind called_law (λ w. then_law (is k.Close) no_kind (expect_law k.Close refl) (λ _. gives_law _) refl) refl) refl) refl
+pub timer_statement_law : Law r.timer_statement g.timer_statement is_timer no_kind false
+unfolding r.timer_statement g.timer_statement same_kind
+timer_statement_law = then_law is_timer no_kind timer_law (λ what. then_law (is k.Open) no_kind (expect_law k.Open refl) (λ _. then_law (is k.Name) no_kind name_law (λ w. then_law (is k.Close) no_kind (expect_law k.Close refl) (λ _. gives_law _) refl) refl) refl) refl
 
-pub commanded_law : Law r.commanded g.commanded is_command no_kind false
-unfolding r.commanded g.commanded same_kind
-commanded_law = then_law is_command no_kind command_law (λ what. then_law (is k.Open) no_kind (anew_law (arguments_law max_levels (r.inner max_levels) (g.inner max_levels) (inner_law max_levels))) (λ xs. gives_law _) refl) refl
+pub command_statement_law : Law r.command_statement g.command_statement is_command no_kind false
+unfolding r.command_statement g.command_statement same_kind
+command_statement_law = then_law is_command no_kind command_law (λ what. then_law (is k.Open) no_kind (anew_law (arguments_law max_levels (r.inner max_levels) (g.inner max_levels) (inner_law max_levels))) (λ xs. gives_law _) refl) refl
 
-pub simple_law : Law r.simple g.simple simples no_kind false
-unfolding r.simple g.simple same_kind
-simple_law = either_law (is k.Goto) simples no_kind goto_law
+pub simple_statement_law : Law r.simple_statement g.simple_statement simples no_kind false
+unfolding r.simple_statement g.simple_statement same_kind
+simple_statement_law = either_law (is k.Goto) simples no_kind goto_law
     (either_law (is k.Gosub) (λ kd. is k.Gosub kd || (is k.Trace kd || (is_timer kd || is_command kd))) no_kind gosub_law
     (either_law (is k.Trace) (λ kd. is k.Trace kd || (is_timer kd || is_command kd)) no_kind trace_law
-    (either_law is_timer (λ kd. is_timer kd || is_command kd) no_kind timing_law commanded_law refl) refl) refl) refl
+    (either_law is_timer (λ kd. is_timer kd || is_command kd) no_kind timer_statement_law command_statement_law refl) refl) refl) refl
 
 module _ (ifs : ℕ) (deep : Parser (List Item)) (Deep : Form (List Item)) (deeper : Law deep Deep at_block behind_items true) where
   pub other_branch_law : Law (r.other_branch ifs deep) (g.other_branch ifs Deep) (is k.Else) behind_items false
   unfolding r.other_branch g.other_branch same_kind
   other_branch_law = then_law (is k.Else) behind_items (expect_law k.Else refl) (λ _. deeper) refl
 
-  pub otherwise_law : Law (r.otherwise ifs deep) (g.otherwise ifs Deep) (is k.Else) (λ kd. is k.Else kd || behind_items kd) true
-  unfolding r.otherwise g.otherwise same_kind
-  otherwise_law = either_law (is k.Else) (is k.Else) (λ kd. is k.Else kd || behind_items kd) other_branch_law (gives_law []) refl
+  pub else_branch_law : Law (r.else_branch ifs deep) (g.else_branch ifs Deep) (is k.Else) (λ kd. is k.Else kd || behind_items kd) true
+  unfolding r.else_branch g.else_branch same_kind
+  else_branch_law = either_law (is k.Else) (is k.Else) (λ kd. is k.Else kd || behind_items kd) other_branch_law (gives_law []) refl
 
   pub branch_law : Law (r.branch ifs deep) (g.branch ifs Deep) (is k.If) no_kind false
   unfolding r.branch g.branch same_kind
   branch_law = then_law (is k.If) no_kind (enter_law ifs k.If refl) (λ line. then_law (starts rank.Or) no_kind expression_law (λ x. then_law (is k.Then) no_kind (expect_law k.Then refl) (λ _.
-      then_law (λ kd. at_block kd || (is k.Else kd || is k.End kd)) no_kind deeper (λ ys. then_law (λ kd. is k.Else kd || is k.End kd) no_kind otherwise_law (λ ns. then_law (is k.End) no_kind (expect_law k.End refl) (λ _. gives_law _) refl) refl) refl) refl) refl) refl
+      then_law (λ kd. at_block kd || (is k.Else kd || is k.End kd)) no_kind deeper (λ ys. then_law (λ kd. is k.Else kd || is k.End kd) no_kind else_branch_law (λ ns. then_law (is k.End) no_kind (expect_law k.End refl) (λ _. gives_law _) refl) refl) refl) refl) refl) refl
 
-  pub one_law : Law (r.one ifs deep) (g.one ifs Deep) begins (goes rank.Or) false
-  unfolding r.one g.one same_kind
-  one_law = either_law (is k.Name) begins (goes rank.Or) named_item_law (either_law (is k.If) (λ kd. is k.If kd || simples kd) (goes rank.Or) branch_law simple_law refl) refl
+  pub item_law : Law (r.item ifs deep) (g.item ifs Deep) begins (goes rank.Or) false
+  unfolding r.item g.item same_kind
+  item_law = either_law (is k.Name) begins (goes rank.Or) named_item_law (either_law (is k.If) (λ kd. is k.If kd || simples kd) (goes rank.Or) branch_law simple_statement_law refl) refl
 
   pub one_more_law : (xs : List Item) → Law (r.one_more ifs deep xs) (g.one_more ifs Deep xs) begins behind_item false
   unfolding r.one_more g.one_more same_kind
-  one_more_law xs = then_law begins behind_item one_law (λ x. then_law (is k.Semi) (is k.Semi) semis_law (λ _. gives_law _) refl) refl
+  one_more_law xs = then_law begins behind_item item_law (λ x. then_law (is k.Semi) (is k.Semi) semis_law (λ _. gives_law _) refl) refl
 
   pub items_law : Law (r.items ifs deep) (g.items ifs Deep) begins behind_items true
   unfolding r.items g.items same_kind
@@ -149,7 +149,7 @@ value_law = either_law (is k.Minus) signed no_kind below_zero_law number_law ref
 
 pub constant_law : Law r.constant g.constant (is k.Name) no_kind false
 unfolding r.constant g.constant same_kind
-constant_law = then_law (is k.Name) no_kind called_law (λ w. then_law (is k.Eq) no_kind (expect_law k.Eq refl) (λ _. then_law signed no_kind value_law (λ v. gives_law _) refl) refl) refl
+constant_law = then_law (is k.Name) no_kind name_law (λ w. then_law (is k.Eq) no_kind (expect_law k.Eq refl) (λ _. then_law signed no_kind value_law (λ v. gives_law _) refl) refl) refl
 
 pub next_constant_law : (cs : List Constant) → Law (r.next_constant cs) (g.next_constant cs) (is k.Comma) no_kind false
 unfolding r.next_constant g.next_constant same_kind
@@ -169,7 +169,7 @@ values_law = then_law (is k.OpenIndex) no_kind (expect_law k.OpenIndex refl) (λ
 
 pub array_law : Law r.array g.array (is k.Name) no_kind false
 unfolding r.array g.array same_kind
-array_law = then_law (is k.Name) no_kind called_law (λ w. then_law (is k.OpenIndex) no_kind (expect_law k.OpenIndex refl) (λ _. then_law (is k.Number) no_kind number_law (λ n. then_law (is k.CloseIndex) no_kind (expect_law k.CloseIndex refl) (λ _. then_law (is k.Eq) no_kind (expect_law k.Eq refl) (λ _. then_law (is k.OpenIndex) no_kind values_law (λ vs. gives_law _) refl) refl) refl) refl) refl) refl
+array_law = then_law (is k.Name) no_kind name_law (λ w. then_law (is k.OpenIndex) no_kind (expect_law k.OpenIndex refl) (λ _. then_law (is k.Number) no_kind number_law (λ n. then_law (is k.CloseIndex) no_kind (expect_law k.CloseIndex refl) (λ _. then_law (is k.Eq) no_kind (expect_law k.Eq refl) (λ _. then_law (is k.OpenIndex) no_kind values_law (λ vs. gives_law _) refl) refl) refl) refl) refl) refl
 
 pub next_array_law : (xs : List Array) → Law (r.next_array xs) (g.next_array xs) (is k.Comma) no_kind false
 unfolding r.next_array g.next_array same_kind
@@ -214,7 +214,7 @@ ending_law = then_law (is k.ProgEnde) (is k.Semi) (expect_law k.ProgEnde refl) (
 
 pub sub_law : Law r.sub g.sub (is k.Subroutine) (is k.Semi) false
 unfolding r.sub g.sub same_kind
-sub_law = then_law (is k.Subroutine) (is k.Semi) (expect_law k.Subroutine refl) (λ _. then_law (is k.Name) (is k.Semi) called_law (λ w. then_law (λ kd. at_block kd || is k.ProgEnde kd) (is k.Semi) (body_law max_ifs) (λ xs. then_law (is k.ProgEnde) (is k.Semi) ending_law (λ _. gives_law _) refl) refl) refl) refl
+sub_law = then_law (is k.Subroutine) (is k.Semi) (expect_law k.Subroutine refl) (λ _. then_law (is k.Name) (is k.Semi) name_law (λ w. then_law (λ kd. at_block kd || is k.ProgEnde kd) (is k.Semi) (body_law max_ifs) (λ xs. then_law (is k.ProgEnde) (is k.Semi) ending_law (λ _. gives_law _) refl) refl) refl) refl
 
 pub next_sub_law : (rs : List Routine) → Law (r.next_sub rs) (g.next_sub rs) (is k.Subroutine) (is k.Semi) false
 unfolding r.next_sub g.next_sub same_kind
@@ -231,7 +231,7 @@ from_declarations kd = declares kd || from_subs kd
 
 pub program_law : Law r.program g.program (is k.Program) (is k.Semi) false
 unfolding r.program g.program same_kind
-program_law = then_law (is k.Program) (is k.Semi) (expect_law k.Program refl) (λ _. then_law (is k.Name) (is k.Semi) called_law (λ w. then_law (λ kd. is k.Semi kd || from_declarations kd) (is k.Semi) semis_law (λ _.
+program_law = then_law (is k.Program) (is k.Semi) (expect_law k.Program refl) (λ _. then_law (is k.Name) (is k.Semi) name_law (λ w. then_law (λ kd. is k.Semi kd || from_declarations kd) (is k.Semi) semis_law (λ _.
     then_law from_declarations (is k.Semi) (many_law declares declares (λ kd. declares kd || behind_declaration kd) declaration_law refl _) (λ d.
     then_law from_subs (is k.Semi) (many_law (is k.Subroutine) (is k.Subroutine) (λ kd. is k.Subroutine kd || is k.Semi kd) next_sub_law refl _) (λ rs.
     then_law from_items (is k.Semi) (items_in_law max_ifs) (λ xs. then_law (is k.ProgEnde) (is k.Semi) ending_law (λ _. gives_law _) refl) refl) refl) refl) refl) refl) refl

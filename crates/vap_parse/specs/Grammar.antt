@@ -32,8 +32,8 @@ abbrev pub expect : Kind → Form ℕ
 expect kind = Picks (where_kind kind line_of) no_limit as_many
 
 -- a name, which gives its word and its line
-abbrev pub called : Form (List ℕ × ℕ)
-called = Picks name_at no_limit as_many
+abbrev pub name : Form (List ℕ × ℕ)
+name = Picks name_at no_limit as_many
 
 -- a number
 abbrev pub number : Form ℤ
@@ -131,8 +131,8 @@ module _ (levels : ℕ) (inner : Rank → Form Expr) where
     Gives (tree.Read r (exprs xs))
 
   -- `CURRENT_STATE ( expr , aspect )`, which opens a level
-  unfoldable pub state : Form Expr
-  state = do
+  unfoldable pub current_state : Form Expr
+  current_state = do
     expect k.CurrentState
     enter levels k.Open
     x ← inner rank.Or
@@ -148,8 +148,8 @@ module _ (levels : ℕ) (inner : Rank → Form Expr) where
     expect k.Close
 
   -- `ANY_INTERSTAGE_ACTIVE`, with empty brackets or without
-  unfoldable pub active : Form Expr
-  active = do
+  unfoldable pub any_interstage : Form Expr
+  any_interstage = do
     expect k.AnyInterstageActive
     Either empty_brackets (Gives 0)
     Gives (tree.Read AnyInterstage (exprs []))
@@ -161,14 +161,14 @@ module _ (levels : ℕ) (inner : Rank → Form Expr) where
     Gives (tree.Expr.Cell name i)
 
   -- a name, or a cell
-  unfoldable pub named : Form Expr
-  named = do
-    w ← called
+  unfoldable pub name_or_cell : Form Expr
+  name_or_cell = do
+    w ← name
     Either (cell_of w.0) (Gives (tree.Expr.Name w.0))
 
   -- what has no operator before or behind it
   unfoldable pub atom : Form Expr
-  atom = Either literal (Either named (Either brackets (Either state (Either active a_reading))))
+  atom = Either literal (Either name_or_cell (Either brackets (Either current_state (Either any_interstage a_reading))))
 
   -- `-` before a sign, which opens a level
   unfoldable pub negative : Form Expr
@@ -213,24 +213,24 @@ module _ (levels : ℕ) (inner : Rank → Form Expr) where
   disjunction = chain rank.Or conjunction
 
   -- what stands at each rank, the loosest first
-  abbrev pub ranked : Rank → Form Expr
-  ranked rank.Or = disjunction
-  ranked rank.And = conjunction
-  ranked rank.Not = negation
-  ranked rank.Compare = comparison
-  ranked rank.Sum = sum
-  ranked rank.Product = product
-  ranked rank.Sign = sign
-  ranked rank.Atom = atom
+  abbrev pub of_rank : Rank → Form Expr
+  of_rank rank.Or = disjunction
+  of_rank rank.And = conjunction
+  of_rank rank.Not = negation
+  of_rank rank.Compare = comparison
+  of_rank rank.Sum = sum
+  of_rank rank.Product = product
+  of_rank rank.Sign = sign
+  of_rank rank.Atom = atom
 
 -- What stands too deep is one number: its token is never reached.
 abbrev pub inner : ℕ → Rank → Form Expr
 inner zero r = literal
-inner (suc l) r = ranked l (inner l) r
+inner (suc l) r = of_rank l (inner l) r
 
 -- an expression of this rank, where l more levels may open
 abbrev pub expr : ℕ → Rank → Form Expr
-expr l = ranked l (inner l)
+expr l = of_rank l (inner l)
 
 -- ---- statements
 
@@ -267,11 +267,11 @@ cell_assigned w = do
 
 -- what begins with a name: a label, or an assignment to a variable or a cell
 unfoldable pub named_item : Form Item
-named_item = called >>= (λ w. Either (labelled w) (Either (assigned w) (Anew (cell_assigned w))))
+named_item = name >>= (λ w. Either (labelled w) (Either (assigned w) (Anew (cell_assigned w))))
 
 -- the label of a jump
 unfoldable pub to_label : Form (List ℕ)
-to_label = called >>= (λ w. Gives w.0)
+to_label = name >>= (λ w. Gives w.0)
 
 -- `PROG_ENDE` as the label `prog_ende`
 unfoldable pub to_end : Form (List ℕ)
@@ -292,7 +292,7 @@ goto = do
 unfoldable pub gosub : Form Item
 gosub = do
   at ← expect k.Gosub
-  w ← called
+  w ← name
   Gives (tree.Step at (tree.Gosub w.0))
 
 -- `TRACE ( .. )`
@@ -304,24 +304,24 @@ trace = do
   Gives (tree.Step at tree.Trace)
 
 -- a timer command: `START ( name )` and the like
-unfoldable pub timing : Form Item
-timing = do
+unfoldable pub timer_statement : Form Item
+timer_statement = do
   t ← timer
   expect k.Open
-  w ← called
+  w ← name
   expect k.Close
   Gives (tree.Step t.1 (tree.Timer t.0 w.0))
 
 -- a command and its arguments, whose operators are counted together
-unfoldable pub commanded : Form Item
-commanded = do
+unfoldable pub command_statement : Form Item
+command_statement = do
   c ← command
   xs ← Anew (arguments max_levels (inner max_levels))
   Gives (tree.Step c.1 (tree.Do c.0 (exprs xs)))
 
 -- a statement that begins with a reserved word and has no branches
-unfoldable pub simple : Form Item
-simple = Either goto (Either gosub (Either trace (Either timing commanded)))
+unfoldable pub simple_statement : Form Item
+simple_statement = Either goto (Either gosub (Either trace (Either timer_statement command_statement)))
 
 -- What stands in a branch is spelled by `deeper`.
 module _ (ifs : ℕ) (deeper : Form (List Item)) where
@@ -330,8 +330,8 @@ module _ (ifs : ℕ) (deeper : Form (List Item)) where
   other_branch = expect k.Else >> deeper
 
   -- the branch behind `ELSE`, or none
-  unfoldable pub otherwise : Form (List Item)
-  otherwise = Either other_branch (Gives [])
+  unfoldable pub else_branch : Form (List Item)
+  else_branch = Either other_branch (Gives [])
 
   -- `IF expr THEN .. ELSE .. END`, which opens a level of IF
   unfoldable pub branch : Form Item
@@ -340,18 +340,18 @@ module _ (ifs : ℕ) (deeper : Form (List Item)) where
     x ← expression
     expect k.Then
     ys ← deeper
-    ns ← otherwise
+    ns ← else_branch
     expect k.End
     Gives (tree.Step at (tree.If x (one_after_another ys) (one_after_another ns)))
 
   -- a label or a statement
-  unfoldable pub one : Form Item
-  one = Either named_item (Either branch simple)
+  unfoldable pub item : Form Item
+  item = Either named_item (Either branch simple_statement)
 
   -- one item behind these, and semicolons
   unfoldable pub one_more : List Item → Form (List Item)
   one_more xs = do
-    x ← one
+    x ← item
     semis
     Gives (xs ++ x ∷ [])
 
@@ -388,7 +388,7 @@ value = Either below_zero number
 -- `name = value`
 unfoldable pub constant : Form Constant
 constant = do
-  w ← called
+  w ← name
   expect k.Eq
   v ← value
   Gives (record { name = w.0; line = w.1; value = v })
@@ -426,7 +426,7 @@ values = do
 -- `name [ number ] = [ value , .. ]`
 unfoldable pub array : Form Array
 array = do
-  w ← called
+  w ← name
   expect k.OpenIndex
   n ← number
   expect k.CloseIndex
@@ -496,7 +496,7 @@ ending = do
 unfoldable pub sub : Form Routine
 sub = do
   expect k.Subroutine
-  w ← called
+  w ← name
   xs ← body max_ifs
   ending
   Gives (record { name = w.0; line = w.1; body = one_after_another xs })
@@ -511,7 +511,7 @@ next_sub rs = do
 unfoldable pub program : Form Program
 program = do
   expect k.Program
-  w ← called
+  w ← name
   semis
   d ← Many declaration ([], [])
   rs ← Many next_sub []

@@ -158,8 +158,8 @@ abbrev pub expect : Kind → Parser ℕ
 expect kind = token (where_kind kind line_of) no_limit as_many
 
 -- a name, and its line
-abbrev pub called : Parser (List ℕ × ℕ)
-called = token name_at no_limit as_many
+abbrev pub name : Parser (List ℕ × ℕ)
+name = token name_at no_limit as_many
 
 -- a number
 abbrev pub number : Parser ℤ

@@ -98,8 +98,8 @@ impl<'a> Cursor<'a> {
 
     /// Takes a name; its word and its line.
     #[tactic(auto, unfolding(crate::specs::Input::token))]
-    pub fn called(&mut self, alloc: Global) -> Result<(Name, u32), Stop>
-        ensures { Reads (spec.called self.old) result self.new }
+    pub fn name(&mut self, alloc: Global) -> Result<(Name, u32), Stop>
+        ensures { Reads (spec.name self.old) result self.new }
     {
         let (first, rest) = self.first()?;
         let name = expected(name_in(&first.kind))?.copy(alloc)?;

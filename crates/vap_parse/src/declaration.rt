@@ -39,7 +39,7 @@ fn value(tokens: &mut Cursor<'_>) -> Result<i32, Stop>
 fn constant(alloc: Global, tokens: &mut Cursor<'_>) -> Result<ConstDecl, Stop>
     ensures { Builds constant_of (rule.constant tokens.old) result tokens.new }
 {
-    let (name, line) = tokens.called(alloc)?;
+    let (name, line) = tokens.name(alloc)?;
     tokens.expect(Kind::Eq)?;
     let value = value(tokens)?;
     Ok(ConstDecl { name, line, value })
@@ -107,7 +107,7 @@ fn values(alloc: Global, tokens: &mut Cursor<'_>) -> Result<Vec<i32>, Stop>
 fn array(alloc: Global, tokens: &mut Cursor<'_>) -> Result<ArrayDecl, Stop>
     ensures { Builds array_of (rule.array tokens.old) result tokens.new }
 {
-    let (name, line) = tokens.called(alloc)?;
+    let (name, line) = tokens.name(alloc)?;
     tokens.expect(Kind::OpenIndex)?;
     let size = tokens.number()?;
     tokens.expect(Kind::CloseIndex)?;

@@ -69,9 +69,9 @@ fn literal(tokens: &mut Cursor<'_>) -> Result<Expr, Stop>
     Ok(Expr::Literal(tokens.number()?))
 }
 
-#[tactic(auto, unfolding(crate::specs::Descent::active, crate::specs::Descent::empty_brackets))]
-fn active(alloc: Global, tokens: &mut Cursor<'_>, levels: usize) -> Result<Expr, Stop>
-    ensures { Builds expr_of (rule.active levels (rule.inner levels) tokens.old) result tokens.new }
+#[tactic(auto, unfolding(crate::specs::Descent::any_interstage, crate::specs::Descent::empty_brackets))]
+fn any_interstage(alloc: Global, tokens: &mut Cursor<'_>, levels: usize) -> Result<Expr, Stop>
+    ensures { Builds expr_of (rule.any_interstage levels (rule.inner levels) tokens.old) result tokens.new }
 {
     tokens.expect(Kind::AnyInterstageActive)?;
     if tokens.sees(Kind::Open) {
@@ -88,7 +88,7 @@ pub fn index(alloc: Global, tokens: &mut Cursor<'_>, levels: usize) -> Result<Ex
     ensures { Builds expr_of (rule.index levels (rule.inner levels) tokens.old) result tokens.new }
 {
     tokens.enter(levels, Kind::OpenIndex)?;
-    let inner = ranked(alloc, tokens, levels - 1, Rank::Or)?;
+    let inner = of_rank(alloc, tokens, levels - 1, Rank::Or)?;
     tokens.expect(Kind::CloseIndex)?;
     Ok(inner)
 }
@@ -99,7 +99,7 @@ fn brackets(alloc: Global, tokens: &mut Cursor<'_>, levels: usize) -> Result<Exp
     ensures { Builds expr_of (rule.brackets levels (rule.inner levels) tokens.old) result tokens.new }
 {
     tokens.enter(levels, Kind::Open)?;
-    let inner = ranked(alloc, tokens, levels - 1, Rank::Or)?;
+    let inner = of_rank(alloc, tokens, levels - 1, Rank::Or)?;
     tokens.expect(Kind::Close)?;
     Ok(inner)
 }
@@ -126,11 +126,11 @@ fn some_arguments(alloc: Global, tokens: &mut Cursor<'_>, levels: usize) -> Resu
     ensures { Builds args_of (rule.some_arguments levels (rule.inner levels) tokens.old) result tokens.new }
 {
     let mut args = Vec::new(alloc);
-    let first = ranked(alloc, tokens, levels - 1, Rank::Or)?;
+    let first = of_rank(alloc, tokens, levels - 1, Rank::Or)?;
     args.push(first)?;
     while tokens.sees(Kind::Comma) {
         tokens.expect(Kind::Comma)?;
-        let next = ranked(alloc, tokens, levels - 1, Rank::Or)?;
+        let next = of_rank(alloc, tokens, levels - 1, Rank::Or)?;
         args.push(next)?;
     }
     Ok(args)
@@ -147,13 +147,13 @@ fn reading(alloc: Global, tokens: &mut Cursor<'_>, levels: usize) -> Result<Expr
 }
 
 #[cycle(expression)]
-#[tactic(auto, unfolding(crate::specs::Descent::state))]
-fn state(alloc: Global, tokens: &mut Cursor<'_>, levels: usize) -> Result<Expr, Stop>
-    ensures { Builds expr_of (rule.state levels (rule.inner levels) tokens.old) result tokens.new }
+#[tactic(auto, unfolding(crate::specs::Descent::current_state))]
+fn current_state(alloc: Global, tokens: &mut Cursor<'_>, levels: usize) -> Result<Expr, Stop>
+    ensures { Builds expr_of (rule.current_state levels (rule.inner levels) tokens.old) result tokens.new }
 {
     tokens.expect(Kind::CurrentState)?;
     tokens.enter(levels, Kind::Open)?;
-    let group = ranked(alloc, tokens, levels - 1, Rank::Or)?;
+    let group = of_rank(alloc, tokens, levels - 1, Rank::Or)?;
     tokens.expect(Kind::Comma)?;
     let kind = tokens.aspect()?;
     tokens.expect(Kind::Close)?;
@@ -161,11 +161,11 @@ fn state(alloc: Global, tokens: &mut Cursor<'_>, levels: usize) -> Result<Expr, 
 }
 
 #[cycle(expression)]
-#[tactic(auto, unfolding(crate::specs::Descent::named, crate::specs::Descent::cell_of))]
-fn named(alloc: Global, tokens: &mut Cursor<'_>, levels: usize) -> Result<Expr, Stop>
-    ensures { Builds expr_of (rule.named levels (rule.inner levels) tokens.old) result tokens.new }
+#[tactic(auto, unfolding(crate::specs::Descent::name_or_cell, crate::specs::Descent::cell_of))]
+fn name_or_cell(alloc: Global, tokens: &mut Cursor<'_>, levels: usize) -> Result<Expr, Stop>
+    ensures { Builds expr_of (rule.name_or_cell levels (rule.inner levels) tokens.old) result tokens.new }
 {
-    let (name, _) = tokens.called(alloc)?;
+    let (name, _) = tokens.name(alloc)?;
     if tokens.sees(Kind::OpenIndex) {
         let index = index(alloc, tokens, levels)?;
         Ok(cell(alloc, name, index)?)
@@ -182,13 +182,13 @@ fn atom(alloc: Global, tokens: &mut Cursor<'_>, levels: usize) -> Result<Expr, S
     if tokens.sees(Kind::Number) {
         literal(tokens)
     } else if tokens.sees(Kind::Name) {
-        named(alloc, tokens, levels)
+        name_or_cell(alloc, tokens, levels)
     } else if tokens.sees(Kind::Open) {
         brackets(alloc, tokens, levels)
     } else if tokens.sees(Kind::CurrentState) {
-        state(alloc, tokens, levels)
+        current_state(alloc, tokens, levels)
     } else if tokens.sees(Kind::AnyInterstageActive) {
-        active(alloc, tokens, levels)
+        any_interstage(alloc, tokens, levels)
     } else {
         reading(alloc, tokens, levels)
     }
@@ -196,14 +196,14 @@ fn atom(alloc: Global, tokens: &mut Cursor<'_>, levels: usize) -> Result<Expr, S
 
 #[cycle(expression)]
 #[tactic(auto, unfolding(crate::specs::Descent::sign, crate::specs::Descent::negative))]
-fn signed(alloc: Global, tokens: &mut Cursor<'_>, levels: usize) -> Result<Expr, Stop>
+fn minus(alloc: Global, tokens: &mut Cursor<'_>, levels: usize) -> Result<Expr, Stop>
     ensures { Builds expr_of (rule.sign levels (rule.inner levels) tokens.old) result tokens.new }
 {
     if !tokens.sees(Kind::Minus) {
         return atom(alloc, tokens, levels);
     }
     tokens.enter(levels, Kind::Minus)?;
-    let arg = ranked(alloc, tokens, levels - 1, Rank::Sign)?;
+    let arg = of_rank(alloc, tokens, levels - 1, Rank::Sign)?;
     Ok(unary(alloc, UnaryOp::Neg, arg)?)
 }
 
@@ -219,10 +219,10 @@ fn chain(
     requires { rule.IsChain rank operand }
     ensures { Builds expr_of (rule.chain rank (rule.expr levels operand) tokens.old) result tokens.new }
 {
-    let mut left = ranked(alloc, tokens, levels, operand)?;
+    let mut left = of_rank(alloc, tokens, levels, operand)?;
     while is_operator(rank, tokens.peek()) {
         let op = tokens.operator(rank)?;
-        let right = ranked(alloc, tokens, levels, operand)?;
+        let right = of_rank(alloc, tokens, levels, operand)?;
         left = binary(alloc, op, left, right)?;
     }
     Ok(left)
@@ -233,12 +233,12 @@ fn chain(
 fn comparison(alloc: Global, tokens: &mut Cursor<'_>, levels: usize) -> Result<Expr, Stop>
     ensures { Builds expr_of (rule.comparison levels (rule.inner levels) tokens.old) result tokens.new }
 {
-    let left = ranked(alloc, tokens, levels, Rank::Sum)?;
+    let left = of_rank(alloc, tokens, levels, Rank::Sum)?;
     if !is_operator(Rank::Compare, tokens.peek()) {
         return Ok(left);
     }
     let op = tokens.operator(Rank::Compare)?;
-    let right = ranked(alloc, tokens, levels, Rank::Sum)?;
+    let right = of_rank(alloc, tokens, levels, Rank::Sum)?;
     Ok(binary(alloc, op, left, right)?)
 }
 
@@ -251,14 +251,14 @@ fn negation(alloc: Global, tokens: &mut Cursor<'_>, levels: usize) -> Result<Exp
         return comparison(alloc, tokens, levels);
     }
     tokens.enter(levels, Kind::Not)?;
-    let arg = ranked(alloc, tokens, levels - 1, Rank::Not)?;
+    let arg = of_rank(alloc, tokens, levels - 1, Rank::Not)?;
     Ok(unary(alloc, UnaryOp::Not, arg)?)
 }
 
 /// An expression of this rank, where `levels` more levels may open.
 #[cycle(expression)]
 #[tactic(auto, unfolding(crate::specs::Descent::disjunction, crate::specs::Descent::conjunction, crate::specs::Descent::sum, crate::specs::Descent::product))]
-pub fn ranked(
+pub fn of_rank(
     alloc: Global,
     tokens: &mut Cursor<'_>,
     levels: usize,
@@ -273,7 +273,7 @@ pub fn ranked(
         Rank::Compare => comparison(alloc, tokens, levels),
         Rank::Sum => chain(alloc, tokens, levels, Rank::Sum, Rank::Product),
         Rank::Product => chain(alloc, tokens, levels, Rank::Product, Rank::Sign),
-        Rank::Sign => signed(alloc, tokens, levels),
+        Rank::Sign => minus(alloc, tokens, levels),
         Rank::Atom => atom(alloc, tokens, levels),
     }
 }

@@ -67,7 +67,7 @@ fn sub(alloc: Global, tokens: &mut Cursor<'_>) -> Result<Routine, Stop>
     ensures { Builds routine_of (rule.sub tokens.old) result tokens.new }
 {
     tokens.expect(Kind::Subroutine)?;
-    let (name, line) = tokens.called(alloc)?;
+    let (name, line) = tokens.name(alloc)?;
     let body = block(alloc, tokens, MAX_IFS)?;
     ending(tokens)?;
     Ok(Routine { name, line, body })
@@ -90,7 +90,7 @@ fn program(alloc: Global, tokens: &mut Cursor<'_>) -> Result<Program, Stop>
     ensures { Builds program_of (rule.program tokens.old) result tokens.new }
 {
     tokens.expect(Kind::Program)?;
-    let (name, line) = tokens.called(alloc)?;
+    let (name, line) = tokens.name(alloc)?;
     semis(tokens)?;
     let mut consts = Vec::new(alloc);
     let mut arrays = Vec::new(alloc);
@@ -107,16 +107,16 @@ fn program(alloc: Global, tokens: &mut Cursor<'_>) -> Result<Program, Stop>
     })
 }
 
-#[tactic(auto, unfolding(crate::specs::Descent::whole))]
-fn whole(alloc: Global, tokens: &mut Cursor<'_>) -> Result<Program, Stop>
-    ensures { Builds program_of (rule.whole tokens.old) result tokens.new }
+#[tactic(auto, unfolding(crate::specs::Descent::text))]
+fn text(alloc: Global, tokens: &mut Cursor<'_>) -> Result<Program, Stop>
+    ensures { Builds program_of (rule.text tokens.old) result tokens.new }
 {
     let program = program(alloc, tokens)?;
     tokens.end()?;
     Ok(program)
 }
 
-fn place(all: &[Token], rest: &[Token]) -> u32
+fn refused_place(all: &[Token], rest: &[Token]) -> u32
     requires { All (λ t. t.place < 4294967294) all.now }
     ensures { result ≡ place_of all.now rest.now }
 {
@@ -126,7 +126,7 @@ fn place(all: &[Token], rest: &[Token]) -> u32
     }
 }
 
-fn line(all: &[Token], rest: &[Token]) -> u32
+fn refused_line(all: &[Token], rest: &[Token]) -> u32
     ensures { result ≡ line_of all.now rest.now }
 {
     match rest {
@@ -140,19 +140,19 @@ fn refusal(all: &[Token], rest: &[Token], why: Reason) -> ParseRefusal
     ensures { result ≡ refusal_of all.now rest.now why }
 {
     let why = match why {
-        Reason::Unexpected => ParseWhy::Unexpected(place(all, rest)),
+        Reason::Unexpected => ParseWhy::Unexpected(refused_place(all, rest)),
         Reason::Frequency => ParseWhy::Frequency,
         Reason::TooDeep => ParseWhy::TooDeep,
     };
     ParseRefusal::At {
-        line: line(all, rest),
+        line: refused_line(all, rest),
         why,
     }
 }
 
 /// The tree of a program's tokens.
 ///
-/// Tokens are refused at the first one with which the tokens so far are no front of any program, or which passes a
+/// Tokens are refused at the first one with which the tokens so far are no beginning of any program, or which passes a
 /// limit: brackets, `NOT` and `-` nest 32 deep in an expression, `IF` nests 100 deep, and a statement has 900 binary
 /// operators, those of its branches not counted.
 pub fn parse(alloc: Global, tokens: &Tokens) -> Result<Program, ParseRefusal>
@@ -167,7 +167,7 @@ pub fn parse(alloc: Global, tokens: &Tokens) -> Result<Program, ParseRefusal>
 {
     let all = tokens.as_slice();
     let mut left = Cursor::new(all, MAX_OPERATORS);
-    match whole(alloc, &mut left) {
+    match text(alloc, &mut left) {
         Ok(tree) => Ok(tree),
         Err(Stop::Memory) => Err(ParseRefusal::Memory),
         Err(Stop::Refused(why)) => Err(refusal(all, left.rest(), why)),

@@ -1,9 +1,9 @@
 use Rattle.std.proofs.Common.{◌≡◌, ◌-◌, ◌<◌, ◌∙◌, length, map, Ok, true, refl, sym, arith, rules}
 use Rattle.std.proofs.lemmas.Grind.{common_steps}
 use Rattle.vap_ast.specs.Tree.{expr_of}
-use Rattle.vap_parse.specs.Input.{kind, called, reading, no_limit, as_many, where_kind, line_of, limit, below}
+use Rattle.vap_parse.specs.Input.{kind, name, reading, no_limit, as_many, where_kind, line_of, limit, below}
 use Rattle.vap_parse.specs.Kinds.{same_kind, kind_of, operator_of}
-use Rattle.vap_parse.specs.Descent.{inner, operation, next_argument, disjunction, conjunction, sum, product, named, cell_of, arguments, a_reading}
+use Rattle.vap_parse.specs.Descent.{inner, operation, next_argument, disjunction, conjunction, sum, product, name_or_cell, cell_of, arguments, a_reading}
 use Rattle.vap_parse.specs.declared.kind.Kind.TheVariants as k
 use Rattle.vap_parse.specs.declared.kind.Rank.TheVariants as rank
 use Rattle.vap_parse.proofs.ExprLaws.{expr_law}
@@ -36,7 +36,7 @@ chain-returns t c =
 pub chain-loop-alloc-smaller : goal.chain-loop-alloc-smaller
 chain-loop-alloc-smaller t c =
     let one : length c.operator.new.self.rest < length c.loop-alloc.tokens.rest = token_takes (λ t. operator_of c.args.rank (kind_of t.kind)) (λ n t. limit n) below c.loop-alloc.tokens c.operator.new.self c.in_ok-op.op c.in_ok-op.ensures in
-    let two = takes (expr_law c.args.levels c.args.operand) c.operator.new.self c.ranked-in-loop-alloc.new.tokens (expr_of c.in_ok-right.right) c.in_ok-right.ensures in
+    let two = takes (expr_law c.args.levels c.args.operand) c.operator.new.self c.of_rank-in-loop-alloc.new.tokens (expr_of c.in_ok-right.right) c.in_ok-right.ensures in
     omega arith
 
 pub some_arguments-returns-in_err-expect : goal.some_arguments-returns-in_err-expect
@@ -67,49 +67,49 @@ some_arguments-returns t c =
 pub some_arguments-loop-alloc-smaller : goal.some_arguments-loop-alloc-smaller
 some_arguments-loop-alloc-smaller t c =
     let one : length c.expect.new.self.rest < length c.loop-alloc.tokens.rest = token_takes (where_kind k.Comma line_of) no_limit as_many c.loop-alloc.tokens c.expect.new.self c.in_ok-expect.field-0 c.in_ok-expect.ensures in
-    let two = takes (expr_law (c.args.levels - 1) rank.Or) c.expect.new.self c.ranked-in-loop-alloc.new.tokens (expr_of c.in_ok-next.next) c.in_ok-next.ensures in
+    let two = takes (expr_law (c.args.levels - 1) rank.Or) c.expect.new.self c.of_rank-in-loop-alloc.new.tokens (expr_of c.in_ok-next.next) c.in_ok-next.ensures in
     omega arith
 
-pub ranked-returns-in-Or : goal.ranked-returns-in-Or
+pub of_rank-returns-in-Or : goal.of_rank-returns-in-Or
 unfolding disjunction
-ranked-returns-in-Or t c = let e : c.args.rank ≡ rank.Or = c.in-Or.is in rw e c.chain.ensures
+of_rank-returns-in-Or t c = let e : c.args.rank ≡ rank.Or = c.in-Or.is in rw e c.chain.ensures
 
-pub ranked-returns-in-And : goal.ranked-returns-in-And
+pub of_rank-returns-in-And : goal.of_rank-returns-in-And
 unfolding conjunction
-ranked-returns-in-And t c = let e : c.args.rank ≡ rank.And = c.in-And.is in rw e c.chain-in-And.ensures
+of_rank-returns-in-And t c = let e : c.args.rank ≡ rank.And = c.in-And.is in rw e c.chain-in-And.ensures
 
-pub ranked-returns-in-Not : goal.ranked-returns-in-Not
-ranked-returns-in-Not t c = let e : c.args.rank ≡ rank.Not = c.in-Not.is in rw e c.negation.ensures
+pub of_rank-returns-in-Not : goal.of_rank-returns-in-Not
+of_rank-returns-in-Not t c = let e : c.args.rank ≡ rank.Not = c.in-Not.is in rw e c.negation.ensures
 
-pub ranked-returns-in-Compare : goal.ranked-returns-in-Compare
-ranked-returns-in-Compare t c = let e : c.args.rank ≡ rank.Compare = c.in-Compare.is in rw e c.comparison.ensures
+pub of_rank-returns-in-Compare : goal.of_rank-returns-in-Compare
+of_rank-returns-in-Compare t c = let e : c.args.rank ≡ rank.Compare = c.in-Compare.is in rw e c.comparison.ensures
 
-pub ranked-returns-in-Sum : goal.ranked-returns-in-Sum
+pub of_rank-returns-in-Sum : goal.of_rank-returns-in-Sum
 unfolding sum
-ranked-returns-in-Sum t c = let e : c.args.rank ≡ rank.Sum = c.in-Sum.is in rw e c.chain-in-Sum.ensures
+of_rank-returns-in-Sum t c = let e : c.args.rank ≡ rank.Sum = c.in-Sum.is in rw e c.chain-in-Sum.ensures
 
-pub ranked-returns-in-Product : goal.ranked-returns-in-Product
+pub of_rank-returns-in-Product : goal.of_rank-returns-in-Product
 unfolding product
-ranked-returns-in-Product t c = let e : c.args.rank ≡ rank.Product = c.in-Product.is in rw e c.chain-in-Product.ensures
+of_rank-returns-in-Product t c = let e : c.args.rank ≡ rank.Product = c.in-Product.is in rw e c.chain-in-Product.ensures
 
-pub ranked-returns-in-Sign : goal.ranked-returns-in-Sign
-ranked-returns-in-Sign t c = let e : c.args.rank ≡ rank.Sign = c.in-Sign.is in rw e c.signed.ensures
+pub of_rank-returns-in-Sign : goal.of_rank-returns-in-Sign
+of_rank-returns-in-Sign t c = let e : c.args.rank ≡ rank.Sign = c.in-Sign.is in rw e c.minus.ensures
 
-pub ranked-returns-in-Atom : goal.ranked-returns-in-Atom
-ranked-returns-in-Atom t c = let e : c.args.rank ≡ rank.Atom = c.in-Atom.is in rw e c.atom.ensures
+pub of_rank-returns-in-Atom : goal.of_rank-returns-in-Atom
+of_rank-returns-in-Atom t c = let e : c.args.rank ≡ rank.Atom = c.in-Atom.is in rw e c.atom.ensures
 
-pub named-returns-in_err-index : goal.named-returns-in_err-index
-unfolding named cell_of
-named-returns-in_err-index t c =
-    let one : called c.args.tokens.now ≡ Ok ((c.in_ok-name.name, c.in_ok-name.field-0-1), c.called.new.self) = c.in_ok-name.ensures in
-    let two : same_kind (kind c.called.new.self) k.OpenIndex ≡ true = sym c.sees.ensures ∙ c.if-sees.true in
+pub name_or_cell-returns-in_err-index : goal.name_or_cell-returns-in_err-index
+unfolding name_or_cell cell_of
+name_or_cell-returns-in_err-index t c =
+    let one : name c.args.tokens.now ≡ Ok ((c.in_ok-name.name, c.in_ok-name.field-0-1), c.name.new.self) = c.in_ok-name.ensures in
+    let two : same_kind (kind c.name.new.self) k.OpenIndex ≡ true = sym c.sees.ensures ∙ c.if-sees.true in
     rw (one, two) (first_of (search rules, grind (arith, common_steps)))
 
-pub named-returns-in_ok-cell : goal.named-returns-in_ok-cell
-unfolding named cell_of
-named-returns-in_ok-cell t c =
-    let one : called c.args.tokens.now ≡ Ok ((c.in_ok-name.name, c.in_ok-name.field-0-1), c.called.new.self) = c.in_ok-name.ensures in
-    let two : same_kind (kind c.called.new.self) k.OpenIndex ≡ true = sym c.sees.ensures ∙ c.if-sees.true in
+pub name_or_cell-returns-in_ok-cell : goal.name_or_cell-returns-in_ok-cell
+unfolding name_or_cell cell_of
+name_or_cell-returns-in_ok-cell t c =
+    let one : name c.args.tokens.now ≡ Ok ((c.in_ok-name.name, c.in_ok-name.field-0-1), c.name.new.self) = c.in_ok-name.ensures in
+    let two : same_kind (kind c.name.new.self) k.OpenIndex ≡ true = sym c.sees.ensures ∙ c.if-sees.true in
     rw (one, two) (first_of (search rules, grind (arith, common_steps)))
 
 pub reading-returns-in_err-args : goal.reading-returns-in_err-args

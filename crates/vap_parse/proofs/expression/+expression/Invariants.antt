@@ -29,20 +29,20 @@ decreases-some_arguments l = 30 * l.levels
 abbrev pub decreases-arguments : goal.decreases-arguments
 decreases-arguments l = 30 * l.levels + 1
 
-abbrev pub decreases-state : goal.decreases-state
-decreases-state l = 30 * l.levels
+abbrev pub decreases-current_state : goal.decreases-current_state
+decreases-current_state l = 30 * l.levels
 
 abbrev pub decreases-reading : goal.decreases-reading
 decreases-reading l = 30 * l.levels + 2
 
-abbrev pub decreases-named : goal.decreases-named
-decreases-named l = 30 * l.levels + 1
+abbrev pub decreases-name_or_cell : goal.decreases-name_or_cell
+decreases-name_or_cell l = 30 * l.levels + 1
 
 abbrev pub decreases-atom : goal.decreases-atom
 decreases-atom l = 30 * l.levels + 3
 
-abbrev pub decreases-signed : goal.decreases-signed
-decreases-signed l = 30 * l.levels + 4
+abbrev pub decreases-minus : goal.decreases-minus
+decreases-minus l = 30 * l.levels + 4
 
 abbrev pub decreases-chain : goal.decreases-chain
 decreases-chain l = 30 * l.levels + height l.operand + 1
@@ -53,8 +53,8 @@ decreases-comparison l = 30 * l.levels + 17
 abbrev pub decreases-negation : goal.decreases-negation
 decreases-negation l = 30 * l.levels + 19
 
-abbrev pub decreases-ranked : goal.decreases-ranked
-decreases-ranked l = 30 * l.levels + height l.rank
+abbrev pub decreases-of_rank : goal.decreases-of_rank
+decreases-of_rank l = 30 * l.levels + height l.rank
 
 -- what is left of the rounds completes the chain
 abbrev pub invariant-chain-loop-alloc : goal.invariant-chain-loop-alloc

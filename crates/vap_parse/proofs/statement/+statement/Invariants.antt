@@ -5,14 +5,14 @@ use Rattle.vap_parse.specs.Descent.{items, inside, one_more}
 use Rattle.vap_parse.specs.Kinds.{begins}
 use Rattle.vap_parse.proofs.statement.+statement.Given as goal
 
-abbrev pub decreases-otherwise : goal.decreases-otherwise
-decreases-otherwise l = 8 * l.ifs
+abbrev pub decreases-else_branch : goal.decreases-else_branch
+decreases-else_branch l = 8 * l.ifs
 
 abbrev pub decreases-branch : goal.decreases-branch
 decreases-branch l = 8 * l.ifs + 1
 
-abbrev pub decreases-one : goal.decreases-one
-decreases-one l = 8 * l.ifs + 2
+abbrev pub decreases-item : goal.decreases-item
+decreases-item l = 8 * l.ifs + 2
 
 abbrev pub decreases-items : goal.decreases-items
 decreases-items l = 8 * l.ifs + 3

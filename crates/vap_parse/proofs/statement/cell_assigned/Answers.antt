@@ -21,5 +21,5 @@ returns c =
     let start : c.count_anew.new.self ≡ input c.args.tokens.now.rest max_operators = c.count_anew.ensures in
     let one : index max_levels (inner max_levels) c.count_anew.new.self ≡ Ok (expr_of c.in_ok-index.index, c.index.new.tokens) = c.in_ok-index.ensures in
     let two : expect k.Assign c.index.new.tokens ≡ Ok (c.in_ok-expect.field-0, c.expect.new.self) = c.in_ok-expect.ensures in
-    let three : expr max_levels rank.Or c.expect.new.self ≡ Ok (expr_of c.in_ok-value.value, c.ranked.new.tokens) = c.in_ok-value.ensures in
+    let three : expr max_levels rank.Or c.expect.new.self ≡ Ok (expr_of c.in_ok-value.value, c.of_rank.new.tokens) = c.in_ok-value.ensures in
     rw (← start, one, two, three, c.cell_step.ensures) refl
