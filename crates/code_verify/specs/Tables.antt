@@ -30,9 +30,9 @@ number_before number instrs starts n later =
     let p = length instrs - n in
     number_of number (instr_at instrs p) (greatest instrs starts p (later_at instrs p later))
 
--- the numbers of all places
-abbrev pub numbers : Number → List Instr → List ℕ → List ℕ
-numbers number instrs starts = from_last (number_before number instrs starts) (length instrs)
+-- the counts of all places, each from those of the places after it
+abbrev pub counts_back : Number → List Instr → List ℕ → List ℕ
+counts_back number instrs starts = from_last (number_before number instrs starts) (length instrs)
 
 -- each jump leads to a place of the code, and further on or to a tick
 abbrev pub JumpsAhead : List Instr → Type 0

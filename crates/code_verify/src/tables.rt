@@ -5,7 +5,7 @@ ghost use Rattle.std.specs.Option.{option_or};
 ghost use Rattle.sig_types.specs.Limits.{most_instrs};
 ghost use Rattle.vap_code.specs.Codes.{code_in};
 ghost use Rattle.vap_code.specs.Valid.{from_first, height_after as height_after_of, begins as begins_at, greatest as greatest_of, later_at, is_tick as is_tick_of, instr_at};
-ghost use Rattle.code_verify.specs.Tables.{first_jump, brings, number_of, numbers as numbers_of, IsTables, JumpsAhead};
+ghost use Rattle.code_verify.specs.Tables.{first_jump, brings, number_of, counts_back as counts_back_of, IsTables, JumpsAhead};
 ghost use Rattle.vap_code.specs.declared.VerifyWhy.TheVariants.{Shape};
 ghost use Rattle.vap_code.specs.Valid.{Passed, HasShape};
 
@@ -31,8 +31,8 @@ impl Tables {
     {
         Ok(Tables {
             heights: heights(alloc, &code.instrs, &code.starts)?,
-            stretches: numbers(alloc, &code.instrs, &code.starts, Number::Stretch)?,
-            command_counts: numbers(alloc, &code.instrs, &code.starts, Number::Commands)?,
+            stretches: counts_back(alloc, &code.instrs, &code.starts, Number::Stretch)?,
+            command_counts: counts_back(alloc, &code.instrs, &code.starts, Number::Commands)?,
         })
     }
 }
@@ -119,7 +119,7 @@ pub enum Number {
 }
 
 // The stretch, or the command count, of each place.
-fn numbers(
+fn counts_back(
     alloc: Global,
     instrs: &[Instr],
     starts: &[u16],
@@ -129,7 +129,7 @@ fn numbers(
     requires starts { (k : ℕ) → k < length starts.now →
         slice_index starts.now k < length instrs.now }
     requires ahead { JumpsAhead instrs.now }
-    ensures table { IfOk result (λ v. v.items ≡ numbers_of number instrs.now starts.now) }
+    ensures table { IfOk result (λ v. v.items ≡ counts_back_of number instrs.now starts.now) }
     ensures long { IfOk result (λ v. length v.items ≡ length instrs.now) }
 {
     let all = instrs.len();

@@ -4,7 +4,7 @@ use Rattle.code_verify.specs.Tables.{number_of}
 use Rattle.std.proofs.lemmas.List.{get_or_default}
 use Rattle.vap_code.specs.declared.Instr.TheVariants.{Tick, Ret}
 use Rattle.code_verify.proofs.TableFacts.{from_last_more, low_set}
-use Rattle.code_verify.proofs.tables.numbers.Goals as goal
+use Rattle.code_verify.proofs.tables.counts_back.Goals as goal
 
 pub loop-done-preserved : goal.loop-done-preserved
 loop-done-preserved c =

@@ -1,7 +1,7 @@
 use Rattle.std.proofs.Common.{◌≡◌, ℕ, ◌-◌, ◌≤◌, length, get_or, drop}
 use Rattle.vap_code.specs.Valid.{from_last}
 use Rattle.code_verify.specs.Tables.{number_before}
-use Rattle.code_verify.proofs.tables.numbers.Given as goal
+use Rattle.code_verify.proofs.tables.counts_back.Given as goal
 
 abbrev pub invariant-loop-done : goal.invariant-loop-done
 invariant-loop-done l = record {
