@@ -8,9 +8,9 @@ use Rattle.sig_types.specs.Text.{cut_at, is_digit, all_digits}
 abbrev pub parts : List ℕ → List ℕ → Option (List ℕ × List ℕ)
 parts l r = Some (l, r)
 
-abbrev pub front_part : Option (List ℕ × List ℕ) → List ℕ
-front_part None = []
-front_part (Some p) = p.0
+abbrev pub beginning_part : Option (List ℕ × List ℕ) → List ℕ
+beginning_part None = []
+beginning_part (Some p) = p.0
 
 abbrev pub back_part : Option (List ℕ × List ℕ) → List ℕ
 back_part None = []
@@ -20,13 +20,13 @@ parts_case : (s b : ℕ) (bs : List ℕ) (t : Bool) (o : Option (List ℕ × Lis
     ((l r : List ℕ) → o ≡ parts l r → bs ≡ l ++ s ∷ r) → (l r : List ℕ) →
     (if t then parts [] bs else option_map (λ p. (b ∷ p.0, p.1)) o) ≡ parts l r → b ∷ bs ≡ l ++ s ∷ r
 parts_case s b bs true o is before l r e =
-    let first : [] ≡ l = ap front_part e in
+    let first : [] ≡ l = ap beginning_part e in
     let rest : bs ≡ r = ap back_part e in
     let same : b ≡ s = is refl in
     rw (same, ← first, ← rest) refl
 parts_case s b bs false None is before l r e = absurd cc
 parts_case s b bs false (Some p) is before l r e =
-    let first : b ∷ p.0 ≡ l = ap front_part e in
+    let first : b ∷ p.0 ≡ l = ap beginning_part e in
     let rest : p.1 ≡ r = ap back_part e in
     let all : bs ≡ p.0 ++ s ∷ p.1 = before p.0 p.1 refl in
     rw (← first, ← rest) (ap (λ (xs : List ℕ). b ∷ xs) all)

@@ -10,7 +10,7 @@ use Rattle.sig_types.specs.Limits.{most_instrs}
 use Rattle.code_file.specs.declared.refusal.CodeWhy.{CodeWhy}
 use Rattle.code_file.specs.declared.refusal.CodeWhy.TheVariants.{Limit, Range}
 use Rattle.code_file.specs.Text.{start_follows, StartFits}
-use Rattle.code_file.specs.Reading.{is_line, counted, count_in, as_start, start_in, above, size_in}
+use Rattle.code_file.specs.Reading.{is_line, counted, count_in, as_start, start_in, above, instr_count_in}
 use Rattle.code_file.proofs.Steps.{guard_ok}
 use Rattle.code_file.proofs.Cuts.{lacks, lacks-append, lacks_digits}
 use Rattle.code_file.proofs.Numerals.{digits_of_decimal, number_again, number_found, range_found, range_again}
@@ -76,23 +76,23 @@ start_lines = record { found = λ s l a e. start_case s l (number_of l) a refl e
 
 -- ---- the number of instructions
 
-pub record IsSize (last : ℕ) (l : List ℕ) (n : ℕ) : Type 0 where
+pub record IsInstrCount (last : ℕ) (l : List ℕ) (n : ℕ) : Type 0 where
   pub text : l ≡ codes "CODE " ++ decimal n
   pub not_empty : 1 ≤ n
   pub at_most : n ≤ most_instrs
   pub above_last : last < n
 
-size_case : (last : ℕ) (l : List ℕ) (n : ℕ) (r : Result ℕ CodeWhy) → count_in (codes "CODE ") 1 most_instrs l ≡ r → above last r ≡ Ok n → IsSize last l n
-size_case last l n (Err why) is e = absurd cc
-size_case last l n (Ok m) is e =
+instr_count_case : (last : ℕ) (l : List ℕ) (n : ℕ) (r : Result ℕ CodeWhy) → count_in (codes "CODE ") 1 most_instrs l ≡ r → above last r ≡ Ok n → IsInstrCount last l n
+instr_count_case last l n (Err why) is e = absurd cc
+instr_count_case last l n (Ok m) is e =
     let g = guard_ok (nat_lt last m) m n Range e in
     let c = count_found (codes "CODE ") l 1 most_instrs m (omega arith) is in
-    subst (λ k. IsSize last l k) g.1 (record { text = c.text; not_empty = c.low; at_most = c.high; above_last = ltb-true last m g.0 })
+    subst (λ k. IsInstrCount last l k) g.1 (record { text = c.text; not_empty = c.low; at_most = c.high; above_last = ltb-true last m g.0 })
 
-pub size_found : (last : ℕ) (l : List ℕ) (n : ℕ) → size_in last l ≡ Ok n → IsSize last l n
-size_found last l n e = size_case last l n (count_in (codes "CODE ") 1 most_instrs l) refl e
+pub instr_count_found : (last : ℕ) (l : List ℕ) (n : ℕ) → instr_count_in last l ≡ Ok n → IsInstrCount last l n
+instr_count_found last l n e = instr_count_case last l n (count_in (codes "CODE ") 1 most_instrs l) refl e
 
-pub size_again : (last n : ℕ) → 1 ≤ n → n ≤ most_instrs → last < n → size_in last (codes "CODE " ++ decimal n) ≡ Ok n
-size_again last n some few below =
+pub instr_count_again : (last n : ℕ) → 1 ≤ n → n ≤ most_instrs → last < n → instr_count_in last (codes "CODE " ++ decimal n) ≡ Ok n
+instr_count_again last n some few below =
     let is : nat_lt last n ≡ true = lt-ltb last n below in
     ap (λ r. above last r) (count_again (codes "CODE ") 1 most_instrs n (omega arith) some few) ∙ rw is refl

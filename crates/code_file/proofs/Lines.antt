@@ -1,4 +1,4 @@
--- One line: taken from the front of a text, and read again.
+-- One line: taken from the beginning of a text, and read again.
 use Rattle.std.proofs.Common.{◌≡◌, ◌∙◌, ℕ, ◌+◌, true, List, [], ◌∷◌, ◌++◌, Option, Some, None, Ok, refl, sym, ap, append_assoc}
 use Rattle.sig_types.specs.Text.{cut_at}
 use Rattle.code_file.specs.declared.refusal.CodeWhy.{CodeWhy}
@@ -15,7 +15,7 @@ taken_line u p (Some c) l q e =
     let rest : c.1 ≡ q.bytes = ap (λ (x : List ℕ × Place). x.1.bytes) is in
     rw (first, rest) refl
 
--- a line that is read stands at the front
+-- a line that is read stands at the beginning
 pub line_taken : (u : CodeWhy) (p : Place) (l : List ℕ) (q : Place) → next_line u p ≡ Ok (l, q) → p.bytes ≡ line l ++ q.bytes
 unfolding next_line
 line_taken u p l q e =
@@ -24,7 +24,7 @@ line_taken u p l q e =
 abbrev pub from : ℕ → List ℕ → Place
 from k bytes = record { number = k; bytes = bytes }
 
--- and a line that stands at the front is read
+-- and a line that stands at the beginning is read
 pub line_again : (u : CodeWhy) (k : ℕ) (l rest : List ℕ) → lacks 10 l ≡ true → next_line u (from k (line l ++ rest)) ≡ Ok (l, from (k + 1) rest)
 unfolding next_line
 line_again u k l rest clean =

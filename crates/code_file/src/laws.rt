@@ -8,7 +8,7 @@ ghost use Rattle.code_file.specs.Shape.{TextIffShape};
 pub fn code_laws()
     ensures read { TextIsRead }
     ensures one { OneText }
-    ensures front { NoTextBegins }
+    ensures beginning { NoTextBegins }
     ensures shape { TextIffShape }
     ensures short { TextIsShort }
 {}

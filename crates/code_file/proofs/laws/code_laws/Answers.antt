@@ -10,8 +10,8 @@ returns-clause-read c = text_is_read
 pub returns-clause-one : goal.returns-clause-one
 returns-clause-one c = one_text
 
-pub returns-clause-front : goal.returns-clause-front
-returns-clause-front c = no_text_begins
+pub returns-clause-beginning : goal.returns-clause-beginning
+returns-clause-beginning c = no_text_begins
 
 pub returns-clause-shape : goal.returns-clause-shape
 returns-clause-shape c = λ code. ((λ h. (text_has_shape code h, text_has_ranges code h)), (λ h. shape_has_text code h.0 h.1))
