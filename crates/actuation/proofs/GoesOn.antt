@@ -41,8 +41,8 @@ moved_goes_on x c k is = record {
   rears = refl;
   fronts_cleared = refl;
   rears_cleared = refl;
-  occupied = occupied_more (is_on x) (nat_lt (x.rears + c.1) (x.fronts + c.0)) x.since k (λ on. is.since);
-  detected = detected_more (is_on x) (nat_lt (x.rears + c.1) (x.fronts + c.0)) (nat_lt 0 c.0) x.last k
+  occupied = occupied_more (is_on x) (nat_lt (x.rears + c.1) (x.fronts + c.0)) x.occupied_since k (λ on. is.since);
+  detected = detected_more (is_on x) (nat_lt (x.rears + c.1) (x.fronts + c.0)) (nat_lt 0 c.0) x.last_detected k
       (λ on. let begun = is.begun on in omega (arith, begun, is.since));
 }
 
@@ -62,8 +62,8 @@ silent_goes_on x c k is f r = record {
   rears = no_rears;
   fronts_cleared = refl;
   rears_cleared = refl;
-  occupied = occupied_on (is_on x) x.since k is.since ∙ ap (λ b. if b then occupied_at x k + 1 else 0) same;
-  detected = detected_on (is_on x) x.last k ∙ (λ i. if (same i || none i) then Some (k + 1) else detected_at x k);
+  occupied = occupied_on (is_on x) x.occupied_since k is.since ∙ ap (λ b. if b then occupied_at x k + 1 else 0) same;
+  detected = detected_on (is_on x) x.last_detected k ∙ (λ i. if (same i || none i) then Some (k + 1) else detected_at x k);
 }
   where
     no_fronts : x.fronts ≡ x.fronts + c.0
@@ -101,7 +101,7 @@ sized_next k x c is within at_most = elim (cases_Bool (c.0 == 0 && c.1 == 0)) [
   | inr e ↦ rw e (record {
     within = within;
     at_most = at_most;
-    since = since_next (is_on x) x.since k is.since;
-    begun = λ on. begun_next (is_on x) x.since k is.begun;
+    since = since_next (is_on x) x.occupied_since k is.since;
+    begun = λ on. begun_next (is_on x) x.occupied_since k is.begun;
   })
 ]

@@ -3,7 +3,7 @@ use Rattle.std.proofs.Common.{◌≡◌, ◌∙◌, ℕ, ◌+◌, ◌-◌, ◌<�
 use Rattle.sig_types.specs.Counts.{Counts, Kind, fronts, rears, count_of, count_to, Takes}
 use Rattle.sig_types.specs.Detectors.{Clear, ClearsUntil}
 use Rattle.actuation.specs.declared.actuation.Actuation.{Actuation}
-use Rattle.actuation.specs.Detector.{nothing, at, count_at, advanced, HoldsAt, IsSized}
+use Rattle.actuation.specs.Detector.{nothing, at, count_at, advanced, CanTakeAt, IsSized}
 use Rattle.actuation.specs.Stands.{HasTaken, DetectorStands, StandsFor}
 use Rattle.actuation.proofs.Cleared.{until_later}
 use Rattle.actuation.proofs.Frames.{count_more}
@@ -21,7 +21,7 @@ count_next kind frames frame p =
     let place : p + 1 - 1 ≡ p = omega arith in
     count_more kind frames frame (p + 1) ∙ ap (λ q. count_to kind frames (p + 1) (length frames) + count_of kind (count_at frame q)) place
 
-pub held : (a : Actuation) (frames : List Counts) (clears : List Clear) (frame : Counts) → HasTaken a frames clears → Takes frames frame → (p : ℕ) → p < 64 → HoldsAt a.detectors frame p
+pub held : (a : Actuation) (frames : List Counts) (clears : List Clear) (frame : Counts) → HasTaken a frames clears → Takes frames frame → (p : ℕ) → p < 64 → CanTakeAt a.detectors frame p
 held a frames clears frame s takes p lt =
     let c = takes.counts (p + 1) (omega arith) (omega (arith, lt)) in
     let f = count_next fronts frames frame p in
@@ -33,7 +33,7 @@ held a frames clears frame s takes p lt =
     }
 
 pub taken : (a : Actuation) (frames : List Counts) (clears : List Clear) (frame : Counts) → HasTaken a frames clears → a.seconds < 604801 → length frame ≡ 64 →
-    ((p : ℕ) → p < 64 → HoldsAt a.detectors frame p) → Takes frames frame
+    ((p : ℕ) → p < 64 → CanTakeAt a.detectors frame p) → Takes frames frame
 taken a frames clears frame s few size holds = record {
   few = omega (arith, few, s.seconds);
   size = size;

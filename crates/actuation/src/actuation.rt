@@ -5,7 +5,7 @@ ghost use Rattle.sig_types.specs.Detectors.{Clear, ClearsUntil, is_detector, det
 ghost use Rattle.actuation.specs.Detector.{at, IsSized};
 
 use crate::detector::{Detector, read};
-use crate::detectors::{advance_all, clear_fronts_at, clear_rears_at, holds, none};
+use crate::detectors::{advance_all, can_take, clear_fronts_at, clear_rears_at, unseen_detectors};
 use sig_types::{DetNo, Frame, MOST_SECONDS, ReadingKind};
 
 /// The readings of detectors 1 to 64.
@@ -27,7 +27,7 @@ impl Actuation {
         ensures { StandsFor result [] [] }
     {
         Actuation {
-            detectors: none(),
+            detectors: unseen_detectors(),
             seconds: 0,
         }
     }
@@ -39,7 +39,7 @@ impl Actuation {
         ensures { (frames : List Counts) (clears : List Clear) → StandsFor self.now frames clears →
             (IsTrue result ↔ Takes frames frame.now) }
     {
-        self.seconds < MOST_SECONDS && holds(&self.detectors, frame)
+        self.seconds < MOST_SECONDS && can_take(&self.detectors, frame)
     }
 
     /// Takes the frame of the next second.

@@ -1,6 +1,6 @@
 // All detectors.
 ghost use Rattle.std.specs.Prelude.{◌≡◌, ◌+◌, ◌<◌, ◌≤◌, ℕ, length, replicate, slice_index_or, IsTrue, ◌↔◌};
-ghost use Rattle.actuation.specs.Detector.{at, nothing, advanced, with_fronts_cleared, with_rears_cleared, HoldsAt};
+ghost use Rattle.actuation.specs.Detector.{at, nothing, advanced, with_fronts_cleared, with_rears_cleared, CanTakeAt};
 
 use crate::detector::{Detector, advance};
 use sig_types::Frame;
@@ -8,7 +8,7 @@ use sig_types::Frame;
 const MOST_FRONTS: u64 = 2147483647;
 
 /// No front, no rear, and nothing cleared.
-pub fn none() -> [Detector; 64]
+pub fn unseen_detectors() -> [Detector; 64]
     ensures { result ≡ replicate 64 nothing }
 {
     [Detector {
@@ -16,8 +16,8 @@ pub fn none() -> [Detector; 64]
         rears: 0,
         fronts_cleared: 0,
         rears_cleared: 0,
-        since: 0,
-        last: 0,
+        occupied_since: 0,
+        last_detected: 0,
     }; 64]
 }
 
@@ -28,10 +28,10 @@ fn sum(old: u32, more: u32) -> u64
 }
 
 // Whether a detector's rears stay within its fronts, and these within their limit, with one more frame.
-fn holds_at(detectors: &[Detector; 64], frame: &Frame, place: u8) -> bool
+fn can_take_at(detectors: &[Detector; 64], frame: &Frame, place: u8) -> bool
     requires place { place < 64 }
     requires size { length detectors.now ≡ 64 }
-    ensures holds { IsTrue result ↔ HoldsAt detectors.now frame.now place }
+    ensures holds { IsTrue result ↔ CanTakeAt detectors.now frame.now place }
     ensures size { length frame.now ≡ 64 }
 {
     let old = detectors[place as usize];
@@ -42,16 +42,16 @@ fn holds_at(detectors: &[Detector; 64], frame: &Frame, place: u8) -> bool
 }
 
 /// Whether with one more frame each detector's rears stay within its fronts, and these within their limit.
-pub fn holds(detectors: &[Detector; 64], frame: &Frame) -> bool
+pub fn can_take(detectors: &[Detector; 64], frame: &Frame) -> bool
     requires size { length detectors.now ≡ 64 }
     requires within { (p : ℕ) → p < 64 → (at detectors.now p).rears ≤ (at detectors.now p).fronts }
     requires at_most { (p : ℕ) → p < 64 → (at detectors.now p).fronts ≤ 2147483647 }
-    ensures holds { IsTrue result ↔ ((p : ℕ) → p < 64 → HoldsAt detectors.now frame.now p) }
+    ensures holds { IsTrue result ↔ ((p : ℕ) → p < 64 → CanTakeAt detectors.now frame.now p) }
     ensures size { IsTrue result → length frame.now ≡ 64 }
 {
     let (low, high) = frame.span();
     for place in low..high {
-        if !holds_at(detectors, frame, place) {
+        if !can_take_at(detectors, frame, place) {
             return false;
         }
     }
@@ -61,7 +61,7 @@ pub fn holds(detectors: &[Detector; 64], frame: &Frame) -> bool
 /// Takes a frame into each detector.
 pub fn advance_all(detectors: &mut [Detector; 64], frame: &Frame, second: u32)
     requires size { length detectors.old ≡ 64 }
-    requires holds { (p : ℕ) → p < 64 → HoldsAt detectors.old frame.now p }
+    requires holds { (p : ℕ) → p < 64 → CanTakeAt detectors.old frame.now p }
     requires second { 1 ≤ second }
     ensures each { (p : ℕ) → p < 64 →
         at detectors.new p ≡ advanced (at detectors.old p) (slice_index_or frame.now p (0, 0)) second }
