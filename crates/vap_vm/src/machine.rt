@@ -51,15 +51,15 @@ impl Machine {
         })
     }
 
-    /// The head at the place at which a pass begins, with its units. Operands, notes and commands are taken away, and no
-    /// cell is written yet.
+    /// The head at the place at which a pass begins, with its units. Operands, return places and commands are taken away, and
+    /// no cell is written yet.
     #[tactic(auto, unfolding(crate::specs::Operands::operands_at))]
     pub fn begin(&mut self, place: usize, units: u32) -> Head
         ensures place { result.place ≡ place }
         ensures line { result.line ≡ 0 }
         ensures units { result.units ≡ units }
         ensures operands { operands_of result self.new ≡ [] }
-        ensures noted { self.new.return_places ≡ [] }
+        ensures return_places { self.new.return_places ≡ [] }
         ensures commands { self.new.commands ≡ [] }
         ensures slots { self.new.slots ≡ self.old.slots }
         ensures wrote_cells { self.new.wrote_cells ≡ false }

@@ -1,14 +1,14 @@
-// The noted places of a pass, in room that is taken once.
+// The return places of a pass, in room that is taken once.
 
 ghost use Rattle.std.specs.Prelude.{◌≡◌, ◌∷◌, [], ◌<◌, ◌≤◌, length, IfOk, MatchOption};
 
 use std::alloc::{AllocError, Global};
 use std::marker::Model;
 
-// The most places that verified code notes.
+// The most places that verified code keeps.
 const MOST_CALLS: usize = 65;
 
-/// The noted places, seen as a list whose first is the one that was noted last.
+/// The return places, seen as a list whose first is the one that was kept last.
 #[derive(Drop)]
 pub struct ReturnPlaces {
     items: Vec<usize>,
@@ -34,7 +34,7 @@ impl ReturnPlaces {
         })
     }
 
-    /// Notes a place.
+    /// Keeps a place.
     pub fn push(&mut self, place: usize)
         requires { length self.old < 65 }
         ensures { self.new ≡ place ∷ self.old }
@@ -43,7 +43,7 @@ impl ReturnPlaces {
         prove!(pushed.is_ok());
     }
 
-    /// Takes the last noted place, if there is one.
+    /// Takes the place that was kept last, if there is one.
     pub fn pop(&mut self) -> Option<usize>
         ensures some { MatchOption result (self.old ≡ []) (λ place. self.old ≡ place ∷ self.new) }
         ensures none { MatchOption result (self.new ≡ []) (λ _. Unit {0}) }
