@@ -3,12 +3,12 @@
 -- How the proofs go together. A *law* (Law) ties a parser of Descent.antt to a form of Grammar.antt. It says five things:
 -- the form spells something (`some`); what it spells begins with some kinds of tokens alone (`heads`); the parser reads
 -- whatever the form spells, if the next token can't belong to it (`complete`, with After for tokens that bear a mark);
--- what the parser reads the form spells, and what it refuses stands behind a front of what the form spells (`meets`,
+-- what the parser reads the form spells, and what it refuses stands behind a beginning of what the form spells (`meets`,
 -- with Meets); and what the parser answers at a token doesn't depend on the tokens behind it (`local`, with Alike).
 -- Laws are put together as the rules are: one token (Tokens), one after another and one of two (Law), any number of
 -- rounds (Rounds), the brackets of TRACE (Skips). So ExprLaws and TextLaws have a line or two for each rule, of which the
 -- kinds of tokens are found by trying them all (AllKinds). This file takes the law of a whole program: its `complete`
--- gives that each text is read, its `meets` that what is read is a text and that a refused token follows a front of a
+-- gives that each text is read, its `meets` that what is read is a text and that a refused token follows a beginning of a
 -- text, and its `local` that no text goes on with the refused token. Shrinks tells the loops that a round takes a token,
 -- and Keeps what the tree of any text keeps.
 use Rattle.std.proofs.Common.{◌≡◌, ℕ, suc, ◌<◌, ◌≤◌, length, List, [], ◌∷◌, ◌++◌, append_assoc, Ok, Err, refl, sym, ap, subst, ◌∙◌, inl, inr, arith}
@@ -54,24 +54,24 @@ text_complete ms p s =
 abbrev Texts : List Marked → Program → ℕ → Type 0
 Texts ms p n = Text ms p
 
-meets_finish : (front : List Token) (p : Program) (ts : List Token) (n : ℕ) → Text (fines front) p → Meets Texts front ts (finish p (input ts n))
+meets_finish : (beginning : List Token) (p : Program) (ts : List Token) (n : ℕ) → Text (fines beginning) p → Meets Texts beginning ts (finish p (input ts n))
 unfolding ended
-meets_finish front p [] n s = record { front = []; parts = refl; spelled = subst (λ (f : List Token). Text (fines f) p) (sym (append-nil front)) s }
-meets_finish front p (t ∷ ts) n s = record {
-  front = [];
+meets_finish beginning p [] n s = record { beginning = []; parts = refl; spelled = subst (λ (f : List Token). Text (fines f) p) (sym (append-nil beginning)) s }
+meets_finish beginning p (t ∷ ts) n s = record {
+  beginning = [];
   parts = refl;
   more = [];
   value = p;
   left = n;
   shows = tt;
-  spelled = subst (λ (ms : List Marked). Text ms p) (sym (append-nil (fines (front ++ [])))) (subst (λ (f : List Token). Text (fines f) p) (sym (append-nil front)) s);
+  spelled = subst (λ (ms : List Marked). Text ms p) (sym (append-nil (fines (beginning ++ [])))) (subst (λ (f : List Token). Text (fines f) p) (sym (append-nil beginning)) s);
 }
 
 meets_text : (ts : List Token) → Meets Texts [] ts (outcome_of ts)
 unfolding outcome_of text
 meets_text ts = step (g.program max_operators) Texts ts (program (start ts)) finish (program_law.meets max_operators ts)
     (λ ms p n s. ([], p, n, subst (λ (ms : List Marked). Text ms p) (sym (append-nil ms)) (n, s)))
-    (λ front p j s. meets_finish front p j.rest j.operators (j.operators, s))
+    (λ beginning p j s. meets_finish beginning p j.rest j.operators (j.operators, s))
 
 -- ---- the answer at a token depends on the tokens up to that one alone
 
@@ -152,12 +152,12 @@ accepted ts p s =
 
 is_accepted : (ts : List Token) (p : Program) (i : Input) → i.rest ≡ [] → Found Texts [] ts p i → Accepts ts p
 is_accepted ts p i end m =
-    let same : ts ≡ m.front = m.parts ∙ ap (λ (r : List Token). m.front ++ r) end ∙ append-nil m.front in
+    let same : ts ≡ m.beginning = m.parts ∙ ap (λ (r : List Token). m.beginning ++ r) end ∙ append-nil m.beginning in
     subst (λ (s : List Token). Text (fines s) p) (sym same) m.spelled
 
-alike_front : (front : List Token) (t : Token) (s s' : List Token) → Alike s s' (front ++ t ∷ s) (front ++ t ∷ s')
-alike_front [] t s s' = cut t
-alike_front (u ∷ front) t s s' = more u (alike_front front t s s')
+alike_beginning : (beginning : List Token) (t : Token) (s s' : List Token) → Alike s s' (beginning ++ t ∷ s) (beginning ++ t ∷ s')
+alike_beginning [] t s s' = cut t
+alike_beginning (u ∷ beginning) t s s' = more u (alike_beginning beginning t s s')
 
 agree_err : {A : Type 0} (z z' : List Token) (o o' : Outcome A) (why : Reason) (r : List Token) → Agree z z' o o' → o ≡ Err (why, r) → length z < length r → (r' : List Token) × (o' ≡ Err (why, r')) × Alike z z' r r'
 agree_err z z' o o' why r (past _ _ h) e len = absurd (let gone = past_err (suc (length z)) o why r e h in omega arith)
@@ -173,40 +173,40 @@ at_cut : {z z' q r' : List Token} (t : Token) → Alike z z' q r' → q ≡ t �
 at_cut t (cut u) e = let same : u ≡ t = cc in cc
 at_cut {z = z} t (more u {r = r} a) e = absurd (let same : r ≡ z = cc in let longer = alike_longer a in let len : length r ≡ length z = ap length same in omega arith)
 
-tokens_marked : (front : List Token) (t : Token) (mark : Mark) (ms : List Marked) → tokens ((fines front ++ (t, mark) ∷ []) ++ ms) ≡ front ++ t ∷ tokens ms
+tokens_marked : (beginning : List Token) (t : Token) (mark : Mark) (ms : List Marked) → tokens ((fines beginning ++ (t, mark) ∷ []) ++ ms) ≡ beginning ++ t ∷ tokens ms
 tokens_marked [] t mark ms = refl
-tokens_marked (u ∷ front) t mark ms = ap (λ (s : List Token). u ∷ s) (tokens_marked front t mark ms)
+tokens_marked (u ∷ beginning) t mark ms = ap (λ (s : List Token). u ∷ s) (tokens_marked beginning t mark ms)
 
-no_further : (front : List Token) (t : Token) (s : List Token) (mark : Mark) → outcome_of (front ++ t ∷ s) ≡ Err (Unexpected, t ∷ s) → Begins (fines front ++ (t, mark) ∷ []) → ⊥
+no_further : (beginning : List Token) (t : Token) (s : List Token) (mark : Mark) → outcome_of (beginning ++ t ∷ s) ≡ Err (Unexpected, t ∷ s) → Begins (fines beginning ++ (t, mark) ∷ []) → ⊥
 unfolding outcome_of
-no_further front t s mark e begins =
-    let ms = (fines front ++ (t, mark) ∷ []) ++ begins.0 in
-    let same : tokens ms ++ [] ≡ front ++ t ∷ tokens begins.0 =
-    append-nil (tokens ms) ∙ tokens_marked front t mark begins.0 in
-    let agree = local_text s (tokens begins.0) max_operators (front ++ t ∷ s) (front ++ t ∷ tokens begins.0) (alike_front front t s (tokens begins.0)) in
-    let stopped = agree_err s (tokens begins.0) (text (start (front ++ t ∷ s))) (text (start (front ++ t ∷ tokens begins.0))) Unexpected (t ∷ s) agree e (omega arith) in
-    let read : text (start (front ++ t ∷ tokens begins.0)) ≡ after ms (Ok (begins.1, input [] begins.2.0)) [] = sym (ap (λ (s : List Token). text (start s)) same) ∙ text_complete ms begins.1 begins.2 in
+no_further beginning t s mark e begins =
+    let ms = (fines beginning ++ (t, mark) ∷ []) ++ begins.0 in
+    let same : tokens ms ++ [] ≡ beginning ++ t ∷ tokens begins.0 =
+    append-nil (tokens ms) ∙ tokens_marked beginning t mark begins.0 in
+    let agree = local_text s (tokens begins.0) max_operators (beginning ++ t ∷ s) (beginning ++ t ∷ tokens begins.0) (alike_beginning beginning t s (tokens begins.0)) in
+    let stopped = agree_err s (tokens begins.0) (text (start (beginning ++ t ∷ s))) (text (start (beginning ++ t ∷ tokens begins.0))) Unexpected (t ∷ s) agree e (omega arith) in
+    let read : text (start (beginning ++ t ∷ tokens begins.0)) ≡ after ms (Ok (begins.1, input [] begins.2.0)) [] = sym (ap (λ (s : List Token). text (start s)) same) ∙ text_complete ms begins.1 begins.2 in
     marked ms (begins.1, input [] begins.2.0) [] stopped.0 (sym read ∙ stopped.1)
 
 grow : (ms : List Marked) (m : Marked) (more : List Marked) → ms ++ m ∷ more ≡ (ms ++ m ∷ []) ++ more
 grow ms m b = sym (append_assoc ms (m ∷ []) b)
 
-bad_by : (mark : Mark) (front : List Token) (t : Token) (s : List Token) (others : List Marked) (p : Program) → (b : Bears mark (t ∷ s) others) → Text (fines front ++ others) p → Begins (fines front ++ (t, mark) ∷ [])
-bad_by mark front t s others p b spelled =
+bad_by : (mark : Mark) (beginning : List Token) (t : Token) (s : List Token) (others : List Marked) (p : Program) → (b : Bears mark (t ∷ s) others) → Text (fines beginning ++ others) p → Begins (fines beginning ++ (t, mark) ∷ [])
+bad_by mark beginning t s others p b spelled =
     let first : t ≡ b.token = let e = b.first in cc in
     let marks : others ≡ (t, mark) ∷ b.others = b.marked ∙ ap (λ (u : Token). (u, mark) ∷ b.others) (sym first) in
-    (b.others, p, subst (λ (ms : List Marked). Text ms p) (ap (λ (ms : List Marked). fines front ++ ms) marks ∙ grow (fines front) (t, mark) b.others) spelled)
+    (b.others, p, subst (λ (ms : List Marked). Text ms p) (ap (λ (ms : List Marked). fines beginning ++ ms) marks ∙ grow (fines beginning) (t, mark) b.others) spelled)
 
-refused_by : (why : Reason) (rest : List Token) (ts : List Token) → outcome_of ts ≡ Err (why, rest) → (m : Lost Texts [] ts why rest) → Ends why m.front rest
+refused_by : (why : Reason) (rest : List Token) (ts : List Token) → outcome_of ts ≡ Err (why, rest) → (m : Lost Texts [] ts why rest) → Ends why m.beginning rest
 refused_by Unexpected [] ts e m =
-    let same : ts ≡ m.front = m.parts ∙ append-nil m.front in
-    ((m.more, m.value, m.spelled), λ p whole. absurd (let read = accepted m.front p whole in let again : outcome_of m.front ≡ Err (Unexpected, []) = ap outcome_of (sym same) ∙ e in cc))
+    let same : ts ≡ m.beginning = m.parts ∙ append-nil m.beginning in
+    ((m.more, m.value, m.spelled), λ p whole. absurd (let read = accepted m.beginning p whole in let again : outcome_of m.beginning ≡ Err (Unexpected, []) = ap outcome_of (sym same) ∙ e in cc))
 refused_by Unexpected (t ∷ s) ts e m =
-    ((m.more, m.value, m.spelled), λ mark begins. no_further m.front t s mark (ap outcome_of (sym m.parts) ∙ e) begins)
+    ((m.more, m.value, m.spelled), λ mark begins. no_further m.beginning t s mark (ap outcome_of (sym m.parts) ∙ e) begins)
 refused_by TooDeep [] ts e m = absurd (let none = m.shows.first in cc)
 refused_by Frequency [] ts e m = absurd (let none = m.shows.first in cc)
-refused_by TooDeep (t ∷ s) ts e m = bad_by deep m.front t s m.more m.value m.shows m.spelled
-refused_by Frequency (t ∷ s) ts e m = bad_by wrong m.front t s m.more m.value m.shows m.spelled
+refused_by TooDeep (t ∷ s) ts e m = bad_by deep m.beginning t s m.more m.value m.shows m.spelled
+refused_by Frequency (t ∷ s) ts e m = bad_by wrong m.beginning t s m.more m.value m.shows m.spelled
 
 -- ---- exact
 
@@ -216,7 +216,7 @@ Exact ts (Err e) = Refuses ts e.0 e.1
 
 exact_by : (ts : List Token) (out : Outcome Program) → outcome_of ts ≡ out → AtEnd out → Meets Texts [] ts out → Exact ts out
 exact_by ts (Ok p) e end m = is_accepted ts p.0 p.1 end m
-exact_by ts (Err f) e end m = (m.front, m.parts, refused_by f.0 f.1 ts e m)
+exact_by ts (Err f) e end m = (m.beginning, m.parts, refused_by f.0 f.1 ts e m)
 
 pub exact : (ts : List Token) → Exact ts (outcome_of ts)
 exact ts = exact_by ts (outcome_of ts) refl (text_at_end ts) (meets_text ts)
@@ -233,30 +233,30 @@ has_answer ts = by_outcome ts (outcome_of ts) (exact ts)
 -- ---- a text has one refusal at most
 
 -- a shorter rest begins further on
-split : (front front' rest r : List Token) → front ++ rest ≡ front' ++ r → length r ≤ length rest → (m : List Token) × (front' ≡ front ++ m) × (rest ≡ m ++ r)
-split [] front' rest r e le = (front', refl, e)
-split (u ∷ front) [] rest r e le = absurd (let len : length (u ∷ front ++ rest) ≡ length r = ap length e in omega (arith, len, length-append front rest))
-split (u ∷ front) (v ∷ front') rest r e le =
+split : (beginning beginning' rest r : List Token) → beginning ++ rest ≡ beginning' ++ r → length r ≤ length rest → (m : List Token) × (beginning' ≡ beginning ++ m) × (rest ≡ m ++ r)
+split [] beginning' rest r e le = (beginning', refl, e)
+split (u ∷ beginning) [] rest r e le = absurd (let len : length (u ∷ beginning ++ rest) ≡ length r = ap length e in omega (arith, len, length-append beginning rest))
+split (u ∷ beginning) (v ∷ beginning') rest r e le =
     let same : u ≡ v = cc in
-    let next_ : front ++ rest ≡ front' ++ r = cc in
-    let m = split front front' rest r next_ le in
-    (m.0, ap (λ (ts : List Token). v ∷ ts) m.1 ∙ ap (λ (w : Token). w ∷ (front ++ m.0)) (sym same), m.2)
+    let next_ : beginning ++ rest ≡ beginning' ++ r = cc in
+    let m = split beginning beginning' rest r next_ le in
+    (m.0, ap (λ (ts : List Token). v ∷ ts) m.1 ∙ ap (λ (w : Token). w ∷ (beginning ++ m.0)) (sym same), m.2)
 
 -- a mark that is not fine is the reason of a refusal
 module _ (mark : Mark) (why : Reason) (bad : (t : Token) (ms : List Marked) (p : Program × Input) → after ((t, mark) ∷ ms) (Ok p) [] ≡ Err (why, t ∷ tokens ms ++ [])) where
-  after_bad : (front : List Token) (t : Token) (ms : List Marked) (p : Program × Input) → after ((fines front ++ (t, mark) ∷ []) ++ ms) (Ok p) [] ≡ Err (why, t ∷ tokens ms ++ [])
+  after_bad : (beginning : List Token) (t : Token) (ms : List Marked) (p : Program × Input) → after ((fines beginning ++ (t, mark) ∷ []) ++ ms) (Ok p) [] ≡ Err (why, t ∷ tokens ms ++ [])
   after_bad [] t ms p = bad t ms p
-  after_bad (u ∷ front) t ms p = after_bad front t ms p
+  after_bad (u ∷ beginning) t ms p = after_bad beginning t ms p
 
-  bad_refused : (front : List Token) (t : Token) (s : List Token) → Begins (fines front ++ (t, mark) ∷ []) → outcome_of (front ++ t ∷ s) ≡ Err (why, t ∷ s)
+  bad_refused : (beginning : List Token) (t : Token) (s : List Token) → Begins (fines beginning ++ (t, mark) ∷ []) → outcome_of (beginning ++ t ∷ s) ≡ Err (why, t ∷ s)
   unfolding outcome_of
-  bad_refused front t s begins =
-      let ms = (fines front ++ (t, mark) ∷ []) ++ begins.0 in
-      let same : tokens ms ++ [] ≡ front ++ t ∷ tokens begins.0 = append-nil (tokens ms) ∙ tokens_marked front t mark begins.0 in
-      let read : text (start (front ++ t ∷ tokens begins.0)) ≡ Err (why, t ∷ tokens begins.0) =
-      sym (ap (λ (s : List Token). text (start s)) same) ∙ text_complete ms begins.1 begins.2 ∙ after_bad front t begins.0 (begins.1, input [] begins.2.0) ∙ ap (λ (ts : List Token). Err (why, t ∷ ts)) (append-nil (tokens begins.0)) in
-      let agree = local_text (tokens begins.0) s max_operators (front ++ t ∷ tokens begins.0) (front ++ t ∷ s) (alike_front front t (tokens begins.0) s) in
-      let stopped = agree_err (tokens begins.0) s (text (start (front ++ t ∷ tokens begins.0))) (text (start (front ++ t ∷ s))) why (t ∷ tokens begins.0) agree read (omega arith) in
+  bad_refused beginning t s begins =
+      let ms = (fines beginning ++ (t, mark) ∷ []) ++ begins.0 in
+      let same : tokens ms ++ [] ≡ beginning ++ t ∷ tokens begins.0 = append-nil (tokens ms) ∙ tokens_marked beginning t mark begins.0 in
+      let read : text (start (beginning ++ t ∷ tokens begins.0)) ≡ Err (why, t ∷ tokens begins.0) =
+      sym (ap (λ (s : List Token). text (start s)) same) ∙ text_complete ms begins.1 begins.2 ∙ after_bad beginning t begins.0 (begins.1, input [] begins.2.0) ∙ ap (λ (ts : List Token). Err (why, t ∷ ts)) (append-nil (tokens begins.0)) in
+      let agree = local_text (tokens begins.0) s max_operators (beginning ++ t ∷ tokens begins.0) (beginning ++ t ∷ s) (alike_beginning beginning t (tokens begins.0) s) in
+      let stopped = agree_err (tokens begins.0) s (text (start (beginning ++ t ∷ tokens begins.0))) (text (start (beginning ++ t ∷ s))) why (t ∷ tokens begins.0) agree read (omega arith) in
       stopped.1 ∙ ap (λ (r : List Token). Err (why, r)) (at_cut t stopped.2 refl)
 
 -- what follows marks is a refusal no further back
@@ -272,86 +272,86 @@ after_length ((t, wrong) ∷ ms) p why r e =
     let len : length (t ∷ tokens ms ++ []) ≡ length r = ap length same in
     omega (arith, len, length-append (tokens ms) [])
 
-tokens-ahead : (front : List Token) (ms : List Marked) → tokens (fines front ++ ms) ≡ front ++ tokens ms
+tokens-ahead : (beginning : List Token) (ms : List Marked) → tokens (fines beginning ++ ms) ≡ beginning ++ tokens ms
 tokens-ahead [] ms = refl
-tokens-ahead (t ∷ front) ms = ap (λ (s : List Token). t ∷ s) (tokens-ahead front ms)
+tokens-ahead (t ∷ beginning) ms = ap (λ (s : List Token). t ∷ s) (tokens-ahead beginning ms)
 
-after-ahead : {A : Type 0} (front : List Token) (ms : List Marked) (out : Outcome A) (rest : List Token) → after (fines front ++ ms) out rest ≡ after ms out rest
+after-ahead : {A : Type 0} (beginning : List Token) (ms : List Marked) (out : Outcome A) (rest : List Token) → after (fines beginning ++ ms) out rest ≡ after ms out rest
 after-ahead [] ms out rest = refl
-after-ahead (t ∷ front) ms out rest = after-ahead front ms out rest
+after-ahead (t ∷ beginning) ms out rest = after-ahead beginning ms out rest
 
--- A front of a text is read without a refusal.
-stuck_inside : (front : List Token) (u : Token) (m rest : List Token) (why : Reason) → Begins (fines (front ++ u ∷ m)) → outcome_of ((front ++ u ∷ m) ++ rest) ≡ Err (why, u ∷ m ++ rest) → ⊥
+-- A beginning of a text is read without a refusal.
+stuck_inside : (beginning : List Token) (u : Token) (m rest : List Token) (why : Reason) → Begins (fines (beginning ++ u ∷ m)) → outcome_of ((beginning ++ u ∷ m) ++ rest) ≡ Err (why, u ∷ m ++ rest) → ⊥
 unfolding outcome_of
-stuck_inside front u m rest why begins e =
+stuck_inside beginning u m rest why begins e =
     let ts = tokens begins.0 in
-    let ms = fines (front ++ u ∷ m) ++ begins.0 in
-    let same : tokens ms ++ [] ≡ front ++ u ∷ (m ++ ts) = append-nil (tokens ms) ∙ tokens-ahead (front ++ u ∷ m) begins.0 ∙ append_assoc front (u ∷ m) ts in
-    let read : text (start (front ++ u ∷ (m ++ ts))) ≡ after begins.0 (Ok (begins.1, input [] begins.2.0)) [] =
-    sym (ap (λ (s : List Token). text (start s)) same) ∙ text_complete ms begins.1 begins.2 ∙ after-ahead (front ++ u ∷ m) begins.0 (Ok (begins.1, input [] begins.2.0)) [] in
-    let refused : text (start (front ++ u ∷ (m ++ rest))) ≡ Err (why, u ∷ m ++ rest) = ap (λ (s : List Token). text (start s)) (sym (append_assoc front (u ∷ m) rest)) ∙ e in
-    let agree = local_text (m ++ rest) (m ++ ts) max_operators (front ++ u ∷ (m ++ rest)) (front ++ u ∷ (m ++ ts)) (alike_front front u (m ++ rest) (m ++ ts)) in
-    let stopped = agree_err (m ++ rest) (m ++ ts) (text (start (front ++ u ∷ (m ++ rest)))) (text (start (front ++ u ∷ (m ++ ts)))) why (u ∷ m ++ rest) agree refused (omega arith) in
+    let ms = fines (beginning ++ u ∷ m) ++ begins.0 in
+    let same : tokens ms ++ [] ≡ beginning ++ u ∷ (m ++ ts) = append-nil (tokens ms) ∙ tokens-ahead (beginning ++ u ∷ m) begins.0 ∙ append_assoc beginning (u ∷ m) ts in
+    let read : text (start (beginning ++ u ∷ (m ++ ts))) ≡ after begins.0 (Ok (begins.1, input [] begins.2.0)) [] =
+    sym (ap (λ (s : List Token). text (start s)) same) ∙ text_complete ms begins.1 begins.2 ∙ after-ahead (beginning ++ u ∷ m) begins.0 (Ok (begins.1, input [] begins.2.0)) [] in
+    let refused : text (start (beginning ++ u ∷ (m ++ rest))) ≡ Err (why, u ∷ m ++ rest) = ap (λ (s : List Token). text (start s)) (sym (append_assoc beginning (u ∷ m) rest)) ∙ e in
+    let agree = local_text (m ++ rest) (m ++ ts) max_operators (beginning ++ u ∷ (m ++ rest)) (beginning ++ u ∷ (m ++ ts)) (alike_beginning beginning u (m ++ rest) (m ++ ts)) in
+    let stopped = agree_err (m ++ rest) (m ++ ts) (text (start (beginning ++ u ∷ (m ++ rest)))) (text (start (beginning ++ u ∷ (m ++ ts)))) why (u ∷ m ++ rest) agree refused (omega arith) in
     let place : stopped.0 ≡ u ∷ (m ++ ts) = at_cut u stopped.2 refl in
     let le = after_length begins.0 (begins.1, input [] begins.2.0) why stopped.0 (sym read ∙ stopped.1) in
     let len : length stopped.0 ≡ length (u ∷ (m ++ ts)) = ap length place in
     absurd (omega (arith, len, le, length-append m ts))
 
-inside : (front before m rest r : List Token) (why : Reason) → front ≡ before ++ m → r ≡ m ++ rest → Begins (fines front) → outcome_of (front ++ rest) ≡ Err (why, r) → length rest < length r → ⊥
-inside front before [] rest r why is r-is begins e longer = absurd (let len : length r ≡ length rest = ap length r-is in omega arith)
-inside front before (u ∷ m) rest r why is r-is begins e longer =
+inside : (beginning before m rest r : List Token) (why : Reason) → beginning ≡ before ++ m → r ≡ m ++ rest → Begins (fines beginning) → outcome_of (beginning ++ rest) ≡ Err (why, r) → length rest < length r → ⊥
+inside beginning before [] rest r why is r-is begins e longer = absurd (let len : length r ≡ length rest = ap length r-is in omega arith)
+inside beginning before (u ∷ m) rest r why is r-is begins e longer =
     stuck_inside before u m rest why (subst (λ (f : List Token). Begins (fines f)) is begins)
     (ap (λ (f : List Token). outcome_of (f ++ rest)) (sym is) ∙ e ∙ ap (λ (r : List Token). Err (why, r)) r-is)
 
-reaches : (front rest : List Token) (why : Reason) (r : List Token) → Begins (fines front) → outcome_of (front ++ rest) ≡ Err (why, r) → Refuses (front ++ rest) why r → length rest < length r → ⊥
-reaches front rest why r begins e refuses longer =
-    let m = split refuses.0 front r rest (sym refuses.1) (omega arith) in
-    inside front refuses.0 m.0 rest r why m.1 m.2 begins e longer
+reaches : (beginning rest : List Token) (why : Reason) (r : List Token) → Begins (fines beginning) → outcome_of (beginning ++ rest) ≡ Err (why, r) → Refuses (beginning ++ rest) why r → length rest < length r → ⊥
+reaches beginning rest why r begins e refuses longer =
+    let m = split refuses.0 beginning r rest (sym refuses.1) (omega arith) in
+    inside beginning refuses.0 m.0 rest r why m.1 m.2 begins e longer
 
--- a longer front begins, so a shorter one does
-begins_less : (front : List Token) (t : Token) (m : List Token) (b : List Marked) → Begins (fines (front ++ t ∷ m) ++ b) → Begins (fines front ++ (t, fine) ∷ [])
-begins_less front t m b begins = ((fines m ++ b) ++ begins.0, begins.1, subst (λ (ms : List Marked). Text ms begins.1) (marks front) begins.2) where
-  marks : (front : List Token) → (fines (front ++ t ∷ m) ++ b) ++ begins.0 ≡ (fines front ++ (t, fine) ∷ []) ++ ((fines m ++ b) ++ begins.0)
+-- a longer beginning begins, so a shorter one does
+begins_less : (beginning : List Token) (t : Token) (m : List Token) (b : List Marked) → Begins (fines (beginning ++ t ∷ m) ++ b) → Begins (fines beginning ++ (t, fine) ∷ [])
+begins_less beginning t m b begins = ((fines m ++ b) ++ begins.0, begins.1, subst (λ (ms : List Marked). Text ms begins.1) (marks beginning) begins.2) where
+  marks : (beginning : List Token) → (fines (beginning ++ t ∷ m) ++ b) ++ begins.0 ≡ (fines beginning ++ (t, fine) ∷ []) ++ ((fines m ++ b) ++ begins.0)
   marks [] = refl
-  marks (u ∷ front) = ap (λ (ms : List Marked). (u, fine) ∷ ms) (marks front)
+  marks (u ∷ beginning) = ap (λ (ms : List Marked). (u, fine) ∷ ms) (marks beginning)
 
-begins_ends : (why : Reason) (front rest : List Token) → Ends why front rest → (b : List Marked) × Begins (fines front ++ b)
-begins_ends Unexpected front [] ends = ([], (ends.0.0, ends.0.1, subst (λ (ms : List Marked). Text (ms ++ ends.0.0) ends.0.1) (sym (append-nil (fines front))) ends.0.2))
-begins_ends Unexpected front (t ∷ s) ends = ([], (ends.0.0, ends.0.1, subst (λ (ms : List Marked). Text (ms ++ ends.0.0) ends.0.1) (sym (append-nil (fines front))) ends.0.2))
-begins_ends TooDeep front [] ends = absurd ends
-begins_ends TooDeep front (t ∷ s) ends = ((t, deep) ∷ [], ends)
-begins_ends Frequency front [] ends = absurd ends
-begins_ends Frequency front (t ∷ s) ends = ((t, wrong) ∷ [], ends)
+begins_ends : (why : Reason) (beginning rest : List Token) → Ends why beginning rest → (b : List Marked) × Begins (fines beginning ++ b)
+begins_ends Unexpected beginning [] ends = ([], (ends.0.0, ends.0.1, subst (λ (ms : List Marked). Text (ms ++ ends.0.0) ends.0.1) (sym (append-nil (fines beginning))) ends.0.2))
+begins_ends Unexpected beginning (t ∷ s) ends = ([], (ends.0.0, ends.0.1, subst (λ (ms : List Marked). Text (ms ++ ends.0.0) ends.0.1) (sym (append-nil (fines beginning))) ends.0.2))
+begins_ends TooDeep beginning [] ends = absurd ends
+begins_ends TooDeep beginning (t ∷ s) ends = ((t, deep) ∷ [], ends)
+begins_ends Frequency beginning [] ends = absurd ends
+begins_ends Frequency beginning (t ∷ s) ends = ((t, wrong) ∷ [], ends)
 
 accepted_begins : (ts : List Token) (p : Program) → Accepts ts p → Begins (fines ts ++ [])
 accepted_begins ts p whole = ([], p, subst (λ (ms : List Marked). Text ms p) (sym (append-nil (fines ts ++ []) ∙ append-nil (fines ts))) whole)
 
 -- a refusal at this place or further on
-at_or_behind : (front : List Token) (t : Token) (s m : List Token) (why : Reason) (front' r : List Token) → front' ≡ front ++ m → t ∷ s ≡ m ++ r → Ends why front' r → ((mark : Mark) → Begins (fines front ++ (t, mark) ∷ []) → ⊥) → (why ≡ Unexpected) × (r ≡ t ∷ s)
-at_or_behind front t s [] Unexpected front' r is r-is ends none = (refl, sym r-is)
-at_or_behind front t s [] TooDeep front' r is r-is ends none =
-    let same : front' ≡ front = is ∙ append-nil front in
-    let here : Ends TooDeep front (t ∷ s) = subst (λ (f : List Token). Ends TooDeep f (t ∷ s)) same (subst (λ (q : List Token). Ends TooDeep front' q) (sym r-is) ends) in
+at_or_behind : (beginning : List Token) (t : Token) (s m : List Token) (why : Reason) (beginning' r : List Token) → beginning' ≡ beginning ++ m → t ∷ s ≡ m ++ r → Ends why beginning' r → ((mark : Mark) → Begins (fines beginning ++ (t, mark) ∷ []) → ⊥) → (why ≡ Unexpected) × (r ≡ t ∷ s)
+at_or_behind beginning t s [] Unexpected beginning' r is r-is ends none = (refl, sym r-is)
+at_or_behind beginning t s [] TooDeep beginning' r is r-is ends none =
+    let same : beginning' ≡ beginning = is ∙ append-nil beginning in
+    let here : Ends TooDeep beginning (t ∷ s) = subst (λ (f : List Token). Ends TooDeep f (t ∷ s)) same (subst (λ (q : List Token). Ends TooDeep beginning' q) (sym r-is) ends) in
     absurd (none deep here)
-at_or_behind front t s [] Frequency front' r is r-is ends none =
-    let same : front' ≡ front = is ∙ append-nil front in
-    let here : Ends Frequency front (t ∷ s) = subst (λ (f : List Token). Ends Frequency f (t ∷ s)) same (subst (λ (q : List Token). Ends Frequency front' q) (sym r-is) ends) in
+at_or_behind beginning t s [] Frequency beginning' r is r-is ends none =
+    let same : beginning' ≡ beginning = is ∙ append-nil beginning in
+    let here : Ends Frequency beginning (t ∷ s) = subst (λ (f : List Token). Ends Frequency f (t ∷ s)) same (subst (λ (q : List Token). Ends Frequency beginning' q) (sym r-is) ends) in
     absurd (none wrong here)
-at_or_behind front t s (v ∷ m) why front' r is r-is ends none =
-    let begins = begins_ends why front' r ends in
+at_or_behind beginning t s (v ∷ m) why beginning' r is r-is ends none =
+    let begins = begins_ends why beginning' r ends in
     let first : v ≡ t = cc in
-    let there : Begins (fines (front ++ t ∷ m) ++ begins.0) = subst (λ (f : List Token). Begins (fines f ++ begins.0)) (is ∙ ap (λ (w : Token). front ++ w ∷ m) first) begins.1 in
-    absurd (none fine (begins_less front t m begins.0 there))
+    let there : Begins (fines (beginning ++ t ∷ m) ++ begins.0) = subst (λ (f : List Token). Begins (fines f ++ begins.0)) (is ∙ ap (λ (w : Token). beginning ++ w ∷ m) first) begins.1 in
+    absurd (none fine (begins_less beginning t m begins.0 there))
 
 -- the answer of the functions on lists, where the tokens are refused so
-unexpected_at : (front : List Token) (t : Token) (s : List Token) (out : Outcome Program) → outcome_of (front ++ t ∷ s) ≡ out → Exact (front ++ t ∷ s) out → Ends Unexpected front (t ∷ s) → out ≡ Err (Unexpected, t ∷ s)
-unexpected_at front t s (Ok p) e exact_ ends = absurd (ends.1 fine (begins_less front t s [] (accepted_begins (front ++ t ∷ s) p.0 exact_)))
-unexpected_at front t s (Err f) e exact_ ends =
+unexpected_at : (beginning : List Token) (t : Token) (s : List Token) (out : Outcome Program) → outcome_of (beginning ++ t ∷ s) ≡ out → Exact (beginning ++ t ∷ s) out → Ends Unexpected beginning (t ∷ s) → out ≡ Err (Unexpected, t ∷ s)
+unexpected_at beginning t s (Ok p) e exact_ ends = absurd (ends.1 fine (begins_less beginning t s [] (accepted_begins (beginning ++ t ∷ s) p.0 exact_)))
+unexpected_at beginning t s (Err f) e exact_ ends =
     elim (cases_lt (length (t ∷ s)) (length f.1)) [
-      | inl longer ↦ absurd (reaches front (t ∷ s) f.0 f.1 ends.0 e exact_ longer)
+      | inl longer ↦ absurd (reaches beginning (t ∷ s) f.0 f.1 ends.0 e exact_ longer)
       | inr le ↦
-          let m = split front exact_.0 (t ∷ s) f.1 exact_.1 le in
-          let at = at_or_behind front t s m.0 f.0 exact_.0 f.1 m.1 m.2 exact_.2 ends.1 in
+          let m = split beginning exact_.0 (t ∷ s) f.1 exact_.1 le in
+          let at = at_or_behind beginning t s m.0 f.0 exact_.0 f.1 m.1 m.2 exact_.2 ends.1 in
           ap (λ (w : Reason). Err (w, f.1)) at.0 ∙ ap (λ (r : List Token). Err (Unexpected, r)) at.1
     ]
 
@@ -359,30 +359,30 @@ no_rest : (r : List Token) → length r ≤ 0 → r ≡ []
 no_rest [] le = refl
 no_rest (t ∷ r) le = absurd (omega arith)
 
-at_the_end : (why : Reason) (front r : List Token) → r ≡ [] → Ends why front r → why ≡ Unexpected
-at_the_end Unexpected front r none ends = refl
-at_the_end TooDeep front [] none ends = absurd ends
-at_the_end TooDeep front (t ∷ r) none ends = absurd cc
-at_the_end Frequency front [] none ends = absurd ends
-at_the_end Frequency front (t ∷ r) none ends = absurd cc
+at_the_end : (why : Reason) (beginning r : List Token) → r ≡ [] → Ends why beginning r → why ≡ Unexpected
+at_the_end Unexpected beginning r none ends = refl
+at_the_end TooDeep beginning [] none ends = absurd ends
+at_the_end TooDeep beginning (t ∷ r) none ends = absurd cc
+at_the_end Frequency beginning [] none ends = absurd ends
+at_the_end Frequency beginning (t ∷ r) none ends = absurd cc
 
-too_early : (front : List Token) (out : Outcome Program) → outcome_of (front ++ []) ≡ out → Exact (front ++ []) out → Ends Unexpected front [] → out ≡ Err (Unexpected, [])
-too_early front (Ok p) e exact_ ends = absurd (ends.1 p.0 (subst (λ (ts : List Token). Accepts ts p.0) (append-nil front) exact_))
-too_early front (Err f) e exact_ ends =
+too_early : (beginning : List Token) (out : Outcome Program) → outcome_of (beginning ++ []) ≡ out → Exact (beginning ++ []) out → Ends Unexpected beginning [] → out ≡ Err (Unexpected, [])
+too_early beginning (Ok p) e exact_ ends = absurd (ends.1 p.0 (subst (λ (ts : List Token). Accepts ts p.0) (append-nil beginning) exact_))
+too_early beginning (Err f) e exact_ ends =
     elim (cases_lt 0 (length f.1)) [
-      | inl longer ↦ absurd (reaches front [] f.0 f.1 ends.0 e exact_ longer)
+      | inl longer ↦ absurd (reaches beginning [] f.0 f.1 ends.0 e exact_ longer)
       | inr le ↦
           let none = no_rest f.1 le in
           ap (λ (w : Reason). Err (w, f.1)) (at_the_end f.0 exact_.0 f.1 none exact_.2) ∙ ap (λ (r : List Token). Err (Unexpected, r)) none
     ]
 
-refused_at : (why : Reason) (front rest : List Token) → Ends why front rest → outcome_of (front ++ rest) ≡ Err (why, rest)
-refused_at Unexpected front [] ends = too_early front (outcome_of (front ++ [])) refl (exact (front ++ [])) ends
-refused_at Unexpected front (t ∷ s) ends = unexpected_at front t s (outcome_of (front ++ t ∷ s)) refl (exact (front ++ t ∷ s)) ends
-refused_at TooDeep front [] ends = absurd ends
-refused_at TooDeep front (t ∷ s) ends = bad_refused deep TooDeep (λ t ms p. refl) front t s ends
-refused_at Frequency front [] ends = absurd ends
-refused_at Frequency front (t ∷ s) ends = bad_refused wrong Frequency (λ t ms p. refl) front t s ends
+refused_at : (why : Reason) (beginning rest : List Token) → Ends why beginning rest → outcome_of (beginning ++ rest) ≡ Err (why, rest)
+refused_at Unexpected beginning [] ends = too_early beginning (outcome_of (beginning ++ [])) refl (exact (beginning ++ [])) ends
+refused_at Unexpected beginning (t ∷ s) ends = unexpected_at beginning t s (outcome_of (beginning ++ t ∷ s)) refl (exact (beginning ++ t ∷ s)) ends
+refused_at TooDeep beginning [] ends = absurd ends
+refused_at TooDeep beginning (t ∷ s) ends = bad_refused deep TooDeep (λ t ms p. refl) beginning t s ends
+refused_at Frequency beginning [] ends = absurd ends
+refused_at Frequency beginning (t ∷ s) ends = bad_refused wrong Frequency (λ t ms p. refl) beginning t s ends
 
 -- Where the tokens are refused so, that is what is answered: so there is one refusal at most, and none of a text.
 pub refused : (ts : List Token) (why : Reason) (rest : List Token) → Refuses ts why rest → outcome_of ts ≡ Err (why, rest)

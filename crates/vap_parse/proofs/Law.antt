@@ -73,9 +73,9 @@ module _ {A : Type 0} (pick : Token → Option A) (mark : ℕ → Token → Mark
 
   picked_meets : (o : ℕ) (t : Token) (s : List Token) (c : Option A) (m : Mark) → pick t ≡ c → mark o t ≡ m → Meets (Picks pick mark left o) [] (t ∷ s) (picked c m t s (left o))
   picked_meets o t s None m is marks = refuses (Picks pick mark left o) (t ∷ s) ((t0, mark o t0) ∷ [], x0, left o, picks o t0 x0 is0)
-  picked_meets o t s (Some x) fine is marks = record { front = t ∷ []; parts = refl; spelled = subst (λ (m : Mark). Picks pick mark left o ((t, m) ∷ []) x (left o)) marks (picks o t x is) }
+  picked_meets o t s (Some x) fine is marks = record { beginning = t ∷ []; parts = refl; spelled = subst (λ (m : Mark). Picks pick mark left o ((t, m) ∷ []) x (left o)) marks (picks o t x is) }
   picked_meets o t s (Some x) deep is marks = record {
-    front = [];
+    beginning = [];
     parts = refl;
     more = (t, deep) ∷ [];
     value = x;
@@ -84,7 +84,7 @@ module _ {A : Type 0} (pick : Token → Option A) (mark : ℕ → Token → Mark
     spelled = subst (λ (m : Mark). Picks pick mark left o ((t, m) ∷ []) x (left o)) marks (picks o t x is);
   }
   picked_meets o t s (Some x) wrong is marks = record {
-    front = [];
+    beginning = [];
     parts = refl;
     more = (t, wrong) ∷ [];
     value = x;
@@ -135,7 +135,7 @@ module _ {A : Type 0} (x : A) where
     some = λ o. ([], x, o, gives o);
     heads = gives_heads;
     complete = λ o n ms y s rest ends. gives_complete o n ms y s rest;
-    meets = λ o ts. record { front = []; parts = refl; spelled = gives o };
+    meets = λ o ts. record { beginning = []; parts = refl; spelled = gives o };
     local = λ z z' n r r' a. both_ok x n r r' a;
   }
 
@@ -194,7 +194,7 @@ module _ {A B : Type 0} (p : Parser A) (P : Form A) (q : A → Parser B) (Q : A 
   then_meets : (o : ℕ) (ts : List Token) → Meets (Then P Q o) [] ts ((p >>= q) (input ts o))
   then_meets o ts = step (P o) (Then P Q o) ts (p (input ts o)) q (one.meets o ts)
       (λ ms x n s. let e = (two x).some n in (e.0, e.1, e.2, then_ o n e.2 ms e.0 x e.1 s e.3))
-      (λ front x j s. prefixed (Q x j.operators) (Then P Q o) front j.rest (q x j) (λ ms y n u. then_ o j.operators n (fines front) ms x y s u) ((two x).meets j.operators j.rest))
+      (λ beginning x j s. prefixed (Q x j.operators) (Then P Q o) beginning j.rest (q x j) (λ ms y n u. then_ o j.operators n (fines beginning) ms x y s u) ((two x).meets j.operators j.rest))
 
   then_some : (o : ℕ) → Example (Then P Q o)
   then_some o = let e = one.some o in let f = (two e.1).some e.2 in (e.0 ++ f.0, f.1, f.2, then_ o e.2 f.2 e.0 f.0 e.1 f.1 e.3 f.3)

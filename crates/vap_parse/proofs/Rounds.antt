@@ -19,16 +19,16 @@ Shorter n (Ok p) = length p.1.rest < n
 Shorter n (Err e) = length e.1 ≤ n
 
 module _ {A : Type 0} (p : Parser A) (T : Form A) (first goes : Kind → Bool) (law : Law p T first goes false) where
-  taken : (o : ℕ) (front ts rest : List Token) (x : A) (n : ℕ) → ts ≡ front ++ rest → T o (fines front) x n → length rest < length ts
+  taken : (o : ℕ) (beginning ts rest : List Token) (x : A) (n : ℕ) → ts ≡ beginning ++ rest → T o (fines beginning) x n → length rest < length ts
   taken o [] ts rest x n parts s = let none_ : false ≡ true = law.heads o n [] x s in absurd cc
-  taken o (t ∷ front) ts rest x n parts s = omega (arith, ap length parts, length-append front rest)
+  taken o (t ∷ beginning) ts rest x n parts s = omega (arith, ap length parts, length-append beginning rest)
 
-  no_longer : (front ts rest : List Token) → ts ≡ front ++ rest → length rest ≤ length ts
-  no_longer front ts rest parts = omega (arith, ap length parts, length-append front rest)
+  no_longer : (beginning ts rest : List Token) → ts ≡ beginning ++ rest → length rest ≤ length ts
+  no_longer beginning ts rest parts = omega (arith, ap length parts, length-append beginning rest)
 
   shorter_by : (o : ℕ) (ts : List Token) (out : Outcome A) → Meets (T o) [] ts out → Shorter (length ts) out
-  shorter_by o ts (Ok r) m = taken o m.front ts r.1.rest r.0 r.1.operators m.parts m.spelled
-  shorter_by o ts (Err e) m = no_longer m.front ts e.1 m.parts
+  shorter_by o ts (Ok r) m = taken o m.beginning ts r.1.rest r.0 r.1.operators m.parts m.spelled
+  shorter_by o ts (Err e) m = no_longer m.beginning ts e.1 m.parts
 
 pub shorter : {A : Type 0} {p : Parser A} {T : Form A} {first goes : Kind → Bool} → Law p T first goes false → (i : Input) → Shorter (length i.rest) (p i)
 shorter {p = p} {T = T} {first = first} {goes = goes} law i = shorter_by p T first goes law i.operators i.rest (p i) (law.meets i.operators i.rest)
@@ -65,14 +65,14 @@ module _ {A : Type 0} (test : Kind → Bool) (q : A → Parser A) (Q : A → For
   -- what is read is spelled so
   repeat_meets : (n : ℕ) (x : A) (o : ℕ) (ts : List Token) → Meets (Many Q x o) [] ts (repeat test q n x (input ts o))
   unfolding repeat
-  repeat_meets zero x o ts = record { front = []; parts = refl; spelled = none x o }
+  repeat_meets zero x o ts = record { beginning = []; parts = refl; spelled = none x o }
   repeat_meets (suc n) x o ts = by (test (kind (input ts o))) (repeat_meets n) where
     by : (b : Bool) → ((y : A) (m : ℕ) (s : List Token) → Meets (Many Q y m) [] s (repeat test q n y (input s m)))
         → Meets (Many Q x o) [] ts (if b then and_then (q x (input ts o)) (repeat test q n) else Ok (x, input ts o))
-    by false deeper = record { front = []; parts = refl; spelled = none x o }
+    by false deeper = record { beginning = []; parts = refl; spelled = none x o }
     by true deeper = step (Q x o) (Many Q x o) ts (q x (input ts o)) (repeat test q n) ((one x).meets o ts)
         (λ ms y m s. ([], y, m, round x y y o m m ms [] s (none y m)))
-        (λ front y j s. prefixed (Many Q y j.operators) (Many Q x o) front j.rest (repeat test q n y j) (λ ms z m r. round x y z o j.operators m (fines front) ms s r) (deeper y j.operators j.rest))
+        (λ beginning y j s. prefixed (Many Q y j.operators) (Many Q x o) beginning j.rest (repeat test q n y j) (λ ms z m r. round x y z o j.operators m (fines beginning) ms s r) (deeper y j.operators j.rest))
 
   meets_many : (x : A) (o : ℕ) (ts : List Token) → Meets (Many Q x o) [] ts (many test q x (input ts o))
   unfolding many
@@ -81,8 +81,8 @@ module _ {A : Type 0} (test : Kind → Bool) (q : A → Parser A) (Q : A → For
   never_repeat : (n : ℕ) (x : A) → NeverGrows (repeat test q n x)
   never_repeat n x i = within (Many Q x i.operators) i.rest (repeat test q n x i) (repeat_meets n x i.operators i.rest) where
     within : (T : List Marked → A → ℕ → Type 0) (ts : List Token) (out : Outcome A) → Meets T [] ts out → Within (length ts) out
-    within T ts (Ok p) m = omega (arith, ap length m.parts, length-append m.front p.1.rest)
-    within T ts (Err e) m = omega (arith, ap length m.parts, length-append m.front e.1)
+    within T ts (Ok p) m = omega (arith, ap length m.parts, length-append m.beginning p.1.rest)
+    within T ts (Err e) m = omega (arith, ap length m.parts, length-append m.beginning e.1)
 
   repeat_local : (n n' : ℕ) (x : A) (z z' : List Token) (o : ℕ) (r r' : List Token) → length r < n → length r' < n' → Alike z z' r r' → Agree z z' (repeat test q n x (input r o)) (repeat test q n' x (input r' o))
   unfolding repeat kind

@@ -55,7 +55,7 @@ module _ (o : ℕ) where
 
   skip_meets_by : (kd : Kind) (depth : ℕ) (t : Token) (s : List Token) → kind_of t.kind ≡ kd → ((depth : ℕ) → Meets (Closing depth) [] s (skip s depth o)) → Meets (Closing depth) [] (t ∷ s) (skip_by kd depth (λ m. skip s m o) (Ok (tt, input s o)))
   skip_meets_by k.Open depth t s is deeper = on depth (depth + 1) t s (skip s (depth + 1) o) (λ ms r. opened depth t ms is r) (deeper (depth + 1))
-  skip_meets_by k.Close zero t s is deeper = record { front = t ∷ []; parts = refl; spelled = (last t is, refl) }
+  skip_meets_by k.Close zero t s is deeper = record { beginning = t ∷ []; parts = refl; spelled = (last t is, refl) }
   skip_meets_by k.Close (suc depth) t s is deeper = on (suc depth) depth t s (skip s depth o) (λ ms r. shut depth t ms is r) (deeper depth)
   skip_meets_by k.Nothing depth t s is deeper = another k.Nothing depth t s is refl (deeper depth)
   skip_meets_by kd depth t s is deeper = another kd depth t s is refl (deeper depth)

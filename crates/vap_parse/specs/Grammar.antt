@@ -529,19 +529,19 @@ Text ms p = (n : ℕ) × program max_operators ms p n
 abbrev pub Accepts : List Token → Program → Type 0
 Accepts ts p = Text (fines ts) p
 
--- these tokens with these marks are a front of a text
+-- these tokens with these marks are a beginning of a text
 abbrev pub Begins : List Marked → Type 0
 Begins ms = (more : List Marked) × (p : Program) × Text (ms ++ more) p
 
--- The parse of `front ++ rest` ends at the first token of the rest, or behind the last one.
+-- The parse of `beginning ++ rest` ends at the first token of the rest, or behind the last one.
 abbrev pub Ends : Reason → List Token → List Token → Type 0
-Ends Unexpected front [] = Begins (fines front) × ((p : Program) → Accepts front p → ⊥)
-Ends Unexpected front (t ∷ s) = Begins (fines front) × ((mark : Mark) → Begins (fines front ++ (t, mark) ∷ []) → ⊥)
-Ends Frequency front [] = ⊥
-Ends Frequency front (t ∷ s) = Begins (fines front ++ (t, wrong) ∷ [])
-Ends TooDeep front [] = ⊥
-Ends TooDeep front (t ∷ s) = Begins (fines front ++ (t, deep) ∷ [])
+Ends Unexpected beginning [] = Begins (fines beginning) × ((p : Program) → Accepts beginning p → ⊥)
+Ends Unexpected beginning (t ∷ s) = Begins (fines beginning) × ((mark : Mark) → Begins (fines beginning ++ (t, mark) ∷ []) → ⊥)
+Ends Frequency beginning [] = ⊥
+Ends Frequency beginning (t ∷ s) = Begins (fines beginning ++ (t, wrong) ∷ [])
+Ends TooDeep beginning [] = ⊥
+Ends TooDeep beginning (t ∷ s) = Begins (fines beginning ++ (t, deep) ∷ [])
 
--- the tokens behind this front are refused for this reason, from the first token of the rest on
+-- the tokens behind this beginning are refused for this reason, from the first token of the rest on
 abbrev pub Refuses : List Token → Reason → List Token → Type 0
-Refuses ts why rest = (front : List Token) × (ts ≡ front ++ rest) × Ends why front rest
+Refuses ts why rest = (beginning : List Token) × (ts ≡ beginning ++ rest) × Ends why beginning rest

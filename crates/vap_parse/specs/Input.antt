@@ -131,7 +131,7 @@ abbrev pub token_at : {A : Type 0} → (Token → Option A) → (ℕ → Token �
 token_at pick mark left [] n = Err (Unexpected, [])
 token_at pick mark left (t ∷ s) n = picked (pick t) (mark n t) t s (left n)
 
--- one token, as it stands at the front of an input
+-- one token, as it stands at the beginning of an input
 unfoldable pub token : {A : Type 0} → (Token → Option A) → (ℕ → Token → Mark) → (ℕ → ℕ) → Parser A
 token pick mark left = λ i. token_at pick mark left i.rest i.operators
 
