@@ -25,8 +25,8 @@ pub fn end_board(board: Board, mut feeders: Vec<FeederPass>, tick: TickPass) -> 
         let own = give_back(&board, &mut seat, feeder);
         counts.set(place, own);
     }
-    close(board, seat);
-    rest(detectors, &totals, &counts)
+    apply_rule(board, seat);
+    unread_counts(detectors, &totals, &counts)
 }
 
 // The tick's seat takes a feeder's seat in. The feeder's counts.
@@ -54,7 +54,7 @@ fn give_back(board: &Board, seat: &mut Seat<(), View>, feeder: FeederPass) -> (u
 }
 
 // The rule, at the last state.
-fn close(board: Board, seat: Seat<(), View>)
+fn apply_rule(board: Board, seat: Seat<(), View>)
     requires { seat.table_id ≡ board.table }
     ensures { WithinCounts board.detectors seat.me.0 }
 {
@@ -66,13 +66,13 @@ fn close(board: Board, seat: Seat<(), View>)
 }
 
 // The counts that have not been read.
-fn rest(detectors: u8, totals: &Totals, counts: &Frame) -> Frame
+fn unread_counts(detectors: u8, totals: &Totals, counts: &Frame) -> Frame
     requires room { detectors ≤ 64 }
     requires read { (d : ℕ) → d < detectors →
         ((slice_index_or totals.now d (0, 0)).0 ≤ (slice_index_or counts.now d (0, 0)).0)
         × ((slice_index_or totals.now d (0, 0)).1 ≤ (slice_index_or counts.now d (0, 0)).1) }
     ensures size { length result ≡ 64 }
-    ensures rest { (d : ℕ) → d < detectors →
+    ensures unread { (d : ℕ) → d < detectors →
         ((slice_index_or result d (0, 0)).0 + (slice_index_or totals.now d (0, 0)).0 ≡ (slice_index_or counts.now d (0, 0)).0)
         × ((slice_index_or result d (0, 0)).1 + (slice_index_or totals.now d (0, 0)).1 ≡ (slice_index_or counts.now d (0, 0)).1) }
     ensures absent { (d : ℕ) → detectors ≤ d → slice_index_or result d (0, 0) ≡ (0, 0) }

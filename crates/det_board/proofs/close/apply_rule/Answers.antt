@@ -1,7 +1,7 @@
 use Rattle.std.proofs.Common.{ap, ◌∙◌, subst, arith}
 use Rattle.det_board.specs.Passes.{WithinCounts}
 use Rattle.det_board.proofs.Closing.{within_counts}
-use Rattle.det_board.proofs.close.close.Goals as goal
+use Rattle.det_board.proofs.close.apply_rule.Goals as goal
 
 pub free-requires : goal.free-requires
 free-requires c = λ k lt. let n = c.close_with.ensures.counts in let z = c.board.invariant.4 in absurd (omega (arith, n.1))
