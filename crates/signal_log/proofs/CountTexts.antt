@@ -5,7 +5,7 @@ use Rattle.std.proofs.lemmas.Fmt.{decimal_injective}
 use Rattle.std.proofs.lemmas.List.{append-nil}
 use Rattle.std.proofs.lemmas.Bool.{ne_eqb}
 use Rattle.signal_log.specs.Laws.{SmallCounts}
-use Rattle.signal_log.specs.Log.{listed, parted, counted, counted_from, count_text}
+use Rattle.signal_log.specs.Log.{spaced_items, or_dash, count_entry, counted_from, count_text}
 use Rattle.signal_log.proofs.Without.{Without, NoDigit, without-append, without_along, head_of, cut_once, decimal_without}
 
 -- a detector and its counts can be printed
@@ -68,17 +68,17 @@ colon_dash e = absurd (omega arith)
 
 -- items after an item
 items_injective : (c d : ℕ × ℕ × ℕ) (cs ds : List (ℕ × ℕ × ℕ)) → AllSmall (c ∷ cs) → AllSmall (d ∷ ds) →
-    count_text c ++ listed true (map count_text cs) ≡ count_text d ++ listed true (map count_text ds) → c ∷ cs ≡ d ∷ ds
+    count_text c ++ spaced_items true (map count_text cs) ≡ count_text d ++ spaced_items true (map count_text ds) → c ∷ cs ≡ d ∷ ds
 items_injective c d [] [] p q e =
     ap (λ x. x ∷ []) (count_text_injective c d p.0 q.0 (sym (append-nil (count_text c)) ∙ e ∙ append-nil (count_text d)))
 items_injective c d [] (f ∷ ds) p q e =
-    absurd (without-no 32 (count_text d) (count_text f ++ listed true (map count_text ds))
+    absurd (without-no 32 (count_text d) (count_text f ++ spaced_items true (map count_text ds))
     (without_along 32 (count_text c) _ (count_text_without 32 c space_no_digit colon_space) (sym (append-nil (count_text c)) ∙ e)))
 items_injective c d (g ∷ cs) [] p q e =
-    absurd (without-no 32 (count_text c) (count_text g ++ listed true (map count_text cs))
+    absurd (without-no 32 (count_text c) (count_text g ++ spaced_items true (map count_text cs))
     (without_along 32 (count_text d) _ (count_text_without 32 d space_no_digit colon_space) (sym (append-nil (count_text d)) ∙ sym e)))
 items_injective c d (g ∷ cs) (f ∷ ds) p q e =
-    let cut = cut_once 32 (count_text c) (count_text d) (count_text g ++ listed true (map count_text cs)) (count_text f ++ listed true (map count_text ds))
+    let cut = cut_once 32 (count_text c) (count_text d) (count_text g ++ spaced_items true (map count_text cs)) (count_text f ++ spaced_items true (map count_text ds))
     (count_text_without 32 c space_no_digit colon_space) (count_text_without 32 d space_no_digit colon_space) e in
     ap (λ x. x ∷ g ∷ cs) (count_text_injective c d p.0 q.0 cut.0) ∙ ap (λ l. d ∷ l) (items_injective g f cs ds p.1 q.1 cut.1)
 
@@ -87,24 +87,24 @@ no_dash : (xs ys : List ℕ) → Without 45 xs → xs ++ 58 ∷ ys ≡ 45 ∷ []
 no_dash [] ys w e = colon_dash (head_of 58 45 ys [] e)
 no_dash (x ∷ xs) ys w e = w.0 (head_of x 45 (xs ++ 58 ∷ ys) [] e)
 
-no_dash_items : (c : ℕ × ℕ × ℕ) (cs : List (ℕ × ℕ × ℕ)) → parted (map count_text (c ∷ cs)) ≡ 45 ∷ [] → ⊥
+no_dash_items : (c : ℕ × ℕ × ℕ) (cs : List (ℕ × ℕ × ℕ)) → or_dash (map count_text (c ∷ cs)) ≡ 45 ∷ [] → ⊥
 no_dash_items c cs e =
-    no_dash (decimal c.0) ((decimal c.1 ++ 58 ∷ decimal c.2) ++ listed true (map count_text cs)) (decimal_without 45 c.0 dash_no_digit)
-    (sym (append_assoc (decimal c.0) (58 ∷ (decimal c.1 ++ 58 ∷ decimal c.2)) (listed true (map count_text cs)))
-    ∙ ap (λ l. l ++ listed true (map count_text cs)) (sym (count_shape c)) ∙ e)
+    no_dash (decimal c.0) ((decimal c.1 ++ 58 ∷ decimal c.2) ++ spaced_items true (map count_text cs)) (decimal_without 45 c.0 dash_no_digit)
+    (sym (append_assoc (decimal c.0) (58 ∷ (decimal c.1 ++ 58 ∷ decimal c.2)) (spaced_items true (map count_text cs)))
+    ∙ ap (λ l. l ++ spaced_items true (map count_text cs)) (sym (count_shape c)) ∙ e)
 
-pub parted_injective : (cs ds : List (ℕ × ℕ × ℕ)) → AllSmall cs → AllSmall ds → parted (map count_text cs) ≡ parted (map count_text ds) → cs ≡ ds
-parted_injective [] [] p q e = refl
-parted_injective [] (d ∷ ds) p q e = absurd (no_dash_items d ds (sym e))
-parted_injective (c ∷ cs) [] p q e = absurd (no_dash_items c cs e)
-parted_injective (c ∷ cs) (d ∷ ds) p q e = items_injective c d cs ds p q e
+pub or_dash_injective : (cs ds : List (ℕ × ℕ × ℕ)) → AllSmall cs → AllSmall ds → or_dash (map count_text cs) ≡ or_dash (map count_text ds) → cs ≡ ds
+or_dash_injective [] [] p q e = refl
+or_dash_injective [] (d ∷ ds) p q e = absurd (no_dash_items d ds (sym e))
+or_dash_injective (c ∷ cs) [] p q e = absurd (no_dash_items c cs e)
+or_dash_injective (c ∷ cs) (d ∷ ds) p q e = items_injective c d cs ds p q e
 
 -- a pair of counts is left out, or stands with its detector
-by_counted : (P : List (ℕ × ℕ × ℕ) → ℕ × ℕ → Type 0) (d a b : ℕ) → P [] (0, 0) → ((x y : ℕ) → x ≡ a → y ≡ b → P ((d, x, y) ∷ []) (x, y)) → P (counted d (a, b)) (a, b)
-by_counted P d zero zero none some = none
-by_counted P d zero (suc b) none some =
+by_count_entry : (P : List (ℕ × ℕ × ℕ) → ℕ × ℕ → Type 0) (d a b : ℕ) → P [] (0, 0) → ((x y : ℕ) → x ≡ a → y ≡ b → P ((d, x, y) ∷ []) (x, y)) → P (count_entry d (a, b)) (a, b)
+by_count_entry P d zero zero none some = none
+by_count_entry P d zero (suc b) none some =
     subst (λ t. P (if t then [] else (d, 0, suc b) ∷ []) (0, suc b)) (sym (ne_eqb (suc b) 0 (λ e. absurd (omega (arith, e))))) (some zero (suc b) refl refl)
-by_counted P d (suc a) b none some =
+by_count_entry P d (suc a) b none some =
     subst (λ t. P (if t && (b == 0) then [] else (d, suc a, b) ∷ []) (suc a, b)) (sym (ne_eqb (suc a) 0 (λ e. absurd (omega (arith, e))))) (some (suc a) b refl refl)
 
 -- no detector is below k
@@ -116,7 +116,7 @@ above_from : (j k : ℕ) (cs : List (ℕ × ℕ)) → j ≤ k → Above j (count
 above_from j k [] le = tt
 above_from j k (c ∷ cs) le =
     let rest = above_from j (k + 1) cs (omega (arith, le)) in
-    by_counted (λ l x. Above j (l ++ counted_from (k + 1) cs)) k c.0 c.1 rest (λ x y is is'. (le, rest))
+    by_count_entry (λ l x. Above j (l ++ counted_from (k + 1) cs)) k c.0 c.1 rest (λ x y is is'. (le, rest))
 
 not_above : (k : ℕ) (c : ℕ × ℕ × ℕ) (cs ds : List (ℕ × ℕ × ℕ)) → c.0 ≡ k → Above (k + 1) ds → ds ≡ c ∷ cs → ⊥
 not_above k c cs ds is above e =
@@ -138,11 +138,11 @@ counted_from_injective k (c ∷ cs) (d ∷ ds) same e =
     let after = counted_from (k + 1) cs in
     let after' = counted_from (k + 1) ds in
     let go : after ≡ after' → cs ≡ ds = counted_from_injective (k + 1) cs ds (omega (arith, same)) in
-    by_counted (λ l x. l ++ after ≡ counted k d ++ after' → x ∷ cs ≡ d ∷ ds) k c.0 c.1
-    (by_counted (λ l x. after ≡ l ++ after' → (0, 0) ∷ cs ≡ x ∷ ds) k d.0 d.1
+    by_count_entry (λ l x. l ++ after ≡ count_entry k d ++ after' → x ∷ cs ≡ d ∷ ds) k c.0 c.1
+    (by_count_entry (λ l x. after ≡ l ++ after' → (0, 0) ∷ cs ≡ x ∷ ds) k d.0 d.1
     (λ f. ap (λ l. (0, 0) ∷ l) (go f))
     (λ x y is is' f. absurd (not_above k (k, x, y) after' after refl (above_from (k + 1) (k + 1) cs (omega arith)) f)))
-    (λ a b at at'. by_counted (λ l x. (k, a, b) ∷ after ≡ l ++ after' → (a, b) ∷ cs ≡ x ∷ ds) k d.0 d.1
+    (λ a b at at'. by_count_entry (λ l x. (k, a, b) ∷ after ≡ l ++ after' → (a, b) ∷ cs ≡ x ∷ ds) k d.0 d.1
     (λ f. absurd (not_above k (k, a, b) after after' refl (above_from (k + 1) (k + 1) ds (omega arith)) (sym f)))
     (λ x y is is' f. ap (λ i. (i.1, i.2) ∷ cs) (item-head (k, a, b) (k, x, y) after after' f) ∙ ap (λ l. (x, y) ∷ l) (go (item-tail (k, a, b) (k, x, y) after after' f))))
     e
@@ -151,12 +151,12 @@ counted_small : (k : ℕ) (cs : List (ℕ × ℕ)) → k + length cs < 2 ^ 64 �
 counted_small k [] few small = tt
 counted_small k (c ∷ cs) few small =
     let rest = counted_small (k + 1) cs (omega (arith, few)) small.1 in
-    by_counted (λ l x. AllSmall (l ++ counted_from (k + 1) cs)) k c.0 c.1 rest
+    by_count_entry (λ l x. AllSmall (l ++ counted_from (k + 1) cs)) k c.0 c.1 rest
     (λ x y is is'. ((omega (arith, few), subst (λ n. n < 2 ^ 64) (sym is) small.0.0, subst (λ n. n < 2 ^ 64) (sym is') small.0.1), rest))
 
 -- the field of the counts determines them
 pub counts_injective : (cs ds : List (ℕ × ℕ)) → length cs ≡ 64 → length ds ≡ 64 → SmallCounts cs → SmallCounts ds →
-    parted (map count_text (counted_from 1 cs)) ≡ parted (map count_text (counted_from 1 ds)) → cs ≡ ds
+    or_dash (map count_text (counted_from 1 cs)) ≡ or_dash (map count_text (counted_from 1 ds)) → cs ≡ ds
 counts_injective cs ds is is' p q e =
     counted_from_injective 1 cs ds (is ∙ sym is')
-    (parted_injective (counted_from 1 cs) (counted_from 1 ds) (counted_small 1 cs (omega (arith, is)) p) (counted_small 1 ds (omega (arith, is')) q) e)
+    (or_dash_injective (counted_from 1 cs) (counted_from 1 ds) (counted_small 1 cs (omega (arith, is)) p) (counted_small 1 ds (omega (arith, is')) q) e)

@@ -21,7 +21,7 @@ use Rattle.sig_types.specs.declared.record.Record.{Record}
 use Rattle.sig_types.specs.declared.numbers.StagePlace.{StagePlace}
 use Rattle.sig_types.specs.declared.numbers.StagePlace.TheVariants.{NoPlan, Stage, Inter}
 use Rattle.sig_types.specs.LogForm.{letter, spaced}
-use Rattle.signal_log.specs.Log.{rule_name, fault_name, place_text, name_of, stage_refusal_text, other_text, other_of, turn_text, fault_text, gap, listed, parted, count_text, refused_texts}
+use Rattle.signal_log.specs.Log.{rule_name, fault_name, place_text, name_of, stage_refusal_text, other_text, other_of, turn_text, fault_text, gap, spaced_items, or_dash, count_text, refused_texts}
 use Rattle.signal_log.proofs.Plain.{Plain, plain-append, decimal_plain, plain_by_test}
 
 rule_plain : (r : Rule) → Plain (rule_name r)
@@ -74,14 +74,14 @@ pub all_plain-append : (xs ys : List (List ℕ)) → AllPlain xs → AllPlain ys
 all_plain-append [] ys p q = q
 all_plain-append (x ∷ xs) ys p q = (p.0, all_plain-append xs ys p.1 q)
 
-listed_plain : (xs : List (List ℕ)) → AllPlain xs → Plain (listed true xs)
-listed_plain [] p = tt
-listed_plain (x ∷ xs) p =
-    plain-append (gap true ++ x) (listed true xs) (plain-append (gap true) x (plain_by_test (gap true) refl) p.0) (listed_plain xs p.1)
+spaced_items_plain : (xs : List (List ℕ)) → AllPlain xs → Plain (spaced_items true xs)
+spaced_items_plain [] p = tt
+spaced_items_plain (x ∷ xs) p =
+    plain-append (gap true ++ x) (spaced_items true xs) (plain-append (gap true) x (plain_by_test (gap true) refl) p.0) (spaced_items_plain xs p.1)
 
-pub parted_plain : (xs : List (List ℕ)) → AllPlain xs → Plain (parted xs)
-parted_plain [] p = plain_by_test (codes "-") refl
-parted_plain (x ∷ xs) p = plain-append x (listed true xs) p.0 (listed_plain xs p.1)
+pub or_dash_plain : (xs : List (List ℕ)) → AllPlain xs → Plain (or_dash xs)
+or_dash_plain [] p = plain_by_test (codes "-") refl
+or_dash_plain (x ∷ xs) p = plain-append x (spaced_items true xs) p.0 (spaced_items_plain xs p.1)
 
 count_plain : (c : ℕ × ℕ × ℕ) → Plain (count_text c)
 count_plain c =
@@ -164,7 +164,7 @@ spaced_plain (n ∷ ns) t =
     let both = and_parts (is_name n) (are_names ns) t in
     plain-append (spaced n) (flat_map spaced ns) ((omega arith, omega arith), name_plain n both.0) (spaced_plain ns both.1)
 
-pub refused_plain : (names : List (List ℕ)) (r : Record) → are_names names ≡ true → Plain (parted (refused_texts names r.stages r.turns))
+pub refused_plain : (names : List (List ℕ)) (r : Record) → are_names names ≡ true → Plain (or_dash (refused_texts names r.stages r.turns))
 refused_plain names r named =
-    parted_plain (refused_texts names r.stages r.turns)
+    or_dash_plain (refused_texts names r.stages r.turns)
     (all_plain-append (map stage_refusal_text r.stages) (map (turn_text names) r.turns) (stages_plain r.stages) (turns_plain names r.turns named))

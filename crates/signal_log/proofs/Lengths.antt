@@ -19,7 +19,7 @@ use Rattle.sig_types.specs.declared.numbers.GroupNo.{GroupNo}
 use Rattle.sig_types.specs.declared.refused.Fault.{Fault}
 use Rattle.sig_types.specs.declared.numbers.StagePlace.{StagePlace}
 use Rattle.sig_types.specs.declared.numbers.StagePlace.TheVariants.{NoPlan, Stage, Inter}
-use Rattle.signal_log.specs.Log.{rule_name, fault_name, place_text, name_of, stage_refusal_text, other_text, other_of, turn_text, refused_texts, fault_text, gap, listed, parted, count_text, counted, counted_from}
+use Rattle.signal_log.specs.Log.{rule_name, fault_name, place_text, name_of, stage_refusal_text, other_text, other_of, turn_text, refused_texts, fault_text, gap, spaced_items, or_dash, count_text, count_entry, counted_from}
 use Rattle.signal_log.specs.Laws.{HeaderIsShort, LinesAreShort}
 
 -- ---- numbers
@@ -98,14 +98,14 @@ gap_short : (more : Bool) → length (gap more) ≤ 1
 gap_short true = omega arith
 gap_short false = omega arith
 
-listed_short : (more : Bool) (xs : List (List ℕ)) → length (listed more xs) ≤ total xs
-listed_short more [] = omega arith
-listed_short more (x ∷ xs) =
-    omega (arith, length-append (gap more ++ x) (listed true xs), length-append (gap more) x, gap_short more, listed_short true xs)
+spaced_items_short : (more : Bool) (xs : List (List ℕ)) → length (spaced_items more xs) ≤ total xs
+spaced_items_short more [] = omega arith
+spaced_items_short more (x ∷ xs) =
+    omega (arith, length-append (gap more ++ x) (spaced_items true xs), length-append (gap more) x, gap_short more, spaced_items_short true xs)
 
-parted_short : (xs : List (List ℕ)) → length (parted xs) ≤ total xs + 1
-parted_short [] = omega arith
-parted_short (x ∷ xs) = omega (arith, listed_short false (x ∷ xs))
+or_dash_short : (xs : List (List ℕ)) → length (or_dash xs) ≤ total xs + 1
+or_dash_short [] = omega arith
+or_dash_short (x ∷ xs) = omega (arith, spaced_items_short false (x ∷ xs))
 
 either_few : {A : Type 0} (t : Bool) (x : A) → length (if t then [] else x ∷ []) ≤ 1
 either_few true x = omega arith
@@ -114,7 +114,7 @@ either_few false x = omega arith
 counted_few : (d : ℕ) (cs : List (ℕ × ℕ)) → length (counted_from d cs) ≤ length cs
 counted_few d [] = omega arith
 counted_few d (c ∷ cs) =
-    omega (arith, length-append (counted d c) (counted_from (d + 1) cs), either_few {A = ℕ × ℕ × ℕ} ((c.0 == 0) && (c.1 == 0)) (d, c.0, c.1), counted_few (d + 1) cs)
+    omega (arith, length-append (count_entry d c) (counted_from (d + 1) cs), either_few {A = ℕ × ℕ × ℕ} ((c.0 == 0) && (c.1 == 0)) (d, c.0, c.1), counted_few (d + 1) cs)
 
 count_short : (c : ℕ × ℕ × ℕ) → length (count_text c) ≤ 194
 count_short c =
@@ -186,13 +186,13 @@ lines_are_short names r named groups is few =
     let d = decimal r.second.0 in
     let p = place_text r.place in
     let l = map letter r.picture in
-    let c = parted (map count_text (counted_from 1 r.frame)) in
-    let u = parted (refused_texts names r.stages r.turns) in
+    let c = or_dash (map count_text (counted_from 1 r.frame)) in
+    let u = or_dash (refused_texts names r.stages r.turns) in
     let f = fault_text r.fault in
-    let counts : length c ≤ 12481 = omega (arith, parted_short (map count_text (counted_from 1 r.frame)), counts_short (counted_from 1 r.frame), counted_few 1 r.frame, is.frame) in
+    let counts : length c ≤ 12481 = omega (arith, or_dash_short (map count_text (counted_from 1 r.frame)), counts_short (counted_from 1 r.frame), counted_few 1 r.frame, is.frame) in
     let refused : length u ≤ 215057 = omega (
       arith,
-      parted_short (refused_texts names r.stages r.turns),
+      or_dash_short (refused_texts names r.stages r.turns),
       total-append (map stage_refusal_text r.stages) (map (turn_text names) r.turns),
       stages_short r.stages few.stages,
       turns_short names r.turns named,

@@ -1,6 +1,6 @@
 pub mod CountTexts
 pub mod FieldTexts
-pub mod Fronts
+pub mod Beginnings
 pub mod Lengths
 pub mod Lists
 pub mod LogLaws

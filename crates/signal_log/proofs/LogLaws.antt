@@ -5,11 +5,11 @@ use Rattle.pua_model.specs.Plan.{are_names}
 use Rattle.sig_types.specs.declared.record.Record.{Record}
 use Rattle.signal_log.specs.Laws.{ArePrintable, frames_of, LogCounts, LogSpells}
 use Rattle.sig_types.specs.LogForm.{letter}
-use Rattle.signal_log.specs.Log.{place_text, refused_texts, fault_text, record_text, records_text, header_text, log_text, parted, counted_from, count_text}
+use Rattle.signal_log.specs.Log.{place_text, refused_texts, fault_text, record_text, records_text, header_text, log_text, or_dash, counted_from, count_text}
 use Rattle.signal_log.proofs.Without.{Without, tail_of, cut_once}
 use Rattle.signal_log.proofs.CountTexts.{counts_injective}
 use Rattle.signal_log.proofs.Plain.{plain_without, no_bar, no_feed, decimal_plain}
-use Rattle.signal_log.proofs.FieldTexts.{letters_plain, place_plain, parted_plain, counts_plain, refused_plain, fault_plain}
+use Rattle.signal_log.proofs.FieldTexts.{letters_plain, place_plain, or_dash_plain, counts_plain, refused_plain, fault_plain}
 
 -- six fields and what follows them, one after the other
 abbrev six : List ℕ → List ℕ → List ℕ → List ℕ → List ℕ → List ℕ → List ℕ → List ℕ
@@ -68,10 +68,10 @@ cut_six a b c d e f rest a' b' c' d' e' f' rest' p q is =
 
 -- the fields of a record
 abbrev counts_of : Record → List ℕ
-counts_of r = parted (map count_text (counted_from 1 r.frame))
+counts_of r = or_dash (map count_text (counted_from 1 r.frame))
 
 abbrev refused_of : List (List ℕ) → Record → List ℕ
-refused_of names r = parted (refused_texts names r.stages r.turns)
+refused_of names r = or_dash (refused_texts names r.stages r.turns)
 
 abbrev spread : List (List ℕ) → Record → List ℕ → List ℕ
 spread names r rest = six (decimal r.second.0) (place_text r.place) (map letter r.picture) (counts_of r) (refused_of names r) (fault_text r.fault) rest
@@ -87,7 +87,7 @@ record_cuts names r named = record {
   first = plain_without 124 _ no_bar (decimal_plain r.second.0);
   second = plain_without 124 _ no_bar (place_plain r.place);
   third = plain_without 124 _ no_bar (letters_plain r.picture);
-  fourth = plain_without 124 _ no_bar (parted_plain (map count_text (counted_from 1 r.frame)) (counts_plain (counted_from 1 r.frame)));
+  fourth = plain_without 124 _ no_bar (or_dash_plain (map count_text (counted_from 1 r.frame)) (counts_plain (counted_from 1 r.frame)));
   fifth = plain_without 124 _ no_bar (refused_plain names r named);
   sixth = plain_without 10 _ no_feed (fault_plain r.fault);
 }

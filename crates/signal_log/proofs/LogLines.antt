@@ -10,8 +10,8 @@ use Rattle.sig_types.specs.LogForm.{header_line, letter, spaced}
 use Rattle.sig_types.specs.Text.{fed_lines, lines_of_parts}
 use Rattle.sig_types.specs.declared.record.Record.{Record}
 use Rattle.signal_log.specs.Laws.{Lacks, LinesBegin, LinesHaveNoFeed, LogHasLines}
-use Rattle.signal_log.specs.Log.{place_text, parted, count_text, counted_from, refused_texts, fault_text, header_text, record_line, record_text, records_text, log_text}
-use Rattle.signal_log.proofs.FieldTexts.{letters_plain, place_plain, parted_plain, counts_plain, refused_plain, fault_plain, spaced_plain}
+use Rattle.signal_log.specs.Log.{place_text, or_dash, count_text, counted_from, refused_texts, fault_text, header_text, record_line, record_text, records_text, log_text}
+use Rattle.signal_log.proofs.FieldTexts.{letters_plain, place_plain, or_dash_plain, counts_plain, refused_plain, fault_plain, spaced_plain}
 use Rattle.signal_log.proofs.Plain.{Plain, plain_without, no_bar, no_feed, decimal_plain}
 use Rattle.signal_log.proofs.Without.{Without, without-append, without_by_test}
 
@@ -31,8 +31,8 @@ line_lacks names r named =
     let d = decimal r.second.0 in
     let p = place_text r.place in
     let l = map letter r.picture in
-    let c = parted (map count_text (counted_from 1 r.frame)) in
-    let u = parted (refused_texts names r.stages r.turns) in
+    let c = or_dash (map count_text (counted_from 1 r.frame)) in
+    let u = or_dash (refused_texts names r.stages r.turns) in
     let f = fault_text r.fault in
     without_lacks 10 (record_line names r)
     (without-append 10 (d ++ codes "|" ++ p ++ codes "|" ++ l ++ codes "|" ++ c ++ codes "|" ++ u ++ codes "|") f
@@ -49,7 +49,7 @@ line_lacks names r named =
     bar)
     (unfed l (letters_plain r.picture)))
     bar)
-    (unfed c (parted_plain (map count_text (counted_from 1 r.frame)) (counts_plain (counted_from 1 r.frame)))))
+    (unfed c (or_dash_plain (map count_text (counted_from 1 r.frame)) (counts_plain (counted_from 1 r.frame)))))
     bar)
     (unfed u (refused_plain names r named)))
     bar)
@@ -96,8 +96,8 @@ after h a b c d e = simp append_assoc
 
 pub lines_begin : LinesBegin
 lines_begin names r = record {
-  rest = parted (map count_text (counted_from 1 r.frame)) ++ codes "|" ++ parted (refused_texts names r.stages r.turns) ++ codes "|" ++ fault_text r.fault;
+  rest = or_dash (map count_text (counted_from 1 r.frame)) ++ codes "|" ++ or_dash (refused_texts names r.stages r.turns) ++ codes "|" ++ fault_text r.fault;
   no_bar = without_lacks 124 (place_text r.place) (plain_without 124 (place_text r.place) no_bar (place_plain r.place));
   text = after (decimal r.second.0 ++ codes "|" ++ place_text r.place ++ codes "|" ++ map letter r.picture ++ codes "|")
-      (parted (map count_text (counted_from 1 r.frame))) (codes "|") (parted (refused_texts names r.stages r.turns)) (codes "|") (fault_text r.fault);
+      (or_dash (map count_text (counted_from 1 r.frame))) (codes "|") (or_dash (refused_texts names r.stages r.turns)) (codes "|") (fault_text r.fault);
 }

@@ -1,4 +1,4 @@
-// The front of a record, written byte by byte into the room of a buffer.
+// The beginning of a record, written byte by byte into the room of a buffer.
 //
 // Each piece is written at a place, behind what stands there, and the answer is where it ends.
 ghost use Rattle.std.specs.Prelude.{◌≡◌, ◌+◌, ◌<◌, ◌≤◌, ◌++◌, ◌∷◌, [], codes, length, map, take};
@@ -90,7 +90,7 @@ fn first_letters(aspects: &[Aspect; 64]) -> [u8; 16]
 
 // Writes the letters of the first sixteen places at once, of which `n` are to stay.
 #[inline(always)]
-fn put_first(row: &mut [u8], at: usize, aspects: &[Aspect; 64], n: usize)
+fn put_first_letters(row: &mut [u8], at: usize, aspects: &[Aspect; 64], n: usize)
     requires room { at + 16 ≤ length row.old }
     requires few { n ≤ 16 }
     ensures written { take (at + n) row.new ≡ take at row.old ++ map letter (take n aspects.now) }
@@ -108,7 +108,7 @@ fn put_letters(row: &mut [u8], at: usize, picture: &Picture) -> usize
     ensures length { length row.new ≡ length row.old }
 {
     let first = picture.len().min(16);
-    put_first(row, at, picture.places(), usize::from(first));
+    put_first_letters(row, at, picture.places(), usize::from(first));
     let mut at = at + usize::from(first);
     for place in first..picture.len() {
         at = put_byte(row, at, letter(picture.get(place)));
@@ -163,20 +163,20 @@ impl<'a> Piece for Letters<'a> {
     }
 }
 
-/// The front of a record: the second, the stage and a letter for each group, each before a bar; and all that follows in a
+/// The beginning of a record: the second, the stage and a letter for each group, each before a bar; and all that follows in a
 /// quiet one.
 #[derive(Clone, Copy)]
-pub struct Front<'a> {
+pub struct Beginning<'a> {
     /// The record.
     pub rec: &'a Record,
     /// Whether it has no counts, no refusals and no fault.
     pub quiet: bool,
 }
 
-impl<'a> Piece for Front<'a> {
-    ghost use Rattle.signal_log.specs.Log.{front_text};
+impl<'a> Piece for Beginning<'a> {
+    ghost use Rattle.signal_log.specs.Log.{beginning_text};
 
-    ghost text = { λ f. front_text f.quiet f.rec.now };
+    ghost text = { λ f. beginning_text f.quiet f.rec.now };
 
     fn write(&self, buffer: &mut [u8], at: usize) -> usize {
         let at = put_head(buffer, at, self.rec);

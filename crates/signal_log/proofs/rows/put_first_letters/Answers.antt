@@ -2,7 +2,7 @@ use Rattle.std.proofs.Common.{◌≡◌, ◌∙◌, ◌+◌, ◌++◌, length, t
 use Rattle.std.proofs.lemmas.List.{length-map}
 use Rattle.sig_types.specs.LogForm.{letter}
 use Rattle.signal_log.proofs.Pieces.{first_of_block}
-use Rattle.signal_log.proofs.rows.put_first.Goals as goal
+use Rattle.signal_log.proofs.rows.put_first_letters.Goals as goal
 
 pub returns-clause-written : goal.returns-clause-written
 returns-clause-written c =
