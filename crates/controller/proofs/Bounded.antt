@@ -25,8 +25,8 @@ use Rattle.sig_guard.proofs.LawProofs.{begins_safe, step_keeps_safe}
 use Rattle.controller.specs.Agree.{KeepsFit}
 use Rattle.controller.specs.Bounds.{AreBoundedFrom, GivesFew, IsBoundedAt, RunsAreBounded}
 use Rattle.controller.specs.Cycles.{by_length}
-use Rattle.controller.specs.Past.{Past, Site, next, opening}
-use Rattle.controller.specs.Second.{longer, order_by, pass_of, past_after, record_after, record_of, refusal, refusals_of, refused_by, run_from, wishes_in}
+use Rattle.controller.specs.Past.{Past, Site, next_second, opening}
+use Rattle.controller.specs.Second.{past_after_second, order_by, pass_of, past_after, record_after, record_of, refusal, refusals_of, refused_by, run_from, wishes_in}
 use Rattle.controller.specs.World.{by_group, by_stages, command_in, world_in}
 
 -- ---- refused stage commands
@@ -139,7 +139,7 @@ module _ (Fits : Store → Type 0) (logic : Logic) (site : Site) (keeps : KeepsF
       ∙ more.sizes (length past.history) (omega (arith, length-append past.history (shown ∷ []))) ∙ count
 
   second_bounded : (past : Past) (f : Counts) → Fits past.store → IsHistory site.rules.count past.history → Safe site.rules past.history →
-      IsBoundedAt site (next past) f (record_of logic site past f)
+      IsBoundedAt site (next_second past) f (record_of logic site past f)
   unfolding record_after
   second_bounded past f fits is safe =
       let end : End = pass_of logic site past f in
@@ -152,14 +152,14 @@ module _ (Fits : Store → Type 0) (logic : Logic) (site : Site) (keeps : KeepsF
         second = refl;
         picture = picture_size past (wishes_in site past end) is safe;
         frame_is = refl;
-        commands = omega (arith, few_refused site.plan (next past) past.orders (commands_after end), few.few world (begun past.store) begins);
-        stages = all_named site.plan (next past) past.orders (commands_after end) given;
+        commands = omega (arith, few_refused site.plan (next_second past) past.orders (commands_after end), few.few world (begun past.store) begins);
+        stages = all_named site.plan (next_second past) past.orders (commands_after end) given;
         turns = omega (arith, one_refusal_each site.rules past.history (wishes_in site past end), count);
         named = subst (λ n. All (IsTurn n) (guard_refused site.rules past.history (wishes_in site past end))) count
             (refusals_name_groups site.rules past.history (wishes_in site past end));
       }
 
-  bounded_from : (past : Past) (k : ℕ) (fs : List Counts) → next past ≡ k → Fits past.store → IsHistory site.rules.count past.history → Safe site.rules past.history →
+  bounded_from : (past : Past) (k : ℕ) (fs : List Counts) → next_second past ≡ k → Fits past.store → IsHistory site.rules.count past.history → Safe site.rules past.history →
       AreBoundedFrom site k fs (run_from logic site past fs)
   unfolding past_after
   bounded_from past k [] here fits is safe = tt
@@ -167,10 +167,10 @@ module _ (Fits : Store → Type 0) (logic : Logic) (site : Site) (keeps : KeepsF
       let end : End = pass_of logic site past f in
       let more = step_keeps_safe site.rules past.history (wishes_in site past end) two is safe in
       let world = world_in site.plan past (past.frames ++ f ∷ []) in
-      let size : next (longer logic site past f) ≡ k + 1 =
+      let size : next_second (past_after_second logic site past f) ≡ k + 1 =
       omega (arith, length-append past.history (guard_picture site.rules past.history (wishes_in site past end) ∷ []), here) in (
         subst (λ n. IsBoundedAt site n f (record_of logic site past f)) here (second_bounded past f fits is safe),
-        bounded_from (longer logic site past f) (k + 1) fs size (keeps.goes_on world (begun past.store) (keeps.begins past.store fits)) more.0 more.1,
+        bounded_from (past_after_second logic site past f) (k + 1) fs size (keeps.goes_on world (begun past.store) (keeps.begins past.store fits)) more.0 more.1,
       )
 
 pub runs_are_bounded : (Fits : Store → Type 0) → RunsAreBounded Fits

@@ -17,8 +17,8 @@ use Rattle.sig_guard.specs.Safety.{IsHistory, Safe}
 use Rattle.sig_guard.proofs.EachRefusal.{each_refusal_breaks}
 use Rattle.sig_guard.proofs.LawProofs.{step_keeps_safe, begins_safe}
 use Rattle.sig_guard.proofs.RedAmberRun.{green_after_intergreen}
-use Rattle.controller.specs.Past.{Site, Past, opening, next}
-use Rattle.controller.specs.Second.{refusal, refused_by, order_by, refusals_of, record_after, past_after, record_of, longer, run_from, past_of, pass_of, wishes_in}
+use Rattle.controller.specs.Past.{Site, Past, opening, next_second}
+use Rattle.controller.specs.Second.{refusal, refused_by, order_by, refusals_of, record_after, past_after, record_of, past_after_second, run_from, past_of, pass_of, wishes_in}
 use Rattle.controller.specs.Guarded.{IsRefusedStage, IsGuardedSecond, RunsAreGuarded, pictures_of, past_at, pass_at}
 use Rattle.controller.proofs.Runs.{history_of_run}
 
@@ -55,7 +55,7 @@ unfolding record_after
 second_is_guarded site past frame end is = record {
   picture = refl;
   turns = each_refusal_breaks site.rules past.history (wishes_in site past end) is;
-  stages = stages_refused site.plan (next past) past.orders (commands_after end);
+  stages = stages_refused site.plan (next_second past) past.orders (commands_after end);
 }
 
 -- a run goes on from a safe history to safe histories
@@ -65,7 +65,7 @@ unfolding past_after
 run_keeps logic site past [] two is safe = (is, safe)
 run_keeps logic site past (f ∷ fs) two is safe =
     let next = step_keeps_safe site.rules past.history (wishes_in site past (pass_of logic site past f)) two is safe in
-    run_keeps logic site (longer logic site past f) fs two next.0 next.1
+    run_keeps logic site (past_after_second logic site past f) fs two next.0 next.1
 
 -- a run of the first frames is the front of the run
 run_front : (logic : Logic) (site : Site) (past : Past) (fs : List Counts) (n : ℕ) →
@@ -73,13 +73,13 @@ run_front : (logic : Logic) (site : Site) (past : Past) (fs : List Counts) (n : 
 run_front logic site past [] zero = refl
 run_front logic site past [] (suc n) = refl
 run_front logic site past (f ∷ fs) zero = refl
-run_front logic site past (f ∷ fs) (suc n) = ap (λ rs. record_of logic site past f ∷ rs) (run_front logic site (longer logic site past f) fs n)
+run_front logic site past (f ∷ fs) (suc n) = ap (λ rs. record_of logic site past f ∷ rs) (run_front logic site (past_after_second logic site past f) fs n)
 
 record_at : (logic : Logic) (site : Site) (past : Past) (fs : List Counts) (n : ℕ) (r : Record) → n < length fs →
     record_of logic site (past_of logic site past (take n fs)) (get_or fs n []) ≡ get_or (run_from logic site past fs) n r
 record_at logic site past [] n r lt = absurd (omega arith)
 record_at logic site past (f ∷ fs) zero r lt = refl
-record_at logic site past (f ∷ fs) (suc n) r lt = record_at logic site (longer logic site past f) fs n r (omega arith)
+record_at logic site past (f ∷ fs) (suc n) r lt = record_at logic site (past_after_second logic site past f) fs n r (omega arith)
 
 pub runs_are_guarded : RunsAreGuarded
 runs_are_guarded logic site store frames two count = record {

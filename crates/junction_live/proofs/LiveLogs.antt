@@ -12,7 +12,7 @@ use Rattle.signal_log.proofs.LogLaws.{log_spells}
 use Rattle.controller.specs.declared.controller.Controller.{Controller}
 use Rattle.controller.specs.Controls.{site_of, logic_of}
 use Rattle.controller.specs.Past.{Site, Past, opening}
-use Rattle.controller.specs.Second.{run_from, record_after, longer}
+use Rattle.controller.specs.Second.{run_from, record_after, past_after_second}
 use Rattle.controller.proofs.Guarded.{runs_are_guarded}
 use Rattle.junction_run.specs.Loading.{Playing}
 use Rattle.junction_run.specs.Played.{playing_of}
@@ -30,7 +30,7 @@ use Rattle.junction_live.proofs.Running.{cut_later}
 pub frames_recorded : (logic : Logic) (site : Site) (past : Past) (fs : List Counts) → map (λ r. r.frame) (run_from logic site past fs) ≡ fs
 unfolding record_after
 frames_recorded logic site past [] = refl
-frames_recorded logic site past (f ∷ fs) = ap (λ l. f ∷ l) (frames_recorded logic site (longer logic site past f) fs)
+frames_recorded logic site past (f ∷ fs) = ap (λ l. f ∷ l) (frames_recorded logic site (past_after_second logic site past f) fs)
 
 -- the text of a log tells its frames
 pub tells_frames : (p : Playing) (made : List Counts) → are_names p.site.plan.names ≡ true → ArePrintable made → TellsFrames p.site.plan.names (log_of p made) made

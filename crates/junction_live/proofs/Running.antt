@@ -12,7 +12,7 @@ use Rattle.signal_log.specs.Log.{record_text, records_text}
 use Rattle.controller.specs.declared.controller.Controller.{Controller}
 use Rattle.controller.specs.Controls.{StandsFor, site_of, logic_of, plan_of, last_record}
 use Rattle.controller.specs.Past.{Site, Past}
-use Rattle.controller.specs.Second.{run_from, past_of, record_of, longer}
+use Rattle.controller.specs.Second.{run_from, past_of, record_of, past_after_second}
 use Rattle.controller.proofs.Runs.{run_from-more, past_of-more}
 use Rattle.det_board.specs.Passes.{Ticking, Takes as TickTakes}
 use Rattle.junction_run.proofs.Logs.{plan_is, records_text-append, records_text-one, frames_at}
@@ -80,7 +80,7 @@ running_takes k tick tick' start now old new first later f r t few past none =
 
 -- what `second` promises, said of the start's logic and site
 pub record Made (now after : Controller) (f : Counts) : Type 0 where
-  pub stands : (past : Past) → StandsFor now past → StandsFor after (longer (logic_of now) (site_of now) past f)
+  pub stands : (past : Past) → StandsFor now past → StandsFor after (past_after_second (logic_of now) (site_of now) past f)
   pub record_is : (past : Past) → StandsFor now past → last_record after ≡ record_of (logic_of now) (site_of now) past f
   pub site : site_of after ≡ site_of now
   pub logic_is : logic_of after ≡ logic_of now
@@ -131,8 +131,8 @@ running_more k tick tick' start now after old new new' first held later f rec na
   logic_is = m.logic_is ∙ r.logic_is;
   stands = λ past s none.
       let p = past_of (logic_of start) (site_of start) past r.made in
-      let on : longer (logic_of now) (site_of now) p f ≡ past_of (logic_of start) (site_of start) past (r.made ++ f ∷ []) =
-      (λ i. longer (r.logic_is i) (r.site i) p f) ∙ sym (past_of-more (logic_of start) (site_of start) past r.made f) in
+      let on : past_after_second (logic_of now) (site_of now) p f ≡ past_of (logic_of start) (site_of start) past (r.made ++ f ∷ []) =
+      (λ i. past_after_second (r.logic_is i) (r.site i) p f) ∙ sym (past_of-more (logic_of start) (site_of start) past r.made f) in
       subst (λ q. StandsFor after q) on (m.stands p (r.stands past s none));
   put = λ past begin s none d.
       let p = past_of (logic_of start) (site_of start) past r.made in

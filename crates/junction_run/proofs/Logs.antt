@@ -5,7 +5,7 @@ use Rattle.sig_types.specs.declared.record.Record.{Record}
 use Rattle.sig_types.specs.Counts.{Counts}
 use Rattle.sig_types.specs.Pass.{Logic}
 use Rattle.controller.specs.Past.{Site, Past, opening}
-use Rattle.controller.specs.Second.{run_from, past_of, past_after, record_of, longer}
+use Rattle.controller.specs.Second.{run_from, past_of, past_after, record_of, past_after_second}
 use Rattle.controller.proofs.Runs.{run_from-more}
 use Rattle.controller.specs.declared.controller.Controller.{Controller}
 use Rattle.controller.specs.Controls.{plan_of, site_of}
@@ -67,7 +67,7 @@ log_of-front p frames (f ∷ fs) =
 pub frames_at : (logic : Logic) (site : Site) (past : Past) (fs : List Counts) → (past_of logic site past fs).frames ≡ past.frames ++ fs
 unfolding past_after
 frames_at logic site past [] = sym (append-nil past.frames)
-frames_at logic site past (f ∷ fs) = frames_at logic site (longer logic site past f) fs ∙ append_assoc past.frames (f ∷ []) fs
+frames_at logic site past (f ∷ fs) = frames_at logic site (past_after_second logic site past f) fs ∙ append_assoc past.frames (f ∷ []) fs
 
 -- all of them
 pub taken_whole : (frames : List Counts) → take (length frames) frames ≡ frames

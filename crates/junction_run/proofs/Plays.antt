@@ -7,7 +7,7 @@ use Rattle.sig_types.specs.Counts.{Counts, Takes}
 use Rattle.sig_types.specs.Pass.{Store}
 use Rattle.sig_types.specs.declared.record.Record.{Record}
 use Rattle.controller.specs.Past.{Past, opening}
-use Rattle.controller.specs.Second.{longer, record_of}
+use Rattle.controller.specs.Second.{past_after_second, record_of}
 use Rattle.controller.specs.declared.controller.Controller.{Controller}
 use Rattle.controller.specs.Controls.{StandsFor, site_of, logic_of, plan_of}
 use Rattle.controller.proofs.Runs.{past_of-more}
@@ -75,7 +75,7 @@ sent {start} u goes = record {
 pub one_more : (start now next : Controller) (lines lines' : Lines) (told : Option Contents) (name : List ℕ) (old mid new : Option (List ℕ)) (first held later : Held)
     (f : Counts) (r : Record) (names : List (List ℕ)) (u : Underway start now lines told name old mid first held) →
     Gave lines' (u.frames ++ f ∷ []) → ForSome told (λ file. Reads lines' (file name) (u.frames ++ f ∷ [])) →
-    ((past : Past) → StandsFor now past → StandsFor next (longer (logic_of now) (site_of now) past f)) →
+    ((past : Past) → StandsFor now past → StandsFor next (past_after_second (logic_of now) (site_of now) past f)) →
     ((past : Past) → StandsFor now past → r ≡ record_of (logic_of now) (site_of now) past f) →
     site_of next ≡ site_of now → logic_of next ≡ logic_of now → plan_of next ≡ plan_of now → names ≡ (plan_of next).names →
     ((begin : Option (List ℕ)) (text : List ℕ) → IsDraft begin mid held text → IsDraft begin new later (text ++ record_text names r)) →
@@ -89,8 +89,8 @@ one_more start now next lines lines' told name old mid new first held later f r 
   plan = plan ∙ u.plan;
   stands = λ store s.
       let p : Playing = playing_of start store in
-      let is : longer (logic_of now) (site_of now) (past_at p u.frames) f ≡ past_at p (u.frames ++ f ∷ [])
-      = (λ j. longer (u.logic_is j) (u.site j) (past_at p u.frames) f) ∙ sym (past_of-more p.logic p.site (opening p.site p.store) u.frames f) in
+      let is : past_after_second (logic_of now) (site_of now) (past_at p u.frames) f ≡ past_at p (u.frames ++ f ∷ [])
+      = (λ j. past_after_second (u.logic_is j) (u.site j) (past_at p u.frames) f) ∙ sym (past_of-more p.logic p.site (opening p.site p.store) u.frames f) in
       subst (λ past. StandsFor next past) is (stands (past_at p u.frames) (u.stands store s));
   put = λ store begin s d.
       let p : Playing = playing_of start store in

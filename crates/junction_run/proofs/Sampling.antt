@@ -15,7 +15,7 @@ use Rattle.vap_code.specs.Machine.{machine}
 use Rattle.vap_code.specs.Valid.{Valid}
 use Rattle.vap_code.specs.Stores.{first_store}
 use Rattle.controller.specs.Past.{Site, Past, opening}
-use Rattle.controller.specs.Second.{run_from, longer, record_of}
+use Rattle.controller.specs.Second.{run_from, past_after_second, record_of}
 use Rattle.controller.specs.declared.controller.Controller.{Controller}
 use Rattle.controller.specs.Controls.{StandsFor, site_of, logic_of, plan_of}
 use Rattle.controller.proofs.Runs.{run_from-more, past_of-more}
@@ -107,7 +107,7 @@ takes_drawn seed n few = record {
 
 length_of_run : (logic : Logic) (site : Site) (past : Past) (fs : List Counts) → length (run_from logic site past fs) ≡ length fs
 length_of_run logic site past [] = refl
-length_of_run logic site past (f ∷ fs) = ap suc (length_of_run logic site (longer logic site past f) fs)
+length_of_run logic site past (f ∷ fs) = ap suc (length_of_run logic site (past_after_second logic site past f) fs)
 
 pub length_of_records : (p : Playing) (fs : List Counts) → length (records_of p fs) ≡ length fs
 unfolding records_of
@@ -144,7 +144,7 @@ none_sampled start summary seed empty = record {
 -- one second more
 pub one_sampled : (start now next : Controller) (summary later : Summary) (seed n : ℕ) (f : Counts) (r : Record) → Sampled start now summary seed n →
     f ≡ frame_from (after_frames n (generator_of seed)) →
-    ((past : Past) → StandsFor now past → StandsFor next (longer (logic_of now) (site_of now) past f)) →
+    ((past : Past) → StandsFor now past → StandsFor next (past_after_second (logic_of now) (site_of now) past f)) →
     ((past : Past) → StandsFor now past → r ≡ record_of (logic_of now) (site_of now) past f) →
     site_of next ≡ site_of now → logic_of next ≡ logic_of now → plan_of next ≡ plan_of now → length r.picture ≡ groups_in (plan_of next) →
     ((groups : ℕ) (rs : List Record) → SummaryStands summary groups rs → length r.picture ≡ groups → SummaryStands later groups (rs ++ r ∷ [])) →
@@ -158,8 +158,8 @@ one_sampled start now next summary later seed n f r so drawn_so stands tells sit
       plan = plan ∙ so.plan;
       stands = λ store s.
           let p : Playing = playing_of start store in
-          let is : longer (logic_of now) (site_of now) (past_at p frames) f ≡ past_at p (drawn seed (n + 1))
-          = (λ j. longer (so.logic_is j) (so.site j) (past_at p frames) f) ∙ sym (past_of-more p.logic p.site (opening p.site p.store) frames f)
+          let is : past_after_second (logic_of now) (site_of now) (past_at p frames) f ≡ past_at p (drawn seed (n + 1))
+          = (λ j. past_after_second (so.logic_is j) (so.site j) (past_at p frames) f) ∙ sym (past_of-more p.logic p.site (opening p.site p.store) frames f)
           ∙ ap (past_at p) longer_by in
           subst (λ past. StandsFor next past) is (stands (past_at p frames) (so.stands store s));
       summed = λ store s.
