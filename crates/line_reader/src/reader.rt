@@ -1,10 +1,10 @@
 // The lines of one file, read through a window that is taken once.
-ghost use Rattle.std.specs.Prelude.{◌≡◌, ℕ, ◌+◌, ◌-◌, ◌<◌, ◌≤◌, ◌^◌, ◌==◌, List, [], true, None, Some, length, take, drop, OnErr, IfOk, IfSome, position, vec_len, Err};
+ghost use Rattle.std.specs.Prelude.{◌≡◌, ℕ, ◌+◌, ◌-◌, ◌<◌, ◌≤◌, ◌^◌, ◌==◌, List, [], true, None, Some, length, take, drop, is_some, OnErr, IfOk, IfSome, position, vec_len, Err};
 ghost use Rattle.std.specs.Option.{ForSome};
 ghost use Rattle.line_reader.specs.Fill.{FillsBuffer};
 ghost use Rattle.sig_io.specs.Outside.{HasCause, Rose};
 
-use memchr::memchr;
+use memchr::{memchr, memrchr};
 use sig_io::{Failed, Files};
 use sig_types::Memory;
 use std::alloc::Global;
@@ -37,6 +37,8 @@ pub struct LineReader {
     line_start: usize,
     line_end: usize,
     ended: bool,
+    // where the last line feed stands of the bytes that were taken, if they had one
+    feed: usize,
     ghost at_most: { longest ≤ 2 ^ 32 },
     ghost window: { vec_len buffer ≡ longest + 65536 },
     ghost ordered: { start ≤ end },
@@ -131,6 +133,7 @@ impl LineReader {
             line_start: 0,
             line_end: 0,
             ended: false,
+            feed: 0,
         })
     }
 
@@ -139,7 +142,15 @@ impl LineReader {
         ensures { result ≡ is_ready self.now }
     {
         self.end - self.start > self.longest
+            || self.holds_feed()
             || find_newline(&self.buffer[self.start..self.end]).is_some()
+    }
+
+    // Whether the line feed that was taken last is still held, which spares a search in each line of a full window.
+    fn holds_feed(&self) -> bool
+        ensures { result ≡ true → is_some (position (λ b. b == 10) (buffered_bytes self.now)) ≡ true }
+    {
+        self.start <= self.feed && self.feed < self.end && self.buffer[self.feed] == b'\n'
     }
 
     // Takes more bytes of the file into the buffer; none at the file's end.
@@ -169,6 +180,7 @@ impl LineReader {
         self.start = 0;
         self.end += taken;
         self.place += taken as u64;
+        self.feed = memrchr(b'\n', &self.buffer[..self.end]).unwrap_or(self.end);
         Ok(taken)
     }
 
