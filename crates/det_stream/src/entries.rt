@@ -25,7 +25,7 @@ fn is_field(bytes: &[u8]) -> bool
 }
 
 // The detector, fronts and rears of an entry, where it has three parts with colons between.
-fn parts(entry: &[u8]) -> Option<(&[u8], &[u8], &[u8])>
+fn cut_entry(entry: &[u8]) -> Option<(&[u8], &[u8], &[u8])>
     ensures { MatchOption result (numbers_of entry.now ≡ None) (λ p. HasParts entry.now p.0.now p.1.now p.2.now) }
 {
     let Some((detector, rest)) = cut_at(b':', entry) else {
@@ -41,20 +41,20 @@ fn parts(entry: &[u8]) -> Option<(&[u8], &[u8], &[u8])>
 }
 
 // Whether all three parts of an entry are decimal numbers of at most 9 digits.
-fn are_fields(d: &[u8], f: &[u8], r: &[u8]) -> bool
+fn are_numbers(d: &[u8], f: &[u8], r: &[u8]) -> bool
     ensures { result ≡ (is_some (field_number d.now) && is_some (field_number f.now) && is_some (field_number r.now)) }
 {
     is_field(d) && is_field(f) && is_field(r)
 }
 
 // The three numbers of an entry, where it has its form.
-fn fields(entry: &[u8]) -> Option<(&[u8], &[u8], &[u8])>
+fn entry_numbers(entry: &[u8]) -> Option<(&[u8], &[u8], &[u8])>
     ensures { MatchOption result (numbers_of entry.now ≡ None) (λ p. HasNumbers entry.now p.0.now p.1.now p.2.now) }
 {
-    let Some((detector, fronts, rears)) = parts(entry) else {
+    let Some((detector, fronts, rears)) = cut_entry(entry) else {
         return None;
     };
-    if !are_fields(detector, fronts, rears) {
+    if !are_numbers(detector, fronts, rears) {
         return None;
     }
     Some((detector, fronts, rears))
@@ -78,7 +78,7 @@ fn ends_at(text: &[u8], place: usize) -> bool
 }
 
 // The numbers of the entry that a text begins with, where it is three digits with colons between, as most entries are.
-fn digits(text: &[u8]) -> Option<(u32, u32, u32)>
+fn entry_of_five(text: &[u8]) -> Option<(u32, u32, u32)>
     ensures begins { IfSome result (λ n. BeginsWith text.now 5 (n.0, n.1, n.2)) }
     ensures few { IfSome result (λ n. (n.0 ≤ 9) × (n.1 ≤ 9) × (n.2 ≤ 9)) }
 {
@@ -92,7 +92,7 @@ fn digits(text: &[u8]) -> Option<(u32, u32, u32)>
 }
 
 // The numbers of the entry that a text begins with, where its detector has two digits, and its fronts and rears one each.
-fn more_digits(text: &[u8]) -> Option<(u32, u32, u32)>
+fn entry_of_six(text: &[u8]) -> Option<(u32, u32, u32)>
     ensures begins { IfSome result (λ n. BeginsWith text.now 6 (n.0, n.1, n.2)) }
     ensures few { IfSome result (λ n. (n.0 ≤ 99) × (n.1 ≤ 9) × (n.2 ≤ 9)) }
 {
@@ -115,10 +115,10 @@ fn short_entry(text: &[u8]) -> Option<((u32, u32, u32), usize)>
     ensures begins { IfSome result (λ p. BeginsWith text.now p.1 (p.0.0, p.0.1, p.0.2)) }
     ensures few { IfSome result (λ p. (p.0.1 ≤ 9) × (p.0.2 ≤ 9)) }
 {
-    if let Some(numbers) = digits(text) {
+    if let Some(numbers) = entry_of_five(text) {
         return Some((numbers, 5));
     }
-    match more_digits(text) {
+    match entry_of_six(text) {
         Some(numbers) => Some((numbers, 6)),
         None => None,
     }
@@ -155,7 +155,7 @@ fn read_entry(last: u32, entry: &[u8]) -> Result<Entry, StreamWhy>
     ensures rises { IfOk result (λ e. last < e.detector) }
     ensures counts { IfOk result (λ e. (e.fronts ≤ 99) × (e.rears ≤ 99)) }
 {
-    let Some((detector, fronts, rears)) = fields(entry) else {
+    let Some((detector, fronts, rears)) = entry_numbers(entry) else {
         return Err(StreamWhy::Entry);
     };
     let Some(detector) = number(detector, 1, 64) else {

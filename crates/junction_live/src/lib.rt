@@ -5,11 +5,8 @@
 #![tactic(auto)]
 
 mod answer;
-mod apart;
-mod beside;
 mod both;
 mod cell;
-mod closing;
 mod count;
 mod feed;
 mod feeders;
@@ -17,6 +14,8 @@ mod form;
 pub mod laws;
 mod lines;
 mod log;
+mod padded;
+mod playing;
 mod seconds;
 mod text;
 mod watch;
@@ -24,8 +23,9 @@ mod watched;
 mod watched_closing;
 mod watched_play;
 mod watchers;
+mod whole_run;
 
 pub use answer::live;
-pub use beside::play;
 pub use form::begins_live;
+pub use playing::play;
 pub use watched_play::play_watched;

@@ -11,7 +11,7 @@ ghost use Rattle.det_board.specs.Passes.{IsOpening};
 ghost use Rattle.junction_run.specs.Played.{playing_of};
 ghost use Rattle.junction_live.specs.Ended.{WroteLog};
 
-use crate::closing::play_out;
+use crate::whole_run::play_and_close;
 use controller::Controller;
 use det_board::{Board, FeederPass, TickPass, end_board};
 use det_stream::Frames;
@@ -42,7 +42,7 @@ pub(crate) fn write_live<R: Threads + Sync, O: Sink + Send, G: Gate>(
     // Its contract tells that the plan names its groups.
     plan.groups();
     match write_header(plan, out) {
-        Ok(()) => play_out(rt, controller, frames, board, feeders, tick, out, gate),
+        Ok(()) => play_and_close(rt, controller, frames, board, feeders, tick, out, gate),
         Err(_fault) => {
             end_board(board, feeders, tick);
             Err(Failed)

@@ -9,8 +9,8 @@ ghost use Rattle.picture_cell.specs.Sides.{IsOpening as IsCellOpening, IsPublish
 ghost use Rattle.junction_live.specs.Outcome.{HasMadeNone};
 ghost use Rattle.junction_live.specs.Watch.{AreWatchersOf, IsShownLog};
 
-use crate::apart::play_watched_apart;
-use crate::closing::is_done;
+use crate::padded::play_watched_padded;
+use crate::whole_run::is_done;
 use controller::Controller;
 use det_board::{Board, FeederPass, TickPass, end_board};
 use det_stream::Frames;
@@ -48,7 +48,7 @@ pub(crate) fn watch_out<R: Threads + Sync, O: Sink + Send, G: Gate>(
     ensures cause { HasCause (O.faults out.old) (O.faults out.new) result }
 {
     let mut feeders = feeders;
-    let (status, mut controller, tick, mut publisher) = play_watched_apart(
+    let (status, mut controller, tick, mut publisher) = play_watched_padded(
         rt,
         controller,
         frames,

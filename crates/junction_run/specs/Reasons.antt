@@ -22,7 +22,7 @@ use Rattle.det_stream.specs.declared.refusal.StreamWhy.{StreamWhy}
 use Rattle.det_stream.specs.declared.refusal.StreamWhy.TheVariants as stream
 use Rattle.log_lines.specs.declared.refusal.LogWhy.{LogWhy}
 use Rattle.log_lines.specs.declared.refusal.LogWhy.TheVariants as log
-use Rattle.junction_run.specs.declared.reasons.Told.{Told}
+use Rattle.junction_run.specs.declared.reasons.ReasonText.{ReasonText}
 use Rattle.junction_run.specs.declared.stop.LineReason.{LineReason}
 use Rattle.junction_run.specs.declared.stop.LineReason.TheVariants.{Frame, Record}
 use Rattle.junction_run.specs.declared.stop.Reason.{Reason}
@@ -147,5 +147,5 @@ reason_text (Code why) = code_reason why
 reason_text (Verify why) = verify_reason why
 
 -- the text of the pieces of a reason
-abbrev pub told_text : Told → List ℕ
+abbrev pub told_text : ReasonText → List ℕ
 told_text told = told.name.now ++ told.blank.now ++ told.first.now ++ told.gap.now ++ told.second.now

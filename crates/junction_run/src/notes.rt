@@ -7,7 +7,7 @@ ghost use Rattle.sig_io.specs.Outside.{Rose};
 ghost use Rattle.junction_run.specs.Answer.{note_of};
 ghost use Rattle.junction_run.specs.Notes.{load_note, play_note, stop_note};
 
-use crate::reasons::{Told, line_reason, reason};
+use crate::reasons::{ReasonText, line_reason, reason};
 use crate::stop::{LoadStop, PlayStop, Stop};
 use itoa::Buffer;
 use sig_io::{Sink, put_each};
@@ -38,7 +38,7 @@ fn write_about<'x, N: Sink>(word: &'x [u8], text: &'x [u8], notes: &mut N)
 }
 
 // Writes a refusal: a file, a line and a reason.
-fn write_refusal<N: Sink>(word: &[u8], line: u32, told: &Told<'_>, notes: &mut N)
+fn write_refusal<N: Sink>(word: &[u8], line: u32, told: &ReasonText<'_>, notes: &mut N)
     ensures { (Rose (N.faults notes.old) (N.faults notes.new) → ⊥) →
         N.taken notes.new ≡ append_known (N.taken notes.old)
         (codes "junction: " ++ word.now ++ codes ":" ++ decimal line ++ codes ": "

@@ -33,7 +33,7 @@ use vap_parse::ParseWhy;
 
 /// The pieces of a reason: its name, and up to two things that it speaks of, each after a blank.
 #[derive(Clone, Copy)]
-pub(crate) struct Told<'a> {
+pub(crate) struct ReasonText<'a> {
     pub(crate) name: &'a [u8],
     pub(crate) blank: &'a [u8],
     pub(crate) first: &'a [u8],
@@ -41,10 +41,10 @@ pub(crate) struct Told<'a> {
     pub(crate) second: &'a [u8],
 }
 
-fn only<'x>(name: &'x [u8]) -> Told<'x>
+fn name_alone<'x>(name: &'x [u8]) -> ReasonText<'x>
     ensures { told_text result ≡ name.now }
 {
-    Told {
+    ReasonText {
         name,
         blank: b"",
         first: b"",
@@ -53,10 +53,10 @@ fn only<'x>(name: &'x [u8]) -> Told<'x>
     }
 }
 
-fn with_one<'x>(name: &'x [u8], first: &'x [u8]) -> Told<'x>
+fn with_one<'x>(name: &'x [u8], first: &'x [u8]) -> ReasonText<'x>
     ensures { told_text result ≡ name.now ++ codes " " ++ first.now }
 {
-    Told {
+    ReasonText {
         name,
         blank: b" ",
         first,
@@ -65,10 +65,10 @@ fn with_one<'x>(name: &'x [u8], first: &'x [u8]) -> Told<'x>
     }
 }
 
-fn with_two<'x>(name: &'x [u8], first: &'x [u8], second: &'x [u8]) -> Told<'x>
+fn with_two<'x>(name: &'x [u8], first: &'x [u8], second: &'x [u8]) -> ReasonText<'x>
     ensures { told_text result ≡ name.now ++ codes " " ++ first.now ++ codes " " ++ second.now }
 {
-    Told {
+    ReasonText {
         name,
         blank: b" ",
         first,
@@ -77,24 +77,24 @@ fn with_two<'x>(name: &'x [u8], first: &'x [u8], second: &'x [u8]) -> Told<'x>
     }
 }
 
-fn plan_reason<'x>(why: &'x PuaWhy, digits: &'x mut Buffer) -> Told<'x>
+fn plan_reason<'x>(why: &'x PuaWhy, digits: &'x mut Buffer) -> ReasonText<'x>
     ensures { told_text result ≡ plan_reason why.now }
 {
     match why {
-        PuaWhy::NotText => only(b"NotText"),
-        PuaWhy::Section => only(b"Section"),
-        PuaWhy::Row => only(b"Row"),
-        PuaWhy::NameTwice => only(b"NameTwice"),
-        PuaWhy::UnknownName => only(b"UnknownName"),
-        PuaWhy::Range => only(b"Range"),
-        PuaWhy::NoStart => only(b"NoStart"),
-        PuaWhy::PairTwice => only(b"PairTwice"),
+        PuaWhy::NotText => name_alone(b"NotText"),
+        PuaWhy::Section => name_alone(b"Section"),
+        PuaWhy::Row => name_alone(b"Row"),
+        PuaWhy::NameTwice => name_alone(b"NameTwice"),
+        PuaWhy::UnknownName => name_alone(b"UnknownName"),
+        PuaWhy::Range => name_alone(b"Range"),
+        PuaWhy::NoStart => name_alone(b"NoStart"),
+        PuaWhy::PairTwice => name_alone(b"PairTwice"),
         PuaWhy::Inconsistent { inter, name, .. } => with_two(
             b"Inconsistent",
             digits.format(*inter).as_bytes(),
             name.bytes(),
         ),
-        PuaWhy::Limit => only(b"Limit"),
+        PuaWhy::Limit => name_alone(b"Limit"),
     }
 }
 
@@ -109,39 +109,39 @@ fn name_of(plan: &Plan, group: GroupNo) -> &[u8]
     }
 }
 
-fn table_reason<'x>(why: TableWhy, plan: &'x Plan) -> Told<'x>
+fn table_reason<'x>(why: TableWhy, plan: &'x Plan) -> ReasonText<'x>
     ensures { told_text result ≡ table_reason plan.now.names why }
 {
     match why {
-        TableWhy::Header => only(b"Header"),
-        TableWhy::Fields => only(b"Fields"),
-        TableWhy::Number => only(b"Number"),
-        TableWhy::UnknownName => only(b"UnknownName"),
-        TableWhy::Twice => only(b"Twice"),
+        TableWhy::Header => name_alone(b"Header"),
+        TableWhy::Fields => name_alone(b"Fields"),
+        TableWhy::Number => name_alone(b"Number"),
+        TableWhy::UnknownName => name_alone(b"UnknownName"),
+        TableWhy::Twice => name_alone(b"Twice"),
         TableWhy::Missing(group) => with_one(b"Missing", name_of(plan, group)),
         TableWhy::OneWay(from, to) => with_two(b"OneWay", name_of(plan, from), name_of(plan, to)),
-        TableWhy::SelfConflict => only(b"SelfConflict"),
+        TableWhy::SelfConflict => name_alone(b"SelfConflict"),
     }
 }
 
-fn lex_reason<'x>(why: LexWhy) -> Told<'x>
+fn lex_reason<'x>(why: LexWhy) -> ReasonText<'x>
     ensures { told_text result ≡ lex_reason why }
 {
     match why {
-        LexWhy::Byte => only(b"Byte"),
-        LexWhy::OpenComment => only(b"OpenComment"),
-        LexWhy::Decimal => only(b"Decimal"),
-        LexWhy::NumberRange => only(b"NumberRange"),
+        LexWhy::Byte => name_alone(b"Byte"),
+        LexWhy::OpenComment => name_alone(b"OpenComment"),
+        LexWhy::Decimal => name_alone(b"Decimal"),
+        LexWhy::NumberRange => name_alone(b"NumberRange"),
     }
 }
 
-fn parse_reason<'x>(why: ParseWhy) -> Told<'x>
+fn parse_reason<'x>(why: ParseWhy) -> ReasonText<'x>
     ensures { told_text result ≡ parse_reason why }
 {
     match why {
-        ParseWhy::Unexpected(_) => only(b"Unexpected"),
-        ParseWhy::Frequency => only(b"Frequency"),
-        ParseWhy::TooDeep => only(b"TooDeep"),
+        ParseWhy::Unexpected(_) => name_alone(b"Unexpected"),
+        ParseWhy::Frequency => name_alone(b"Frequency"),
+        ParseWhy::TooDeep => name_alone(b"TooDeep"),
     }
 }
 
@@ -158,83 +158,83 @@ fn which_name(which: Which) -> &'static [u8]
     }
 }
 
-fn check_reason<'x>(why: CheckWhy) -> Told<'x>
+fn check_reason<'x>(why: CheckWhy) -> ReasonText<'x>
     ensures { told_text result ≡ check_reason why }
 {
     match why {
-        CheckWhy::ConstTwice => only(b"ConstTwice"),
-        CheckWhy::NameKind => only(b"NameKind"),
-        CheckWhy::LabelTwice => only(b"LabelTwice"),
-        CheckWhy::NoLabel => only(b"NoLabel"),
-        CheckWhy::SubTwice => only(b"SubTwice"),
-        CheckWhy::NoSub => only(b"NoSub"),
-        CheckWhy::ArraySize => only(b"ArraySize"),
-        CheckWhy::AssignConst => only(b"AssignConst"),
-        CheckWhy::Arity => only(b"Arity"),
+        CheckWhy::ConstTwice => name_alone(b"ConstTwice"),
+        CheckWhy::NameKind => name_alone(b"NameKind"),
+        CheckWhy::LabelTwice => name_alone(b"LabelTwice"),
+        CheckWhy::NoLabel => name_alone(b"NoLabel"),
+        CheckWhy::SubTwice => name_alone(b"SubTwice"),
+        CheckWhy::NoSub => name_alone(b"NoSub"),
+        CheckWhy::ArraySize => name_alone(b"ArraySize"),
+        CheckWhy::AssignConst => name_alone(b"AssignConst"),
+        CheckWhy::Arity => name_alone(b"Arity"),
         CheckWhy::Limit(which) => with_one(b"Limit", which_name(which)),
-        CheckWhy::StatementTooLong => only(b"StatementTooLong"),
-        CheckWhy::ProgramTooLong => only(b"ProgramTooLong"),
+        CheckWhy::StatementTooLong => name_alone(b"StatementTooLong"),
+        CheckWhy::ProgramTooLong => name_alone(b"ProgramTooLong"),
     }
 }
 
-fn code_reason<'x>(why: CodeWhy) -> Told<'x>
+fn code_reason<'x>(why: CodeWhy) -> ReasonText<'x>
     ensures { told_text result ≡ code_reason why }
 {
     match why {
-        CodeWhy::Header => only(b"Header"),
-        CodeWhy::Line => only(b"Line"),
-        CodeWhy::Range => only(b"Range"),
-        CodeWhy::MissingEnd => only(b"MissingEnd"),
-        CodeWhy::Limit => only(b"Limit"),
+        CodeWhy::Header => name_alone(b"Header"),
+        CodeWhy::Line => name_alone(b"Line"),
+        CodeWhy::Range => name_alone(b"Range"),
+        CodeWhy::MissingEnd => name_alone(b"MissingEnd"),
+        CodeWhy::Limit => name_alone(b"Limit"),
     }
 }
 
-fn verify_reason<'x>(why: VerifyWhy) -> Told<'x>
+fn verify_reason<'x>(why: VerifyWhy) -> ReasonText<'x>
     ensures { told_text result ≡ verify_reason why }
 {
     match why {
-        VerifyWhy::JumpOut => only(b"JumpOut"),
-        VerifyWhy::BackToNoTick => only(b"BackToNoTick"),
-        VerifyWhy::Height => only(b"Height"),
-        VerifyWhy::Slot => only(b"Slot"),
-        VerifyWhy::CallOrder => only(b"CallOrder"),
-        VerifyWhy::EdgeToNoTick => only(b"EdgeToNoTick"),
-        VerifyWhy::FallsOff => only(b"FallsOff"),
-        VerifyWhy::Stretch => only(b"Stretch"),
-        VerifyWhy::Shape => only(b"Shape"),
-        VerifyWhy::Commands => only(b"Commands"),
+        VerifyWhy::JumpOut => name_alone(b"JumpOut"),
+        VerifyWhy::BackToNoTick => name_alone(b"BackToNoTick"),
+        VerifyWhy::Height => name_alone(b"Height"),
+        VerifyWhy::Slot => name_alone(b"Slot"),
+        VerifyWhy::CallOrder => name_alone(b"CallOrder"),
+        VerifyWhy::EdgeToNoTick => name_alone(b"EdgeToNoTick"),
+        VerifyWhy::FallsOff => name_alone(b"FallsOff"),
+        VerifyWhy::Stretch => name_alone(b"Stretch"),
+        VerifyWhy::Shape => name_alone(b"Shape"),
+        VerifyWhy::Commands => name_alone(b"Commands"),
     }
 }
 
-fn stream_reason<'x>(why: StreamWhy, digits: &'x mut Buffer) -> Told<'x>
+fn stream_reason<'x>(why: StreamWhy, digits: &'x mut Buffer) -> ReasonText<'x>
     ensures { told_text result ≡ stream_reason why }
 {
     match why {
-        StreamWhy::Entry => only(b"Entry"),
-        StreamWhy::Order => only(b"Order"),
-        StreamWhy::Range => only(b"Range"),
-        StreamWhy::Unknown => only(b"Unknown"),
+        StreamWhy::Entry => name_alone(b"Entry"),
+        StreamWhy::Order => name_alone(b"Order"),
+        StreamWhy::Range => name_alone(b"Range"),
+        StreamWhy::Unknown => name_alone(b"Unknown"),
         StreamWhy::RearsAhead(detector) => {
             with_one(b"RearsAhead", digits.format(detector.0).as_bytes())
         }
-        StreamWhy::LineTooLong => only(b"LineTooLong"),
-        StreamWhy::TooManySeconds => only(b"TooManySeconds"),
+        StreamWhy::LineTooLong => name_alone(b"LineTooLong"),
+        StreamWhy::TooManySeconds => name_alone(b"TooManySeconds"),
     }
 }
 
-fn log_reason<'x>(why: LogWhy) -> Told<'x>
+fn log_reason<'x>(why: LogWhy) -> ReasonText<'x>
     ensures { told_text result ≡ log_reason why }
 {
     match why {
-        LogWhy::Header => only(b"Header"),
-        LogWhy::Line => only(b"Line"),
-        LogWhy::LineTooLong => only(b"LineTooLong"),
-        LogWhy::TooManySeconds => only(b"TooManySeconds"),
+        LogWhy::Header => name_alone(b"Header"),
+        LogWhy::Line => name_alone(b"Line"),
+        LogWhy::LineTooLong => name_alone(b"LineTooLong"),
+        LogWhy::TooManySeconds => name_alone(b"TooManySeconds"),
     }
 }
 
 /// The pieces of the reason of a refused line.
-pub(crate) fn line_reason<'x>(reason: LineReason, digits: &'x mut Buffer) -> Told<'x>
+pub(crate) fn line_reason<'x>(reason: LineReason, digits: &'x mut Buffer) -> ReasonText<'x>
     ensures { told_text result ≡ line_reason reason }
 {
     match reason {
@@ -244,7 +244,7 @@ pub(crate) fn line_reason<'x>(reason: LineReason, digits: &'x mut Buffer) -> Tol
 }
 
 /// The pieces of the reason of a refused file.
-pub(crate) fn reason<'x>(reason: &'x Reason, digits: &'x mut Buffer) -> Told<'x>
+pub(crate) fn reason<'x>(reason: &'x Reason, digits: &'x mut Buffer) -> ReasonText<'x>
     ensures { told_text result ≡ reason_text reason.now }
 {
     match reason {

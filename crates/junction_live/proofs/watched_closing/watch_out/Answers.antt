@@ -13,12 +13,12 @@ use Rattle.junction_live.proofs.watched_closing.watch_out.Goals as goal
 
 pub end_board-closing-requires : goal.end_board-closing-requires
 end_board-closing-requires g c =
-    let p = c.play_watched_apart-status in
+    let p = c.play_watched_padded-status in
     all_passes c.args.board c.args.frames.now c.args.feeders.items p.new.feeders.items c.args.tick p.result.2 c.requires.opening p.ensures.feeders p.ensures.feeders_count p.ensures.tick
 
 pub second-requires : goal.second-requires
 second-requires g c =
-    let p = c.play_watched_apart-status in
+    let p = c.play_watched_padded-status in
     let m = p.ensures.made in
     let f = c.end_board-closing.result in
     let ready : Ready c.args.board c.args.frames.now c.args.feeders.items p.new.feeders.items c.args.tick p.result.2 m.0 f =
@@ -32,7 +32,7 @@ second-requires g c =
 
 pub publish-requires : goal.publish-requires
 publish-requires g c =
-    let p = c.play_watched_apart-status in
+    let p = c.play_watched_padded-status in
     let m = p.ensures.made in
     let st = c.requires.none_made in
     let start = c.args.controller in
@@ -49,7 +49,7 @@ publish-requires g c =
 
 pub returns-then-not-is_done-clause-live : goal.returns-then-not-is_done-clause-live
 returns-then-not-is_done-clause-live g c = λ past s none.
-    let p = c.play_watched_apart-status in
+    let p = c.play_watched_padded-status in
     let m = p.ensures.made in
     let f = c.end_board-closing.result in
     let ready : Ready c.args.board c.args.frames.now c.args.feeders.items p.new.feeders.items c.args.tick p.result.2 m.0 f =
@@ -58,7 +58,7 @@ returns-then-not-is_done-clause-live g c = λ past s none.
 
 pub returns-then-not-is_done-clause-cause : goal.returns-then-not-is_done-clause-cause
 returns-then-not-is_done-clause-cause g c =
-    let p = c.play_watched_apart-status in
+    let p = c.play_watched_padded-status in
     let st = c.requires.none_made in
     let m = p.ensures.made in
     record {
@@ -68,12 +68,12 @@ returns-then-not-is_done-clause-cause g c =
 
 pub returns-then-not-is_done-clause-watchers : goal.returns-then-not-is_done-clause-watchers
 returns-then-not-is_done-clause-watchers g c =
-    let p = c.play_watched_apart-status in
+    let p = c.play_watched_padded-status in
     still_of c.args.cell.now 16 c.args.watchers.now.items p.new.watchers.items (fresh_of c.args.cell.now c.args.watchers.now.items c.requires.cell.fresh) p.ensures.watchers p.ensures.watchers_count
 
 pub returns-in-Ok-clause-live : goal.returns-in-Ok-clause-live
 returns-in-Ok-clause-live g c = λ past s none.
-    let p = c.play_watched_apart-status in
+    let p = c.play_watched_padded-status in
     let e = p.ensures in
     let m = e.made in
     let f = c.end_board-closing.result in
@@ -93,12 +93,12 @@ returns-in-Ok-clause-live g c = λ past s none.
 
 pub returns-in-Ok-clause-watchers : goal.returns-in-Ok-clause-watchers
 returns-in-Ok-clause-watchers g c =
-    let p = c.play_watched_apart-status in
+    let p = c.play_watched_padded-status in
     still_of c.args.cell.now 16 c.args.watchers.now.items p.new.watchers.items (fresh_of c.args.cell.now c.args.watchers.now.items c.requires.cell.fresh) p.ensures.watchers p.ensures.watchers_count
 
 pub returns-clause-live : goal.returns-clause-live
 returns-clause-live g c = λ past s none.
-    let p = c.play_watched_apart-status in
+    let p = c.play_watched_padded-status in
     let e = p.ensures in
     let m = e.made in
     let f = c.end_board-closing.result in
@@ -117,5 +117,5 @@ returns-clause-live g c = λ past s none.
 
 pub returns-clause-watchers : goal.returns-clause-watchers
 returns-clause-watchers g c =
-    let p = c.play_watched_apart-status in
+    let p = c.play_watched_padded-status in
     still_of c.args.cell.now 16 c.args.watchers.now.items p.new.watchers.items (fresh_of c.args.cell.now c.args.watchers.now.items c.requires.cell.fresh) p.ensures.watchers p.ensures.watchers_count

@@ -6,17 +6,17 @@ use Rattle.junction_live.proofs.Ended.{all_of, cut_is, cut_live}
 use Rattle.junction_live.proofs.ClosingSecond.{Ready, takes_close, same_sums, no_more, ahead_closed, closed_printable, all_passes}
 use Rattle.junction_live.proofs.Loads.{never_ahead}
 use Rattle.junction_live.proofs.Running.{Made, frames_are, written_more, cut_more}
-use Rattle.junction_live.proofs.closing.play_out.Goals as goal
+use Rattle.junction_live.proofs.whole_run.play_and_close.Goals as goal
 
 pub end_board-closing-requires : goal.end_board-closing-requires
 end_board-closing-requires g c =
-    let p = c.play_apart-status in
+    let p = c.play_padded-status in
     all_passes c.args.board c.args.frames.now c.args.feeders.items p.new.feeders.items c.args.tick p.result.2 c.requires.opening p.ensures.feeders p.ensures.feeders_count p.ensures.tick
 
 pub second-requires : goal.second-requires
 second-requires g c =
-    let e = c.play_apart-status.ensures in
-    let p = c.play_apart-status in
+    let e = c.play_padded-status.ensures in
+    let p = c.play_padded-status in
     let m = e.made in
     let f = c.end_board-closing.result in
     let ready : Ready c.args.board c.args.frames.now c.args.feeders.items p.new.feeders.items c.args.tick p.result.2 m.0 f =
@@ -30,8 +30,8 @@ second-requires g c =
 
 pub returns-then-not-is_done-clause-live : goal.returns-then-not-is_done-clause-live
 returns-then-not-is_done-clause-live g c = λ past s none.
-    let e = c.play_apart-status.ensures in
-    let p = c.play_apart-status in
+    let e = c.play_padded-status.ensures in
+    let p = c.play_padded-status in
     let m = e.made in
     let f = c.end_board-closing.result in
     let ready : Ready c.args.board c.args.frames.now c.args.feeders.items p.new.feeders.items c.args.tick p.result.2 m.0 f =
@@ -40,7 +40,7 @@ returns-then-not-is_done-clause-live g c = λ past s none.
 
 pub returns-then-not-is_done-clause-cause : goal.returns-then-not-is_done-clause-cause
 returns-then-not-is_done-clause-cause g c =
-    let p = c.play_apart-status in
+    let p = c.play_padded-status in
     let st = c.requires.none_made in
     let m = p.ensures.made in
     record {
@@ -50,8 +50,8 @@ returns-then-not-is_done-clause-cause g c =
 
 pub returns-in-Ok-clause-live : goal.returns-in-Ok-clause-live
 returns-in-Ok-clause-live g c = λ past s none.
-    let e = c.play_apart-status.ensures in
-    let p = c.play_apart-status in
+    let e = c.play_padded-status.ensures in
+    let p = c.play_padded-status in
     let m = e.made in
     let f = c.end_board-closing.result in
     let ready : Ready c.args.board c.args.frames.now c.args.feeders.items p.new.feeders.items c.args.tick p.result.2 m.0 f =
@@ -68,8 +68,8 @@ returns-in-Ok-clause-live g c = λ past s none.
 
 pub returns-clause-live : goal.returns-clause-live
 returns-clause-live g c = λ past s none.
-    let e = c.play_apart-status.ensures in
-    let p = c.play_apart-status in
+    let e = c.play_padded-status.ensures in
+    let p = c.play_padded-status in
     let m = e.made in
     let f = c.end_board-closing.result in
     let ready : Ready c.args.board c.args.frames.now c.args.feeders.items p.new.feeders.items c.args.tick p.result.2 m.0 f =

@@ -6,7 +6,7 @@ ghost use Rattle.controller.specs.Past.{Past};
 ghost use Rattle.det_board.specs.Passes.{IsOpening};
 ghost use Rattle.junction_live.specs.Outcome.{HasMadeNone, IsLiveLog, is_done as is_done_spec};
 
-use crate::apart::play_apart;
+use crate::padded::play_padded;
 use controller::Controller;
 use det_board::{Board, FeederPass, TickPass, end_board};
 use det_stream::Frames;
@@ -32,7 +32,7 @@ pub(crate) fn is_done(status: Status) -> bool
 }
 
 /// Plays the frames beside the controller, and makes one second more, of all events that no take has read.
-pub(crate) fn play_out<R: Threads + Sync, O: Sink + Send, G: Gate>(
+pub(crate) fn play_and_close<R: Threads + Sync, O: Sink + Send, G: Gate>(
     rt: &R,
     controller: Controller,
     frames: &Frames,
@@ -49,7 +49,7 @@ pub(crate) fn play_out<R: Threads + Sync, O: Sink + Send, G: Gate>(
     ensures cause { HasCause (O.faults out.old) (O.faults out.new) result }
 {
     let mut feeders = feeders;
-    let (status, mut controller, tick) = play_apart(
+    let (status, mut controller, tick) = play_padded(
         rt,
         controller,
         frames,

@@ -1,6 +1,6 @@
 use Rattle.std.proofs.Common.{rules, arith, sym, ◌∙◌}
 use Rattle.det_stream.proofs.DigitLemmas.{digits_at}
-use Rattle.det_stream.proofs.entries.digits.Goals as goal
+use Rattle.det_stream.proofs.entries.entry_of_five.Goals as goal
 
 pub returns-clause-begins : goal.returns-clause-begins
 returns-clause-begins c = rw (c.digit.ensures.value, c.digit-2.ensures.value, c.digit-3.ensures.value)

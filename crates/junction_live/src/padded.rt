@@ -10,7 +10,7 @@ ghost use Rattle.junction_live.specs.Outcome.{HasMadeNone, SecondsMade};
 ghost use Rattle.junction_live.specs.Watch.{HaveLooked, SecondsShown};
 ghost use Rattle.picture_cell.specs.Sides.{IsOpening as IsCellOpening, IsPublisherOf};
 
-use crate::beside::play;
+use crate::playing::play;
 use crate::watched_play::play_watched;
 use controller::Controller;
 use crossbeam_utils::CachePadded;
@@ -37,7 +37,7 @@ struct PublishingSide {
 }
 
 /// Plays as `play` does, with the controller and the tick's pass in cache lines of their own.
-pub(crate) fn play_apart<R: Threads + Sync, O: Sink + Send, G: Gate>(
+pub(crate) fn play_padded<R: Threads + Sync, O: Sink + Send, G: Gate>(
     rt: &R,
     controller: Controller,
     frames: &Frames,
@@ -76,7 +76,7 @@ pub(crate) fn play_apart<R: Threads + Sync, O: Sink + Send, G: Gate>(
 }
 
 /// Plays as `play_watched` does, with the controller, the tick's pass and the publisher in cache lines of their own.
-pub(crate) fn play_watched_apart<R: Threads + Sync, O: Sink + Send, G: Gate>(
+pub(crate) fn play_watched_padded<R: Threads + Sync, O: Sink + Send, G: Gate>(
     rt: &R,
     controller: Controller,
     frames: &Frames,

@@ -1,6 +1,6 @@
 use Rattle.std.proofs.Common.{rules, arith, sym, ◌∙◌, ne_eqb}
 use Rattle.det_stream.proofs.DigitLemmas.{more_digits_at}
-use Rattle.det_stream.proofs.entries.more_digits.Goals as goal
+use Rattle.det_stream.proofs.entries.entry_of_six.Goals as goal
 
 pub returns-clause-begins : goal.returns-clause-begins
 returns-clause-begins c = rw (c.digit.ensures.value, c.digit-2.ensures.value, c.digit-3.ensures.value, c.digit-4.ensures.value)
