@@ -1,24 +1,23 @@
 -- Names that are kept once tell what all of them tell.
-use Rattle.std.proofs.Common.{◌≡◌, ℕ, Bool, true, false, ◌||◌, cond, List, [], ◌∷◌, ◌++◌, map, Option, None, Some, is_some, refl, sym, ap, ◌∙◌, subst, true≢false, if◌then◌else◌}
-use Rattle.std.specs.Map.{lookup}
+use Rattle.std.proofs.Common.{◌≡◌, ℕ, Bool, true, false, ◌||◌, List, [], ◌∷◌, ◌++◌, map, Option, None, Some, is_some, refl, sym, ap, ◌∙◌, subst, if◌then◌else◌}
 use Rattle.std.specs.Option.{option_map, option_or}
 use Rattle.std.proofs.lemmas.Slice.Eq.{bytes_eq-Decides}
-use Rattle.std.proofs.lemmas.List.{map-append}
 use Rattle.std.proofs.lemmas.List.Folds.{list_any-append}
 use Rattle.std.specs.Str.{bytes_eq}
-use Rattle.sig_types.proofs.Options.{or-false, option_or-none}
+use Rattle.sig_types.proofs.Options.{or-false}
 use Rattle.vap_ast.specs.Syntax.{Items, Constant, Program}
 use Rattle.vap_check.specs.declared.finding.Finding.{Finding}
+use Rattle.vap_check.specs.declared.kinds.Declared.{Declared}
+use Rattle.vap_check.specs.declared.kinds.Declared.TheVariants as what
 use Rattle.vap_check.specs.declared.kinds.First.{First}
 use Rattle.vap_check.specs.declared.kinds.Kind.{Kind}
 use Rattle.vap_check.specs.declared.kinds.Kind.TheVariants as kind
-use Rattle.vap_check.specs.declared.kinds.Known.{Known}
+use Rattle.vap_check.specs.declared.known.Known.{Known}
 use Rattle.vap_check.specs.FirstFinding.{first_of_all}
-use Rattle.vap_check.specs.Names.{among, with_name, with_names, distinct, kind_of, const_names, array_names, sub_names, timer_names, items_labels, label_names}
-use Rattle.vap_check.specs.KeptNames.{const_keys, with_const, with_consts, line_in, kind_in, taken_in, Knows}
+use Rattle.vap_check.specs.Names.{among, with_name, with_names, distinct, kind_of, array_names, sub_names, timer_names, items_labels, label_names}
+use Rattle.vap_check.specs.KeptNames.{Declarations, declared_in, declared_of, with_declared, with_all, with_constant, with_constants, kind_as, line_as, taken_as, line_in, kind_in, taken_in, Knows}
 use Rattle.vap_check.specs.Findings.{items_findings, body_findings, label_findings, const_line, is_declared, const_findings, array_findings, subs_findings, findings}
 use Rattle.vap_check.proofs.Flat.{findings_on}
-use Rattle.vap_check.proofs.Entries.{some_found}
 
 or_assoc : (a b c : Bool) → (a || (b || c)) ≡ ((a || b) || c)
 or_assoc true b c = refl
@@ -40,13 +39,13 @@ absorbed names x n there = elim (bytes_eq n x) as (λ b. bytes_eq n x ≡ b → 
   | false ↦ λ e. refl
 ] refl
 
-with_one : (names : List (List ℕ)) (x n : List ℕ) → among (with_name names x) n ≡ (bytes_eq n x || among names n)
+pub with_one : (names : List (List ℕ)) (x n : List ℕ) → among (with_name names x) n ≡ (bytes_eq n x || among names n)
 with_one names x n = elim (among names x) as (λ b. among names x ≡ b → among (if b then names else names ++ x ∷ []) n ≡ (bytes_eq n x || among names n)) [
   | true ↦ λ e. absorbed names x n e
   | false ↦ λ e. list_any-append (bytes_eq n) names (x ∷ []) ∙ ap (λ c. among names n || c) (or-false (bytes_eq n x)) ∙ or_swap (among names n) (bytes_eq n x)
 ] refl
 
-with_more : (xs names : List (List ℕ)) (n : List ℕ) → among (with_names names xs) n ≡ (among xs n || among names n)
+pub with_more : (xs names : List (List ℕ)) (n : List ℕ) → among (with_names names xs) n ≡ (among xs n || among names n)
 with_more [] names n = refl
 with_more (x ∷ xs) names n =
     with_more xs (with_name names x) n ∙ ap (λ c. among xs n || c) (with_one names x n) ∙ or_assoc (among xs n) (bytes_eq n x) (among names n)
@@ -56,102 +55,158 @@ with_more (x ∷ xs) names n =
 pub among_distinct : (xs : List (List ℕ)) → among (distinct xs) ≡ among xs
 among_distinct xs = λ i n. (with_more xs [] n ∙ or-false (among xs n)) i
 
--- ---- constants
+-- ---- declarations
 
-pub keys_with : (es : List (List ℕ × First)) (c : Constant) → const_keys (with_const es c) ≡ with_name (const_keys es) c.name
-keys_with es c = elim (among (const_keys es) c.name) as (λ b. const_keys (if b then es else es ++ (c.name, record { line = c.line; value = c.value }) ∷ []) ≡ (if b then const_keys es else const_keys es ++ c.name ∷ [])) [
-  | true ↦ refl
-  | false ↦ map-append (λ e. e.0) es _
-]
+pub or_nothing : (o : Option Declared) → option_or o None ≡ o
+or_nothing None = refl
+or_nothing (Some x) = refl
 
-keys_with_all : (cs : List Constant) (es : List (List ℕ × First)) → const_keys (with_consts es cs) ≡ with_names (const_keys es) (map (λ c. c.name) cs)
-keys_with_all [] es = refl
-keys_with_all (c ∷ cs) es = keys_with_all cs (with_const es c) ∙ ap (λ ks. with_names ks (map (λ c. c.name) cs)) (keys_with es c)
+pub some_or : (o : Option Declared) (b : Bool) (d : Declared) → is_some (option_or o (if b then Some d else None)) ≡ (b || is_some o)
+some_or (Some x) true d = refl
+some_or (Some x) false d = refl
+some_or None true d = refl
+some_or None false d = refl
 
-line_behind : (es : List (List ℕ × First)) (k n : List ℕ) (f : First) → line_in (es ++ (k, f) ∷ []) n ≡ option_or (line_in es n) (if bytes_eq n k then Some f.line else None)
-line_behind [] k n f = elim (bytes_eq n k) as (λ b. option_map (λ f. f.line) (cond b (Some f) None) ≡ (if b then Some f.line else None)) [ true ↦ refl | false ↦ refl ]
-line_behind (e ∷ es) k n f =
-    elim (bytes_eq n e.0) as (λ b. option_map (λ f. f.line) (cond b (Some e.1) (lookup (bytes_eq n) (es ++ (k, f) ∷ []))) ≡ option_or (option_map (λ f. f.line) (cond b (Some e.1) (lookup (bytes_eq n) es))) (if bytes_eq n k then Some f.line else None)) [
+or_both : (o : Option Declared) (a b : Bool) (d : Declared) →
+    option_or (option_or o (if a then Some d else None)) (if b then Some d else None) ≡ option_or o (if (a || b) then Some d else None)
+or_both (Some x) a b d = refl
+or_both None true b d = refl
+or_both None false b d = refl
+
+-- one kind of declaration, of all names
+all_at : (d : Declared) (names : List (List ℕ)) (known : Declarations) (q : List ℕ) →
+    with_all d known names q ≡ option_or (known q) (if among names q then Some d else None)
+all_at d [] known q = sym (or_nothing (known q))
+all_at d (x ∷ xs) known q = all_at d xs (with_declared d known x) q ∙ or_both (known q) (bytes_eq q x) (among xs q) d
+
+-- a constant's first declaration
+abbrev pub first_of : Constant → First
+first_of c = record { line = c.line; value = c.value }
+
+-- the first constant of a name
+abbrev pub first_constant : List Constant → List ℕ → Option First
+first_constant [] q = None
+first_constant (c ∷ cs) q = if bytes_eq q c.name then Some (first_of c) else first_constant cs q
+
+or_first : (o : Option Declared) (b : Bool) (f : First) (r : Option First) →
+    option_or (option_or o (if b then Some (what.Constant f) else None)) (option_map what.Constant r) ≡ option_or o
+    (option_map what.Constant (if b then Some f else r))
+or_first (Some x) b f r = refl
+or_first None true f r = refl
+or_first None false f r = refl
+
+constants_at : (cs : List Constant) (known : Declarations) (q : List ℕ) →
+    with_constants known cs q ≡ option_or (known q) (option_map what.Constant (first_constant cs q))
+constants_at [] known q = sym (or_nothing (known q))
+constants_at (c ∷ cs) known q =
+    constants_at cs (with_constant known c) q ∙ or_first (known q) (bytes_eq q c.name) (first_of c) (first_constant cs q)
+
+-- a constant before an array before a subroutine before a timer
+abbrev pub chosen : Option First → (is_array is_sub is_timer : Bool) → Option Declared
+chosen c a s t =
+    option_or (option_or (option_or (option_map what.Constant c) (if a then Some what.Array else None))
+    (if s then Some what.Sub else None)) (if t then Some what.Timer else None)
+
+-- what a name of a program is
+pub declared_at : (p : Program) (q : List ℕ) →
+    declared_of p q ≡ chosen (first_constant p.consts q) (among (array_names p) q) (among (sub_names p) q) (among (timer_names p) q)
+declared_at p q =
+    let consts = with_constants (λ name. None) p.consts in
+    let arrays = with_all what.Array consts (array_names p) in
+    let subs = with_all what.Sub arrays (sub_names p) in
+    all_at what.Timer (timer_names p) subs q
+    ∙ ap (λ o. option_or o (if among (timer_names p) q then Some what.Timer else None)) (all_at what.Sub (sub_names p) arrays q
+    ∙ ap (λ o. option_or o (if among (sub_names p) q then Some what.Sub else None)) (all_at what.Array (array_names p) consts q
+    ∙ ap (λ o. option_or o (if among (array_names p) q then Some what.Array else None)) (constants_at p.consts (λ name. None) q)))
+
+first_there : (cs : List Constant) (q : List ℕ) → is_some (first_constant cs q) ≡ among (map (λ c. c.name) cs) q
+first_there [] q = refl
+first_there (c ∷ cs) q = elim (bytes_eq q c.name) as
+    (λ b. is_some (if b then Some (first_of c) else first_constant cs q) ≡ (b || among (map (λ c. c.name) cs) q)) [
       | true ↦ refl
-      | false ↦ line_behind es k n f
+      | false ↦ first_there cs q
     ]
 
-first_kept : (a b : Option ℕ) → is_some a ≡ true → option_or a b ≡ a
-first_kept None b e = absurd (true≢false (sym e))
-first_kept (Some x) b e = refl
+first_line : (cs : List Constant) (q : List ℕ) → option_map (λ (f : First). f.line) (first_constant cs q) ≡ const_line cs q
+first_line [] q = refl
+first_line (c ∷ cs) q = elim (bytes_eq q c.name) as
+    (λ b. option_map (λ (f : First). f.line) (if b then Some (first_of c) else first_constant cs q) ≡ (if b then Some c.line else const_line cs q)) [
+      | true ↦ refl
+      | false ↦ first_line cs q
+    ]
 
-first_assoc : (a b c : Option ℕ) → option_or (option_or a b) c ≡ option_or a (option_or b c)
-first_assoc None b c = refl
-first_assoc (Some x) b c = refl
+kind_chosen : (c : Option First) (a s t : Bool) →
+    kind_as (chosen c a s t) ≡ (if is_some c then kind.Constant else if a then kind.Array else if s then kind.Sub else if t then kind.Timer else kind.Variable)
+kind_chosen (Some f) a s t = refl
+kind_chosen None true s t = refl
+kind_chosen None false true t = refl
+kind_chosen None false false true = refl
+kind_chosen None false false false = refl
 
-some_line : (r : Option First) → is_some (option_map (λ f. f.line) r) ≡ is_some r
-some_line None = refl
-some_line (Some f) = refl
+line_chosen : (c : Option First) (a s t : Bool) → line_as (chosen c a s t) ≡ option_map (λ (f : First). f.line) c
+line_chosen (Some f) a s t = refl
+line_chosen None true s t = refl
+line_chosen None false true t = refl
+line_chosen None false false true = refl
+line_chosen None false false false = refl
 
-line_with : (es : List (List ℕ × First)) (c : Constant) (n : List ℕ) → line_in (with_const es c) n ≡ option_or (line_in es n) (if bytes_eq n c.name then Some c.line else None)
-line_with es c n = elim (among (const_keys es) c.name) as (λ b. among (const_keys es) c.name ≡ b → line_in (if b then es else es ++ (c.name, record { line = c.line; value = c.value }) ∷ []) n ≡ option_or (line_in es n) (if bytes_eq n c.name then Some c.line else None)) [
-  | true ↦ λ there. (elim (bytes_eq n c.name) as (λ b. bytes_eq n c.name ≡ b → line_in es n ≡ option_or (line_in es n) (if b then Some c.line else None)) [
-    | true ↦ λ e. sym (first_kept (line_in es n) (Some c.line) (some_line (lookup (bytes_eq n) es) ∙ some_found (bytes_eq n) es ∙ subst (λ m. among (const_keys es) m ≡ true) (sym (same_is n c.name e)) there))
-    | false ↦ λ e. sym (option_or-none (line_in es n))
-  ]) refl
-  | false ↦ λ e. line_behind es c.name n record { line = c.line; value = c.value }
-] refl
-
-line_first : (b : Bool) (l : ℕ) (o : Option ℕ) → option_or (if b then Some l else None) o ≡ (if b then Some l else o)
-line_first true l o = refl
-line_first false l o = refl
-
-line_with_all : (cs : List Constant) (es : List (List ℕ × First)) (n : List ℕ) → line_in (with_consts es cs) n ≡ option_or (line_in es n) (const_line cs n)
-line_with_all [] es n = sym (option_or-none (line_in es n))
-line_with_all (c ∷ cs) es n =
-    line_with_all cs (with_const es c) n ∙ ap (λ a. option_or a (const_line cs n)) (line_with es c n)
-    ∙ first_assoc (line_in es n) (if bytes_eq n c.name then Some c.line else None) (const_line cs n)
-    ∙ ap (option_or (line_in es n)) (line_first (bytes_eq n c.name) c.line (const_line cs n))
+taken_chosen : (c : Option First) (a s t : Bool) → taken_as (chosen c a s t) ≡ (is_some c || a)
+taken_chosen (Some f) a s t = refl
+taken_chosen None true s t = refl
+taken_chosen None false true t = refl
+taken_chosen None false false true = refl
+taken_chosen None false false false = refl
 
 -- ---- what is kept of a program tells what its names are
 
 module _ (k : Known) (p : Program) (h : Knows k p) where
-  consts_are : among (const_keys k.consts.entries) ≡ among (const_names p)
-  consts_are = ap (λ es. among (const_keys es)) h.consts ∙ ap among (keys_with_all p.consts []) ∙ among_distinct (const_names p)
+  known_at : (q : List ℕ) → declared_in k q ≡ chosen (first_constant p.consts q) (among (array_names p) q) (among (sub_names p) q) (among (timer_names p) q)
+  known_at q = ap (λ f. f q) h ∙ declared_at p q
 
-  arrays_are : among k.arrays.keys ≡ among (array_names p)
-  arrays_are = ap among h.arrays ∙ among_distinct (array_names p)
-
-  subs_are : among k.subs.keys ≡ among (sub_names p)
-  subs_are = ap among h.subs ∙ among_distinct (sub_names p)
-
-  timers_are : among k.timers.keys ≡ among (timer_names p)
-  timers_are = ap among h.timers ∙ among_distinct (timer_names p)
+  kind_at : (q : List ℕ) → kind_in k q ≡ kind_of p q
+  kind_at q =
+      ap kind_as (known_at q) ∙ kind_chosen (first_constant p.consts q) (among (array_names p) q) (among (sub_names p) q) (among (timer_names p) q)
+      ∙ ap (λ b. if b then kind.Constant else if among (array_names p) q then kind.Array else if among (sub_names p) q then kind.Sub else if among
+      (timer_names p) q then kind.Timer else kind.Variable) (first_there p.consts q)
 
   pub kinds_are : kind_in k ≡ kind_of p
-  kinds_are = λ i n. if consts_are i n then kind.Constant else if arrays_are i n then kind.Array else if subs_are i n then kind.Sub else if timers_are i n then kind.Timer else kind.Variable
+  kinds_are = λ i q. kind_at q i
+
+  taken_at : (q : List ℕ) → taken_in k q ≡ is_declared p q
+  taken_at q =
+      ap taken_as (known_at q) ∙ taken_chosen (first_constant p.consts q) (among (array_names p) q) (among (sub_names p) q) (among (timer_names p) q)
+      ∙ ap (λ b. b || among (array_names p) q) (first_there p.consts q)
 
   pub taken_are : taken_in k ≡ is_declared p
-  taken_are = λ i n. consts_are i n || arrays_are i n
+  taken_are = λ i q. taken_at q i
 
-  pub lines_are : line_in k.consts.entries ≡ const_line p.consts
-  lines_are = ap line_in h.consts ∙ (λ i n. line_with_all p.consts [] n i)
+  line_at : (q : List ℕ) → line_in k q ≡ const_line p.consts q
+  line_at q =
+      ap line_as (known_at q) ∙ line_chosen (first_constant p.consts q) (among (array_names p) q) (among (sub_names p) q) (among (timer_names p) q)
+      ∙ first_line p.consts q
+
+  pub lines_are : line_in k ≡ const_line p.consts
+  lines_are = λ i q. line_at q i
 
 -- ---- bodies
 
 -- the labels of a body, and then its items
-pub body_on : (kind : List ℕ → Kind) (above keys : List (List ℕ)) (body : Items) (f g : Option Finding) → keys ≡ distinct (label_names body) → g ≡ first_of_all f (label_findings [] (items_labels body))
+pub body_on : (kind : List ℕ → Kind) (above keys : List (List ℕ)) (body : Items) (f g : Option Finding) →
+    among keys ≡ among (distinct (label_names body)) → g ≡ first_of_all f (label_findings [] (items_labels body))
     → first_of_all g (items_findings kind (among above) (among keys) body) ≡ first_of_all f (body_findings kind above body)
 body_on kind above keys body f g k e =
     ap (λ o. first_of_all o (items_findings kind (among above) (among keys) body)) e
-    ∙ ap (λ l. first_of_all (first_of_all f (label_findings [] (items_labels body))) (items_findings kind (among above) l body)) (ap among k ∙ among_distinct (label_names body))
+    ∙ ap (λ l. first_of_all (first_of_all f (label_findings [] (items_labels body))) (items_findings kind (among above) l body))
+    (k ∙ among_distinct (label_names body))
     ∙ sym (findings_on (label_findings [] (items_labels body)) (items_findings kind (among above) (among (label_names body)) body) f)
-
-pub body_above : (kind : List ℕ → Kind) (above : List (List ℕ)) (body : Items) → body_findings kind (distinct above) body ≡ body_findings kind above body
-body_above kind above body = ap (λ a. label_findings [] (items_labels body) ++ items_findings kind a (among (label_names body)) body) (among_distinct above)
 
 -- ---- programs
 
 -- the findings of a program, one part after another
 pub all_on : (k : Known) (p : Program) → Knows k p → (start above : List (List ℕ)) (f g h j : Option Finding) → start ≡ []
     → f ≡ first_of_all None (const_findings [] p.consts)
-    → g ≡ first_of_all f (array_findings (line_in k.consts.entries) [] p.arrays)
-    → above ≡ with_names start (map (λ r. r.name) p.subs)
+    → g ≡ first_of_all f (array_findings (line_in k) [] p.arrays)
+    → among above ≡ among (with_names start (map (λ r. r.name) p.subs))
     → h ≡ first_of_all g (subs_findings (kind_in k) (taken_in k) start p.subs)
     → j ≡ first_of_all h (body_findings (kind_in k) above p.main.body)
     → j ≡ first_of_all None (findings p)
@@ -160,9 +215,12 @@ all_on k p knows start above f g h j none ef eg ea eh ej =
     let b = array_findings (const_line p.consts) [] p.arrays in
     let c = subs_findings (kind_of p) (is_declared p) [] p.subs in
     let d = body_findings (kind_of p) (sub_names p) p.main.body in
-    let at_b : array_findings (line_in k.consts.entries) [] p.arrays ≡ b = ap (λ l. array_findings l [] p.arrays) (lines_are k p knows) in
+    let at_b : array_findings (line_in k) [] p.arrays ≡ b = ap (λ l. array_findings l [] p.arrays) (lines_are k p knows) in
     let at_c : subs_findings (kind_in k) (taken_in k) start p.subs ≡ c = λ i. subs_findings (kinds_are k p knows i) (taken_are k p knows i) (none i) p.subs in
-    let above_is : above ≡ distinct (sub_names p) = ea ∙ ap (λ s. with_names s (sub_names p)) none in
-    let at_d : body_findings (kind_in k) above p.main.body ≡ d = (λ i. body_findings (kinds_are k p knows i) (above_is i) p.main.body) ∙ body_above (kind_of p) (sub_names p) p.main.body in
-    ej ∙ ap (first_of_all h) at_d ∙ ap (λ o. first_of_all o d) (eh ∙ ap (first_of_all g) at_c ∙ ap (λ o. first_of_all o c) (eg ∙ ap (first_of_all f) at_b ∙ ap (λ o. first_of_all o b) ef))
-    ∙ sym (findings_on c d (first_of_all (first_of_all None a) b)) ∙ sym (findings_on b (c ++ d) (first_of_all None a)) ∙ sym (findings_on a (b ++ (c ++ d)) None)
+    let above_is : among above ≡ among (sub_names p) = ea ∙ ap (λ s. among (with_names s (sub_names p))) none ∙ among_distinct (sub_names p) in
+    let at_d : body_findings (kind_in k) above p.main.body ≡ d =
+    λ i. label_findings [] (items_labels p.main.body) ++ items_findings (kinds_are k p knows i) (above_is i) (among (label_names p.main.body)) p.main.body in
+    ej ∙ ap (first_of_all h) at_d ∙ ap (λ o. first_of_all o d)
+    (eh ∙ ap (first_of_all g) at_c ∙ ap (λ o. first_of_all o c) (eg ∙ ap (first_of_all f) at_b ∙ ap (λ o. first_of_all o b) ef))
+    ∙ sym (findings_on c d (first_of_all (first_of_all None a) b)) ∙ sym (findings_on b (c ++ d) (first_of_all None a)) ∙
+    sym (findings_on a (b ++ (c ++ d)) None)

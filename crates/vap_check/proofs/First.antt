@@ -17,7 +17,8 @@ use Rattle.vap_check.specs.Findings.{findings}
 use Rattle.vap_check.specs.Accepted.{Accepted, Refuses, passed, program_size, wrong, many, long}
 
 -- what isn't sooner than something that isn't sooner than a third, isn't sooner than the third
-passes : (al ao bl bo cl co : ℕ) → (nat_lt al bl || (al == bl && nat_lt ao bo)) ≡ false → (nat_lt bl cl || (bl == cl && nat_lt bo co)) ≡ false → (nat_lt al cl || (al == cl && nat_lt ao co)) ≡ false
+passes : (al ao bl bo cl co : ℕ) → (nat_lt al bl || (al == bl && nat_lt ao bo)) ≡ false → (nat_lt bl cl || (bl == cl && nat_lt bo co)) ≡ false →
+    (nat_lt al cl || (al == cl && nat_lt ao co)) ≡ false
 passes al ao bl bo cl co e f = grind (arith, nat_tests)
 
 turns : (al ao bl bo : ℕ) → (nat_lt al bl || (al == bl && nat_lt ao bo)) ≡ true → (nat_lt bl al || (bl == al && nat_lt bo ao)) ≡ false
@@ -89,8 +90,10 @@ still (x ∷ fs) g e =
 pub first_is : (fs : List Finding) (f : Finding) → first_of_all None fs ≡ Some f → IsFirst fs f
 first_is [] f e = cc
 first_is (x ∷ fs) f e =
-    let l = least fs x f e in
-    (either l.from (λ is. subst (Contains (x ∷ fs)) is (here x fs)) (λ c. more x fs f c), All-from_recursion (λ h. is_sooner h f ≡ false) (x ∷ fs) (l.before, l.none))
+    let l = least fs x f e in (
+      either l.from (λ is. subst (Contains (x ∷ fs)) is (here x fs)) (λ c. more x fs f c),
+      All-from_recursion (λ h. is_sooner h f ≡ false) (x ∷ fs) (l.before, l.none),
+    )
 
 -- where none is kept there is none
 pub none_is : (fs : List Finding) → first_of_all None fs ≡ None → fs ≡ []

@@ -2,27 +2,22 @@
 use Rattle.std.proofs.Common.{◌≡◌, ℕ, ◌≤◌, Bool, true, false, List, [], ◌∷◌, ◌++◌, map, length, Option, None, Some, refl, sym, ap, ◌∙◌, if◌then◌else◌, append_assoc, append-nil}
 use Rattle.std.specs.Prelude.{nat_lt, filter}
 use Rattle.std.proofs.lemmas.Bool.{ltb-false}
-use Rattle.std.proofs.lemmas.List.{map-append}
-use Rattle.vap_ast.specs.declared.name.Entry.{Entry}
-use Rattle.vap_ast.specs.declared.name.Meaning.TheVariants.{Constant as Constant_is}
-use Rattle.vap_ast.specs.Syntax.{Constant, Array, Routine, Program}
+use Rattle.vap_ast.specs.Syntax.{Array, Routine, Program}
 use Rattle.vap_check.specs.declared.refusal.CheckWhy.{CheckWhy}
-use Rattle.vap_check.specs.declared.refusal.CheckWhy.TheVariants.{ConstTwice, NameKind, SubTwice, ArraySize}
+use Rattle.vap_check.specs.declared.refusal.CheckWhy.TheVariants.{NameKind, SubTwice, ArraySize}
 use Rattle.vap_check.specs.declared.refusal.Which.{Which}
 use Rattle.vap_check.specs.declared.refusal.Which.TheVariants.{Variables, Timers, Arrays, Cells, Subroutines, Labels}
 use Rattle.vap_check.specs.declared.finding.Finding.{Finding}
-use Rattle.vap_check.specs.declared.kinds.First.{First}
 use Rattle.vap_check.specs.declared.kinds.Kind.{Kind}
 use Rattle.vap_check.specs.declared.kinds.Kind.TheVariants as kind
-use Rattle.vap_check.specs.declared.kinds.Known.{Known}
+use Rattle.vap_check.specs.declared.known.Known.{Known}
 use Rattle.vap_check.specs.FirstFinding.{when}
 use Rattle.vap_check.specs.Names.{among, with_name, with_names, distinct, kind_of, uses, is_kind, variables, timers, array_names, sub_names}
-use Rattle.vap_check.specs.KeptNames.{const_keys, with_const, with_consts, Knows, of_kind}
+use Rattle.vap_check.specs.KeptNames.{Knows, of_kind}
 use Rattle.vap_check.specs.Findings.{const_findings, array_findings, subs_findings, body_findings, clash_findings, is_odd_size, const_line, is_declared, findings}
 use Rattle.vap_check.specs.Accepted.{passed, cells, labels}
-use Rattle.vap_check.specs.Numbers.{consts_in, consts_of}
 use Rattle.vap_check.specs.Usable.{Few}
-use Rattle.vap_check.proofs.Agree.{keys_with, kinds_are}
+use Rattle.vap_check.proofs.Agree.{kinds_are}
 
 -- two lists that are empty together
 pub first_empty : (a b : List Finding) → a ++ b ≡ [] → a ≡ []
@@ -40,28 +35,10 @@ when_none false line why e = refl
 pub one_name : (names : List (List ℕ)) (x : List ℕ) → among names x ≡ false → with_name names x ≡ names ++ x ∷ []
 one_name names x e = ap (λ b. if b then names else names ++ x ∷ []) e
 
--- ---- constants
-
-one_const : (es : List (List ℕ × First)) (c : Constant) → among (const_keys es) c.name ≡ false → consts_in (with_const es c) ≡ consts_in es ++ record { name = c.name; meaning = Constant_is c.value } ∷ []
-one_const es c e =
-    ap (λ b. consts_in (if b then es else es ++ (c.name, record { line = c.line; value = c.value }) ∷ [])) e ∙ map-append (λ e. record { name = e.0; meaning = Constant_is e.1.value }) es _
-
-fresh_consts : (cs : List Constant) (before : List (List ℕ)) (es : List (List ℕ × First)) → const_keys es ≡ before → const_findings before cs ≡ []
-    → consts_in (with_consts es cs) ≡ consts_in es ++ map (λ c. record { name = c.name; meaning = Constant_is c.value }) cs
-fresh_consts [] before es k e = sym (append-nil (consts_in es))
-fresh_consts (c ∷ cs) before es k e =
-    let w = when (among before c.name) c.line ConstTwice in
-    let rest = const_findings (with_name before c.name) cs in
-    let new : among (const_keys es) c.name ≡ false = ap (λ ks. among ks c.name) k ∙ when_none (among before c.name) c.line ConstTwice (first_empty w rest e) in
-    let keys : const_keys (with_const es c) ≡ with_name before c.name = keys_with es c ∙ ap (λ ks. with_name ks c.name) k in
-    let later = map (λ (c : Constant). record { name = c.name; meaning = Constant_is c.value }) cs in
-    fresh_consts cs (with_name before c.name) (with_const es c) keys (second_empty w rest e)
-    ∙ ap (λ (xs : List Entry). xs ++ later) (one_const es c new)
-    ∙ append_assoc (consts_in es) (record { name = c.name; meaning = Constant_is c.value } ∷ []) later
-
 -- ---- arrays
 
-fresh_arrays : (xs : List Array) (line_of : List ℕ → Option ℕ) (before : List (List ℕ)) → array_findings line_of before xs ≡ [] → with_names before (map (λ a. a.name) xs) ≡ before ++ map (λ a. a.name) xs
+fresh_arrays : (xs : List Array) (line_of : List ℕ → Option ℕ) (before : List (List ℕ)) → array_findings line_of before xs ≡ [] →
+    with_names before (map (λ a. a.name) xs) ≡ before ++ map (λ a. a.name) xs
 fresh_arrays [] line_of before e = sym (append-nil before)
 fresh_arrays (a ∷ xs) line_of before e =
     let w = when (among before a.name) a.line NameKind in
@@ -71,11 +48,13 @@ fresh_arrays (a ∷ xs) line_of before e =
     let new = when_none (among before a.name) a.line NameKind (first_empty w (clash ++ (size ++ rest)) e) in
     let nothing : rest ≡ [] = second_empty size rest (second_empty clash (size ++ rest) (second_empty w (clash ++ (size ++ rest)) e)) in
     let later = map (λ (a : Array). a.name) xs in
-    fresh_arrays xs line_of (with_name before a.name) nothing ∙ ap (λ (ns : List (List ℕ)). ns ++ later) (one_name before a.name new) ∙ append_assoc before (a.name ∷ []) later
+    fresh_arrays xs line_of (with_name before a.name) nothing ∙ ap (λ (ns : List (List ℕ)). ns ++ later) (one_name before a.name new) ∙
+    append_assoc before (a.name ∷ []) later
 
 -- ---- subroutines
 
-fresh_subs : (rs : List Routine) (kind : List ℕ → Kind) (taken : List ℕ → Bool) (before : List (List ℕ)) → subs_findings kind taken before rs ≡ [] → with_names before (map (λ r. r.name) rs) ≡ before ++ map (λ r. r.name) rs
+fresh_subs : (rs : List Routine) (kind : List ℕ → Kind) (taken : List ℕ → Bool) (before : List (List ℕ)) → subs_findings kind taken before rs ≡ [] →
+    with_names before (map (λ r. r.name) rs) ≡ before ++ map (λ r. r.name) rs
 fresh_subs [] kind taken before e = sym (append-nil before)
 fresh_subs (r ∷ rs) kind taken before e =
     let w = when (among before r.name) r.line SubTwice in
@@ -85,7 +64,8 @@ fresh_subs (r ∷ rs) kind taken before e =
     let new = when_none (among before r.name) r.line SubTwice (first_empty w (other ++ (body ++ rest)) e) in
     let nothing : rest ≡ [] = second_empty body rest (second_empty other (body ++ rest) (second_empty w (other ++ (body ++ rest)) e)) in
     let later = map (λ (r : Routine). r.name) rs in
-    fresh_subs rs kind taken (with_name before r.name) nothing ∙ ap (λ (ns : List (List ℕ)). ns ++ later) (one_name before r.name new) ∙ append_assoc before (r.name ∷ []) later
+    fresh_subs rs kind taken (with_name before r.name) nothing ∙ ap (λ (ns : List (List ℕ)). ns ++ later) (one_name before r.name new) ∙
+    append_assoc before (r.name ∷ []) later
 
 -- ---- a program
 
@@ -117,21 +97,17 @@ module _ (p : Program) (clean : findings p ≡ []) where
   pub no_main : body_findings (kind_of p) (sub_names p) p.main.body ≡ []
   no_main = second_empty sub_part main_part past_arrays
 
-  module _ (k : Known) (knows : Knows k p) where
-    pub consts_kept : consts_in k.consts.entries ≡ consts_of p
-    consts_kept = ap consts_in knows.consts ∙ fresh_consts p.consts [] [] refl no_const
+  pub arrays_kept : distinct (array_names p) ≡ array_names p
+  arrays_kept = fresh_arrays p.arrays (const_line p.consts) [] no_array
 
-    pub arrays_kept : k.arrays.keys ≡ array_names p
-    arrays_kept = knows.arrays ∙ fresh_arrays p.arrays (const_line p.consts) [] no_array
-
-    pub subs_kept : k.subs.keys ≡ sub_names p
-    subs_kept = knows.subs ∙ fresh_subs p.subs (kind_of p) (is_declared p) [] no_sub
+  pub subs_kept : distinct (sub_names p) ≡ sub_names p
+  subs_kept = fresh_subs p.subs (kind_of p) (is_declared p) [] no_sub
 
 module _ (p : Program) (k : Known) (knows : Knows k p) where
-  pub timers_kept : with_names [] (of_kind k kind.Timer (uses p)) ≡ timers p
+  pub timers_kept : distinct (of_kind k kind.Timer (uses p)) ≡ timers p
   timers_kept = ap (λ kind_is. distinct (filter (λ n. is_kind kind.Timer (kind_is n)) (uses p))) (kinds_are k p knows)
 
-  pub variables_kept : with_names [] (of_kind k kind.Variable (uses p)) ≡ variables p
+  pub variables_kept : distinct (of_kind k kind.Variable (uses p)) ≡ variables p
   variables_kept = ap (λ kind_is. distinct (filter (λ n. is_kind kind.Variable (kind_is n)) (uses p))) (kinds_are k p knows)
 
 -- ---- limits

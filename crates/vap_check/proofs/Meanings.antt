@@ -3,16 +3,14 @@ use Rattle.std.proofs.Common.{◌≡◌, ℕ, suc, ◌+◌, Bool, true, false, n
 use Rattle.std.specs.Prelude.{position, nat_lt}
 use Rattle.std.specs.List.{position_or_len}
 use Rattle.std.proofs.lemmas.Bool.Decides.{nat_tests}
-use Rattle.std.specs.Map.{lookup}
 use Rattle.std.specs.Option.{option_map, option_or}
 use Rattle.std.specs.Str.{bytes_eq}
 use Rattle.std.proofs.lemmas.Slice.Eq.{bytes_eq-Decides}
 use Rattle.vap_ast.specs.declared.name.Entry.{Entry}
 use Rattle.vap_ast.specs.declared.name.Meaning.{Meaning}
-use Rattle.vap_ast.specs.declared.name.Meaning.TheVariants.{Constant, Array, Sub, Timer, Variable}
+use Rattle.vap_ast.specs.declared.name.Meaning.TheVariants.{Array, Sub, Timer, Variable}
 use Rattle.vap_ast.specs.Names.{meaning_in}
-use Rattle.vap_check.specs.declared.kinds.First.{First}
-use Rattle.vap_check.specs.Numbers.{numbered, entries, consts_in}
+use Rattle.vap_check.specs.Numbers.{numbered, entries}
 
 same_truth : (b c : Bool) → (b ≡ true → c ≡ true) → (c ≡ true → b ≡ true) → b ≡ c
 same_truth true c f g = sym (f refl)
@@ -20,13 +18,8 @@ same_truth false true f g = g refl
 same_truth false false f g = refl
 
 pub turned : (a b : List ℕ) → bytes_eq a b ≡ bytes_eq b a
-turned a b = same_truth (bytes_eq a b) (bytes_eq b a) (λ e. (bytes_eq-Decides b a).1 (sym ((bytes_eq-Decides a b).0 e))) (λ e. (bytes_eq-Decides a b).1 (sym ((bytes_eq-Decides b a).0 e)))
-
-pub const_found : (es : List (List ℕ × First)) (n : List ℕ) → meaning_in (consts_in es) n ≡ option_map (λ f. Constant f.value) (lookup (bytes_eq n) es)
-const_found [] n = refl
-const_found (e ∷ es) n =
-    ap (λ b. if b then Some (Constant e.1.value) else meaning_in (consts_in es) n) (turned e.0 n)
-    ∙ (elim (bytes_eq n e.0) as (λ b. (if b then Some (Constant e.1.value) else meaning_in (consts_in es) n) ≡ option_map (λ f. Constant f.value) (cond b (Some e.1) (lookup (bytes_eq n) es))) [ true ↦ refl | false ↦ const_found es n ])
+turned a b = same_truth (bytes_eq a b) (bytes_eq b a) (λ e. (bytes_eq-Decides b a).1 (sym ((bytes_eq-Decides a b).0 e)))
+    (λ e. (bytes_eq-Decides a b).1 (sym ((bytes_eq-Decides b a).0 e)))
 
 later : (n m : ℕ) → cond (nat_lt (1 + n) (suc m)) (Some (1 + n)) None ≡ option_map suc (cond (nat_lt n m) (Some n) None)
 later n m =
@@ -38,7 +31,8 @@ later n m =
 pub position_step : (t : List ℕ → Bool) (x : List ℕ) (xs : List (List ℕ)) → position t (x ∷ xs) ≡ cond (t x) (Some 0) (option_map suc (position t xs))
 position_step t x xs =
     let e : nat_lt 0 (suc (length xs)) ≡ true = grind (arith, nat_tests) in
-    elim (t x) as (λ b. cond (nat_lt (cond (not b) (1 + position_or_len t xs) 0) (suc (length xs))) (Some (cond (not b) (1 + position_or_len t xs) 0)) None ≡ cond b (Some 0) (option_map suc (position t xs))) [
+    elim (t x) as (λ b. cond (nat_lt (cond (not b) (1 + position_or_len t xs) 0) (suc (length xs)))
+    (Some (cond (not b) (1 + position_or_len t xs) 0)) None ≡ cond b (Some 0) (option_map suc (position t xs))) [
       | true ↦ ap (λ b. cond b (Some 0) None) e
       | false ↦ later (position_or_len t xs) (length xs)
     ]
@@ -50,11 +44,13 @@ number_step f k (Some i) = let e : k + 1 + i ≡ k + suc i = omega arith in ap (
 number_first : (f : ℕ → Meaning) (k : ℕ) → Some (f k) ≡ option_map (λ i. f (k + i)) (Some 0)
 number_first f k = let e : k ≡ k + 0 = omega arith in ap (λ j. Some (f j)) e
 
-number_found : (f : ℕ → Meaning) (ns : List (List ℕ)) (k : ℕ) (n : List ℕ) → meaning_in (numbered f k ns) n ≡ option_map (λ i. f (k + i)) (position (bytes_eq n) ns)
+number_found : (f : ℕ → Meaning) (ns : List (List ℕ)) (k : ℕ) (n : List ℕ) →
+    meaning_in (numbered f k ns) n ≡ option_map (λ i. f (k + i)) (position (bytes_eq n) ns)
 number_found f [] k n = refl
 number_found f (x ∷ xs) k n =
     ap (λ b. if b then Some (f k) else meaning_in (numbered f (k + 1) xs) n) (turned x n)
-    ∙ (elim (bytes_eq n x) as (λ b. (if b then Some (f k) else meaning_in (numbered f (k + 1) xs) n) ≡ option_map (λ i. f (k + i)) (cond b (Some 0) (option_map suc (position (bytes_eq n) xs)))) [
+    ∙ (elim (bytes_eq n x) as (λ b. (if b then Some (f k) else meaning_in (numbered f (k + 1) xs) n) ≡ option_map (λ i. f (k + i))
+    (cond b (Some 0) (option_map suc (position (bytes_eq n) xs)))) [
       | true ↦ number_first f k
       | false ↦ number_found f xs (k + 1) n ∙ number_step f k (position (bytes_eq n) xs)
     ])
@@ -69,7 +65,9 @@ numbers_found f ns n = number_found f ns 0 n ∙ from_zero f (position (bytes_eq
 
 meaning_on : (a b : List Entry) (n : List ℕ) → meaning_in (a ++ b) n ≡ option_or (meaning_in a n) (meaning_in b n)
 meaning_on [] b n = refl
-meaning_on (e ∷ a) b n = elim (bytes_eq e.name n) as (λ c. (if c then Some e.meaning else meaning_in (a ++ b) n) ≡ option_or (if c then Some e.meaning else meaning_in a n) (meaning_in b n)) [ true ↦ refl | false ↦ meaning_on a b n ]
+meaning_on (e ∷ a) b n = elim (bytes_eq e.name n) as
+    (λ c. (if c then Some e.meaning else meaning_in (a ++ b) n) ≡ option_or (if c then Some e.meaning else meaning_in a n) (meaning_in b n))
+    [ true ↦ refl | false ↦ meaning_on a b n ]
 
 -- a name is the first of what it may be
 pub meaning_is : (consts : List Entry) (arrays subs timers variables : List (List ℕ)) (n : List ℕ) → meaning_in (entries consts arrays subs timers variables) n
@@ -81,4 +79,7 @@ meaning_is consts arrays subs timers variables n =
     let t = numbered Timer 0 timers in
     let v = numbered Variable 0 variables in
     meaning_on consts (a ++ (s ++ (t ++ v))) n
-    ∙ ap (option_or (meaning_in consts n)) (meaning_on a (s ++ (t ++ v)) n ∙ (λ i. option_or (numbers_found Array arrays n i) ((meaning_on s (t ++ v) n ∙ (λ j. option_or (numbers_found Sub subs n j) ((meaning_on t v n ∙ (λ k. option_or (numbers_found Timer timers n k) (numbers_found Variable variables n k))) j))) i)))
+    ∙ ap (option_or (meaning_in consts n)) (meaning_on a (s ++ (t ++ v)) n ∙
+    (λ i. option_or (numbers_found Array arrays n i)
+    ((meaning_on s (t ++ v) n ∙ (λ j. option_or (numbers_found Sub subs n j)
+    ((meaning_on t v n ∙ (λ k. option_or (numbers_found Timer timers n k) (numbers_found Variable variables n k))) j))) i)))

@@ -36,20 +36,32 @@ use Rattle.vap_check.proofs.Fresh.{first_empty, second_empty, when_none, one_nam
 found_front : (ns more : List (List ℕ)) (n : List ℕ) → among ns n ≡ true → (i : ℕ) × (i < length ns) × (position (bytes_eq n) (ns ++ more) ≡ Some i)
 found_front [] more n e = absurd (true≢false (sym e))
 found_front (x ∷ xs) more n e =
-    (elim (bytes_eq n x) as (λ b. bytes_eq n x ≡ b → (b || among xs n) ≡ true → (i : ℕ) × (i < suc (length xs)) × (position (bytes_eq n) (x ∷ (xs ++ more)) ≡ Some i)) [
-      | true ↦ λ t h. (0, omega arith, position_step (bytes_eq n) x (xs ++ more) ∙ ap (λ b. cond b (Some 0) (option_map suc (position (bytes_eq n) (xs ++ more)))) t)
-      | false ↦ λ t h. let r = found_front xs more n h in (suc r.0, omega (arith, r.1), position_step (bytes_eq n) x (xs ++ more) ∙ ap (λ b. cond b (Some 0) (option_map suc (position (bytes_eq n) (xs ++ more)))) t ∙ ap (option_map suc) r.2)
+    (elim (bytes_eq n x) as (λ b. bytes_eq n x ≡ b → (b || among xs n) ≡ true → (i : ℕ) × (i < suc (length xs))
+    × (position (bytes_eq n) (x ∷ (xs ++ more)) ≡ Some i)) [
+      | true ↦ λ t h. (
+        0,
+        omega arith,
+        position_step (bytes_eq n) x (xs ++ more) ∙
+            ap (λ b. cond b (Some 0) (option_map suc (position (bytes_eq n) (xs ++ more)))) t,
+      )
+      | false ↦ λ t h. let r = found_front xs more n h in (
+        suc r.0,
+        omega (arith, r.1),
+        position_step (bytes_eq n) x (xs ++ more) ∙
+            ap (λ b. cond b (Some 0) (option_map suc (position (bytes_eq n) (xs ++ more)))) t ∙ ap (option_map suc) r.2,
+      )
     ]) refl e
 
-found_at : (ns : List (List ℕ)) (n : List ℕ) → among ns n ≡ true → (i : ℕ) × (i < length ns) × (position (bytes_eq n) ns ≡ Some i)
+pub found_at : (ns : List (List ℕ)) (n : List ℕ) → among ns n ≡ true → (i : ℕ) × (i < length ns) × (position (bytes_eq n) ns ≡ Some i)
 found_at ns n e = let r = found_front ns [] n e in (r.0, r.1, ap (position (bytes_eq n)) (sym (append-nil ns)) ∙ r.2)
 
-absent_at : (ns : List (List ℕ)) (n : List ℕ) → among ns n ≡ false → position (bytes_eq n) ns ≡ None
+pub absent_at : (ns : List (List ℕ)) (n : List ℕ) → among ns n ≡ false → position (bytes_eq n) ns ≡ None
 absent_at [] n e = refl
 absent_at (x ∷ xs) n e =
     (elim (bytes_eq n x) as (λ b. bytes_eq n x ≡ b → (b || among xs n) ≡ false → position (bytes_eq n) (x ∷ xs) ≡ None) [
       | true ↦ λ t h. absurd (true≢false h)
-      | false ↦ λ t h. position_step (bytes_eq n) x xs ∙ ap (λ b. cond b (Some 0) (option_map suc (position (bytes_eq n) xs))) t ∙ ap (option_map suc) (absent_at xs n h)
+      | false ↦ λ t h. position_step (bytes_eq n) x xs ∙ ap (λ b. cond b (Some 0) (option_map suc (position (bytes_eq n) xs))) t ∙
+          ap (option_map suc) (absent_at xs n h)
     ]) refl e
 
 abbrev entry_of : Constant → Entry
@@ -58,15 +70,18 @@ entry_of c = record { name = c.name; meaning = Const_is c.value }
 const_there : (cs : List Constant) (n : List ℕ) → among (map (λ c. c.name) cs) n ≡ true → (v : ℤ) × (meaning_in (map entry_of cs) n ≡ Some (Const_is v))
 const_there [] n e = absurd (true≢false (sym e))
 const_there (c ∷ cs) n e =
-    (elim (bytes_eq n c.name) as (λ b. bytes_eq n c.name ≡ b → (b || among (map (λ c. c.name) cs) n) ≡ true → (v : ℤ) × ((if bytes_eq c.name n then Some (Const_is c.value) else meaning_in (map entry_of cs) n) ≡ Some (Const_is v))) [
+    (elim (bytes_eq n c.name) as (λ b. bytes_eq n c.name ≡ b → (b || among (map (λ c. c.name) cs) n) ≡ true → (v : ℤ)
+    × ((if bytes_eq c.name n then Some (Const_is c.value) else meaning_in (map entry_of cs) n) ≡ Some (Const_is v))) [
       | true ↦ λ t h. (c.value, ap (λ b. if b then Some (Const_is c.value) else meaning_in (map entry_of cs) n) (turned c.name n ∙ t))
-      | false ↦ λ t h. let r = const_there cs n h in (r.0, ap (λ b. if b then Some (Const_is c.value) else meaning_in (map entry_of cs) n) (turned c.name n ∙ t) ∙ r.1)
+      | false ↦ λ t h. let r = const_there cs n h in
+          (r.0, ap (λ b. if b then Some (Const_is c.value) else meaning_in (map entry_of cs) n) (turned c.name n ∙ t) ∙ r.1)
     ]) refl e
 
 const_absent : (cs : List Constant) (n : List ℕ) → among (map (λ c. c.name) cs) n ≡ false → meaning_in (map entry_of cs) n ≡ None
 const_absent [] n e = refl
 const_absent (c ∷ cs) n e =
-    (elim (bytes_eq n c.name) as (λ b. bytes_eq n c.name ≡ b → (b || among (map (λ c. c.name) cs) n) ≡ false → (if bytes_eq c.name n then Some (Const_is c.value) else meaning_in (map entry_of cs) n) ≡ None) [
+    (elim (bytes_eq n c.name) as (λ b. bytes_eq n c.name ≡ b → (b || among (map (λ c. c.name) cs) n) ≡ false →
+    (if bytes_eq c.name n then Some (Const_is c.value) else meaning_in (map entry_of cs) n) ≡ None) [
       | true ↦ λ t h. absurd (true≢false h)
       | false ↦ λ t h. ap (λ b. if b then Some (Const_is c.value) else meaning_in (map entry_of cs) n) (turned c.name n ∙ t) ∙ const_absent cs n h
     ]) refl e
@@ -75,7 +90,8 @@ among_filter : (f : List ℕ → Bool) (xs : List (List ℕ)) (n : List ℕ) →
 among_filter f [] n t e = e
 among_filter f (x ∷ xs) n t e =
     (elim (bytes_eq n x) as (λ b. bytes_eq n x ≡ b → (b || among xs n) ≡ true → among (if f x then x ∷ filter f xs else filter f xs) n ≡ true) [
-      | true ↦ λ s h. ap (λ b. among (if b then x ∷ filter f xs else filter f xs) n) (subst (λ y. f y ≡ true) (same_is n x s) t) ∙ ap (λ b. b || among (filter f xs) n) s
+      | true ↦ λ s h. ap (λ b. among (if b then x ∷ filter f xs else filter f xs) n) (subst (λ y. f y ≡ true) (same_is n x s) t) ∙
+          ap (λ b. b || among (filter f xs) n) s
       | false ↦ λ s h. (elim (f x) as (λ c. among (if c then x ∷ filter f xs else filter f xs) n ≡ true) [
         | true ↦ ap (λ b. b || among (filter f xs) n) s ∙ among_filter f xs n t h
         | false ↦ among_filter f xs n t h
@@ -104,9 +120,12 @@ not_false false e = absurd (true≢false e)
 
 module _ (p : Program) where
   -- what the name n means, part by part
-  parts : (n : List ℕ) (c a s t v : Option Meaning) → meaning_in (consts_of p) n ≡ c → option_map Array_is (position (bytes_eq n) (array_names p)) ≡ a → option_map Sub_is (position (bytes_eq n) (sub_names p)) ≡ s
-      → option_map Timer_is (position (bytes_eq n) (timers p)) ≡ t → option_map Variable_is (position (bytes_eq n) (variables p)) ≡ v → meaning_in (names_of p) n ≡ option_or c (option_or a (option_or s (option_or t v)))
-  parts n c a s t v ec ea es et ev = meaning_is (consts_of p) (array_names p) (sub_names p) (timers p) (variables p) n ∙ (λ i. option_or (ec i) (option_or (ea i) (option_or (es i) (option_or (et i) (ev i)))))
+  parts : (n : List ℕ) (c a s t v : Option Meaning) → meaning_in (consts_of p) n ≡ c →
+      option_map Array_is (position (bytes_eq n) (array_names p)) ≡ a → option_map Sub_is (position (bytes_eq n) (sub_names p)) ≡ s
+      → option_map Timer_is (position (bytes_eq n) (timers p)) ≡ t → option_map Variable_is (position (bytes_eq n) (variables p)) ≡ v →
+      meaning_in (names_of p) n ≡ option_or c (option_or a (option_or s (option_or t v)))
+  parts n c a s t v ec ea es et ev = meaning_is (consts_of p) (array_names p) (sub_names p) (timers p) (variables p) n ∙
+      (λ i. option_or (ec i) (option_or (ea i) (option_or (es i) (option_or (et i) (ev i)))))
 
   abbrev Is : List ℕ → Kind → Type 0
   Is n kind.Constant = (v : ℤ) × (meaning_in (names_of p) n ≡ Some (Const_is v))
@@ -119,55 +138,76 @@ module _ (p : Program) where
   is_const n e = let r = const_there p.consts n e in (r.0, parts n _ _ _ _ _ r.1 refl refl refl refl)
 
   is_array : (n : List ℕ) → among (const_names p) n ≡ false → among (array_names p) n ≡ true → Is n kind.Array
-  is_array n c e = let r = found_at (array_names p) n e in (r.0, r.1, parts n _ _ _ _ _ (const_absent p.consts n c) (ap (option_map Array_is) r.2) refl refl refl)
+  is_array n c e = let r = found_at (array_names p) n e in
+      (r.0, r.1, parts n _ _ _ _ _ (const_absent p.consts n c) (ap (option_map Array_is) r.2) refl refl refl)
 
   -- a subroutine's number is that of the first with its name
-  is_sub : (n : List ℕ) (i : ℕ) → among (const_names p) n ≡ false → among (array_names p) n ≡ false → position (bytes_eq n) (sub_names p) ≡ Some i → meaning_in (names_of p) n ≡ Some (Sub_is i)
-  is_sub n i c a e = parts n _ _ _ _ _ (const_absent p.consts n c) (ap (option_map Array_is) (absent_at (array_names p) n a)) (ap (option_map Sub_is) e) refl refl
+  is_sub : (n : List ℕ) (i : ℕ) → among (const_names p) n ≡ false → among (array_names p) n ≡ false → position (bytes_eq n) (sub_names p) ≡ Some i →
+      meaning_in (names_of p) n ≡ Some (Sub_is i)
+  is_sub n i c a e = parts n _ _ _ _ _ (const_absent p.consts n c) (ap (option_map Array_is) (absent_at (array_names p) n a))
+      (ap (option_map Sub_is) e) refl refl
 
   module _ (n : List ℕ) (c : among (const_names p) n ≡ false) (a : among (array_names p) n ≡ false) (s : among (sub_names p) n ≡ false) where
     undeclared : kind_of p n ≡ (if among (timer_names p) n then kind.Timer else kind.Variable)
-    undeclared = λ i. if c i then kind.Constant else if a i then kind.Array else if s i then kind.Sub else if among (timer_names p) n then kind.Timer else kind.Variable
+    undeclared = λ i. if c i then kind.Constant else if a i then kind.Array else if s i then kind.Sub else if among (timer_names p) n then kind.Timer
+        else kind.Variable
 
     is_a_timer : among (timer_names p) n ≡ true → Is n kind.Timer
     is_a_timer t used =
         let f = λ (m : List ℕ). is_kind kind.Timer (kind_of p m) in
         let yes_it : f n ≡ true = ap (is_kind kind.Timer) (undeclared ∙ ap (λ b. if b then kind.Timer else kind.Variable) t) in
         let there : among (timers p) n ≡ true = (λ i. among_distinct (filter f (uses p)) i n) ∙ among_filter f (uses p) n yes_it used in
-        let r = found_at (timers p) n there in
-        (r.0, r.1, parts n _ _ _ _ _ (const_absent p.consts n c) (ap (option_map Array_is) (absent_at (array_names p) n a)) (ap (option_map Sub_is) (absent_at (sub_names p) n s)) (ap (option_map Timer_is) r.2) refl)
+        let r = found_at (timers p) n there in (
+          r.0,
+          r.1,
+          parts n _ _ _ _ _ (const_absent p.consts n c) (ap (option_map Array_is) (absent_at (array_names p) n a))
+              (ap (option_map Sub_is) (absent_at (sub_names p) n s)) (ap (option_map Timer_is) r.2) refl,
+        )
 
     is_a_variable : among (timer_names p) n ≡ false → Is n kind.Variable
     is_a_variable t used =
         let f = λ (m : List ℕ). is_kind kind.Timer (kind_of p m) in
         let g = λ (m : List ℕ). is_kind kind.Variable (kind_of p m) in
         let kind_is : kind_of p n ≡ kind.Variable = undeclared ∙ ap (λ b. if b then kind.Timer else kind.Variable) t in
-        let no_timer : among (timers p) n ≡ false = (λ i. among_distinct (filter f (uses p)) i n) ∙ among_no_filter f (uses p) n (ap (is_kind kind.Timer) kind_is) in
-        let there : among (variables p) n ≡ true = (λ i. among_distinct (filter g (uses p)) i n) ∙ among_filter g (uses p) n (ap (is_kind kind.Variable) kind_is) used in
-        let r = found_at (variables p) n there in
-        (r.0, r.1, parts n _ _ _ _ _ (const_absent p.consts n c) (ap (option_map Array_is) (absent_at (array_names p) n a)) (ap (option_map Sub_is) (absent_at (sub_names p) n s)) (ap (option_map Timer_is) (absent_at (timers p) n no_timer)) (ap (option_map Variable_is) r.2))
+        let no_timer : among (timers p) n ≡ false = (λ i. among_distinct (filter f (uses p)) i n) ∙
+        among_no_filter f (uses p) n (ap (is_kind kind.Timer) kind_is) in
+        let there : among (variables p) n ≡ true = (λ i. among_distinct (filter g (uses p)) i n) ∙
+        among_filter g (uses p) n (ap (is_kind kind.Variable) kind_is) used in
+        let r = found_at (variables p) n there in (
+          r.0,
+          r.1,
+          parts n _ _ _ _ _ (const_absent p.consts n c) (ap (option_map Array_is) (absent_at (array_names p) n a))
+              (ap (option_map Sub_is) (absent_at (sub_names p) n s)) (ap (option_map Timer_is) (absent_at (timers p) n no_timer))
+              (ap (option_map Variable_is) r.2),
+        )
 
   sorted : (n : List ℕ) → Is n (kind_of p n)
   sorted n =
-      (elim (among (const_names p) n) as (λ b. among (const_names p) n ≡ b → Is n (if b then kind.Constant else if among (array_names p) n then kind.Array else if among (sub_names p) n then kind.Sub else if among (timer_names p) n then kind.Timer else kind.Variable)) [
+      (elim (among (const_names p) n) as (λ b. among (const_names p) n ≡ b →
+      Is n (if b then kind.Constant else if among (array_names p) n then kind.Array else if among (sub_names p) n then kind.Sub else if among
+      (timer_names p) n then kind.Timer else kind.Variable)) [
         | true ↦ λ c. is_const n c
-        | false ↦ λ c. (elim (among (array_names p) n) as (λ b. among (array_names p) n ≡ b → Is n (if b then kind.Array else if among (sub_names p) n then kind.Sub else if among (timer_names p) n then kind.Timer else kind.Variable)) [
-          | true ↦ λ a. is_array n c a
-          | false ↦ λ a. (elim (among (sub_names p) n) as (λ b. among (sub_names p) n ≡ b → Is n (if b then kind.Sub else if among (timer_names p) n then kind.Timer else kind.Variable)) [
-            | true ↦ λ s. tt
-            | false ↦ λ s. (elim (among (timer_names p) n) as (λ b. among (timer_names p) n ≡ b → Is n (if b then kind.Timer else kind.Variable)) [
-              | true ↦ λ t. is_a_timer n c a s t
-              | false ↦ λ t. is_a_variable n c a s t
+        | false ↦ λ c. (elim (among (array_names p) n) as
+            (λ b. among (array_names p) n ≡ b → Is n
+            (if b then kind.Array else if among (sub_names p) n then kind.Sub else if among (timer_names p) n then kind.Timer else kind.Variable)) [
+              | true ↦ λ a. is_array n c a
+              | false ↦ λ a. (elim (among (sub_names p) n) as
+                  (λ b. among (sub_names p) n ≡ b → Is n (if b then kind.Sub else if among (timer_names p) n then kind.Timer else kind.Variable)) [
+                    | true ↦ λ s. tt
+                    | false ↦ λ s. (elim (among (timer_names p) n) as (λ b. among (timer_names p) n ≡ b → Is n (if b then kind.Timer else kind.Variable)) [
+                      | true ↦ λ t. is_a_timer n c a s t
+                      | false ↦ λ t. is_a_variable n c a s t
+                    ]) refl
+                  ]) refl
             ]) refl
-          ]) refl
-        ]) refl
       ]) refl
 
 -- ---- trees
 
 last_within : (f : Items → List (List ℕ)) (bs : List Items) (b : Items) (n : List ℕ) → among (f b) n ≡ true → among (flat_map f (bs ++ b ∷ [])) n ≡ true
 last_within f [] b n e = list_any-append (bytes_eq n) (f b) [] ∙ ap (λ c. c || false) e
-last_within f (x ∷ bs) b n e = list_any-append (bytes_eq n) (f x) (flat_map f (bs ++ b ∷ [])) ∙ ap (λ c. among (f x) n || c) (last_within f bs b n e) ∙ or_right (among (f x) n) true refl
+last_within f (x ∷ bs) b n e = list_any-append (bytes_eq n) (f x) (flat_map f (bs ++ b ∷ [])) ∙ ap (λ c. among (f x) n || c) (last_within f bs b n e)
+    ∙ or_right (among (f x) n) true refl
 
 -- a name in a timer command that isn't declared is no variable
 never_variable : (a b c : Bool) → (if a then kind.Constant else if b then kind.Array else if c then kind.Sub else kind.Timer) ≡ kind.Variable → ⊥
@@ -179,7 +219,8 @@ never_variable false false false e = cc
 no_variable : (p : Program) (n : List ℕ) → among (timer_names p) n ≡ true → kind_of p n ≡ kind.Variable → ⊥
 no_variable p n t e =
     never_variable (among (const_names p) n) (among (array_names p) n) (among (sub_names p) n)
-    (sym (ap (λ b. if among (const_names p) n then kind.Constant else if among (array_names p) n then kind.Array else if among (sub_names p) n then kind.Sub else if b then kind.Timer else kind.Variable) t) ∙ e)
+    (sym (ap (λ b. if among (const_names p) n then kind.Constant else if among (array_names p) n then kind.Array else if among (sub_names p) n then
+    kind.Sub else if b then kind.Timer else kind.Variable) t) ∙ e)
 
 module _ (p : Program) where
   abbrev Within : List (List ℕ) → Type 0
@@ -218,14 +259,16 @@ module _ (p : Program) where
   value_of kind.Sub n i e u = absurd (true≢false e)
 
   variable_of : (k : Kind) (n : List ℕ) (line : ℕ) → Is p n k → assign_findings k line ≡ [] → among (uses p) n ≡ true → Variable_ok n
-  variable_of kind.Variable n line i e u = let r = i u in subst (IsVariable (names_of p) (length (variables p)) (length (timers p)) (length p.arrays)) (sym r.2) r.1
+  variable_of kind.Variable n line i e u = let r = i u in
+      subst (IsVariable (names_of p) (length (variables p)) (length (timers p)) (length p.arrays)) (sym r.2) r.1
   variable_of kind.Constant n line i e u = cc
   variable_of kind.Timer n line i e u = cc
   variable_of kind.Array n line i e u = cc
   variable_of kind.Sub n line i e u = cc
 
   -- a timer command makes its name a timer, where it isn't declared
-  timer_of : (k : Kind) (n : List ℕ) → kind_of p n ≡ k → Is p n k → is_no_timer k ≡ false → among (timer_names p) n ≡ true → among (uses p) n ≡ true → Timer_ok n
+  timer_of : (k : Kind) (n : List ℕ) → kind_of p n ≡ k → Is p n k → is_no_timer k ≡ false → among (timer_names p) n ≡ true → among (uses p) n ≡ true
+      → Timer_ok n
   timer_of kind.Timer n is i e t u = let r = i u in subst (IsTimer (names_of p) (length (variables p)) (length (timers p)) (length p.arrays)) (sym r.2) r.1
   timer_of kind.Variable n is i e t u = absurd (no_variable p n t is)
   timer_of kind.Constant n is i e t u = absurd (true≢false e)
@@ -236,7 +279,8 @@ module _ (p : Program) where
   arrays_length = length-map p.arrays (λ a. a.name)
 
   array_of : (k : Kind) (n : List ℕ) → Is p n k → is_no_array k ≡ false → Array_ok n
-  array_of kind.Array n i e = let at : i.0 < length p.arrays = subst (λ l. i.0 < l) arrays_length i.1 in subst (IsArray (names_of p) (length (variables p)) (length (timers p)) (length p.arrays)) (sym i.2) at
+  array_of kind.Array n i e = let at : i.0 < length p.arrays = subst (λ l. i.0 < l) arrays_length i.1 in
+      subst (IsArray (names_of p) (length (variables p)) (length (timers p)) (length p.arrays)) (sym i.2) at
   array_of kind.Constant n i e = absurd (true≢false e)
   array_of kind.Timer n i e = absurd (true≢false e)
   array_of kind.Variable n i e = absurd (true≢false e)
@@ -263,24 +307,33 @@ module _ (p : Program) where
     expr_ok line (Expr.Name n) c w = value_of (kind_of p n) n (sorted p n) (when_none (is_misread (kind_of p n)) line NameKind c) (itself n w)
     expr_ok line (Expr.Cell a index) c w =
         let head = when (is_no_array (kind_of p a)) line NameKind in
-        let tail = expr_findings (kind_of p) line index in
-        (array_of (kind_of p a) a (sorted p a) (when_none (is_no_array (kind_of p a)) line NameKind (first_empty head tail c)), expr_ok line index (second_empty head tail c) w)
+        let tail = expr_findings (kind_of p) line index in (
+          array_of (kind_of p a) a (sorted p a) (when_none (is_no_array (kind_of p a)) line NameKind (first_empty head tail c)),
+          expr_ok line index (second_empty head tail c) w,
+        )
     expr_ok line (Expr.Unary op arg) c w = expr_ok line arg c w
     expr_ok line (Expr.Binary op left right) c w =
         let head = expr_findings (kind_of p) line left in
-        let tail = expr_findings (kind_of p) line right in
-        (expr_ok line left (first_empty head tail c) (left_within (expr_uses left) (expr_uses right) w), expr_ok line right (second_empty head tail c) (right_within (expr_uses left) (expr_uses right) w))
+        let tail = expr_findings (kind_of p) line right in (
+          expr_ok line left (first_empty head tail c) (left_within (expr_uses left) (expr_uses right) w),
+          expr_ok line right (second_empty head tail c) (right_within (expr_uses left) (expr_uses right) w),
+        )
     expr_ok line (Expr.Read word args) c w =
         let head = when (not (count_arguments args == reading_arity word)) line Arity in
-        let tail = exprs_findings (kind_of p) line args in
-        (count_is (count_arguments args) (reading_arity word) (when_none (not (count_arguments args == reading_arity word)) line Arity (first_empty head tail c)), exprs_ok line args (second_empty head tail c) w)
+        let tail = exprs_findings (kind_of p) line args in (
+          count_is (count_arguments args) (reading_arity word)
+              (when_none (not (count_arguments args == reading_arity word)) line Arity (first_empty head tail c)),
+          exprs_ok line args (second_empty head tail c) w,
+        )
 
     exprs_ok : (line : ℕ) (args : Exprs) → exprs_findings (kind_of p) line args ≡ [] → Within (exprs_uses args) → Exprs_ok args
     exprs_ok line Exprs.none c w = tt
     exprs_ok line (Exprs.next arg args) c w =
         let head = expr_findings (kind_of p) line arg in
-        let tail = exprs_findings (kind_of p) line args in
-        (expr_ok line arg (first_empty head tail c) (left_within (expr_uses arg) (exprs_uses args) w), exprs_ok line args (second_empty head tail c) (right_within (expr_uses arg) (exprs_uses args) w))
+        let tail = exprs_findings (kind_of p) line args in (
+          expr_ok line arg (first_empty head tail c) (left_within (expr_uses arg) (exprs_uses args) w),
+          exprs_ok line args (second_empty head tail c) (right_within (expr_uses arg) (exprs_uses args) w),
+        )
 
   module _ (calls labels : List ℕ → Bool) (q : ℕ) (sub_is : (n : List ℕ) → calls n ≡ true → Sub_ok q n) where
     abbrev Stmt_ok : Stmt → Type 0
@@ -293,18 +346,25 @@ module _ (p : Program) where
     Items_ok = UsableItems (names_of p) (length (variables p)) (length (timers p)) (length p.arrays) q
 
     mutual
-      stmt_ok : (line : ℕ) (what : Stmt) → stmt_findings (kind_of p) calls labels line what ≡ [] → Within (stmt_uses what) → Timers_within (stmt_timers what) → Stmt_ok what
+      stmt_ok : (line : ℕ) (what : Stmt) → stmt_findings (kind_of p) calls labels line what ≡ [] → Within (stmt_uses what) →
+          Timers_within (stmt_timers what) → Stmt_ok what
       stmt_ok line (Stmt.Assign target value) c w t =
           let head = assign_findings (kind_of p target) line in
-          let tail = expr_findings (kind_of p) line value in
-          (variable_of (kind_of p target) target line (sorted p target) (first_empty head tail c) (itself target (left_within (target ∷ []) (expr_uses value) w)), expr_ok line value (second_empty head tail c) (right_within (target ∷ []) (expr_uses value) w))
+          let tail = expr_findings (kind_of p) line value in (
+            variable_of (kind_of p target) target line (sorted p target) (first_empty head tail c)
+                (itself target (left_within (target ∷ []) (expr_uses value) w)),
+            expr_ok line value (second_empty head tail c) (right_within (target ∷ []) (expr_uses value) w),
+          )
       stmt_ok line (Stmt.Cell a index value) c w t =
           let head = when (is_no_array (kind_of p a)) line NameKind in
           let middle = expr_findings (kind_of p) line index in
           let tail = expr_findings (kind_of p) line value in
           let rest = second_empty head (middle ++ tail) c in (
             array_of (kind_of p a) a (sorted p a) (when_none (is_no_array (kind_of p a)) line NameKind (first_empty head (middle ++ tail) c)),
-            (expr_ok line index (first_empty middle tail rest) (left_within (expr_uses index) (expr_uses value) w), expr_ok line value (second_empty middle tail rest) (right_within (expr_uses index) (expr_uses value) w)),
+            (
+              expr_ok line index (first_empty middle tail rest) (left_within (expr_uses index) (expr_uses value) w),
+              expr_ok line value (second_empty middle tail rest) (right_within (expr_uses index) (expr_uses value) w),
+            ),
           )
       stmt_ok line (Stmt.If test first second) c w t =
           let head = expr_findings (kind_of p) line test in
@@ -314,39 +374,50 @@ module _ (p : Program) where
           let others = right_within (expr_uses test) (items_uses first ++ items_uses second) w in (
             expr_ok line test (first_empty head (middle ++ tail) c) (left_within (expr_uses test) (items_uses first ++ items_uses second) w),
             (
-              items_ok first (first_empty middle tail rest) (left_within (items_uses first) (items_uses second) others) (left_timers (items_timers first) (items_timers second) t),
-              items_ok second (second_empty middle tail rest) (right_within (items_uses first) (items_uses second) others) (right_timers (items_timers first) (items_timers second) t),
+              items_ok first (first_empty middle tail rest) (left_within (items_uses first) (items_uses second) others)
+                  (left_timers (items_timers first) (items_timers second) t),
+              items_ok second (second_empty middle tail rest) (right_within (items_uses first) (items_uses second) others)
+                  (right_timers (items_timers first) (items_timers second) t),
             ),
           )
       stmt_ok line (Stmt.Goto label) c w t = tt
       stmt_ok line (Stmt.Gosub sub) c w t = sub_is sub (not_false (calls sub) (when_none (not (calls sub)) line NoSub c))
       stmt_ok line (Stmt.Do word args) c w t =
           let head = when (not (count_arguments args == command_arity word)) line Arity in
-          let tail = exprs_findings (kind_of p) line args in
-          (count_is (count_arguments args) (command_arity word) (when_none (not (count_arguments args == command_arity word)) line Arity (first_empty head tail c)), exprs_ok line args (second_empty head tail c) w)
+          let tail = exprs_findings (kind_of p) line args in (
+            count_is (count_arguments args) (command_arity word)
+                (when_none (not (count_arguments args == command_arity word)) line Arity (first_empty head tail c)),
+            exprs_ok line args (second_empty head tail c) w,
+          )
       stmt_ok line (Stmt.Timer word timer) c w t =
-          timer_of (kind_of p timer) timer refl (sorted p timer) (when_none (is_no_timer (kind_of p timer)) line NameKind c) (t timer (ap (λ b. b || false) ((bytes_eq-Decides timer timer).1 refl))) (itself timer w)
+          timer_of (kind_of p timer) timer refl (sorted p timer) (when_none (is_no_timer (kind_of p timer)) line NameKind c)
+          (t timer (ap (λ b. b || false) ((bytes_eq-Decides timer timer).1 refl))) (itself timer w)
       stmt_ok line Stmt.Trace c w t = tt
 
       item_ok : (item : Item) → item_findings (kind_of p) calls labels item ≡ [] → Within (item_uses item) → Timers_within (item_timers item) → Item_ok item
       item_ok (Item.Label name line) c w t = tt
       item_ok (Item.Step line what) c w t =
           let head = when (nat_lt 900 (own_size what)) line StatementTooLong in
-          let tail = stmt_findings (kind_of p) calls labels line what in
-          (ltb-false 900 (own_size what) (when_none (nat_lt 900 (own_size what)) line StatementTooLong (first_empty head tail c)), stmt_ok line what (second_empty head tail c) w t)
+          let tail = stmt_findings (kind_of p) calls labels line what in (
+            ltb-false 900 (own_size what) (when_none (nat_lt 900 (own_size what)) line StatementTooLong (first_empty head tail c)),
+            stmt_ok line what (second_empty head tail c) w t,
+          )
 
-      items_ok : (items : Items) → items_findings (kind_of p) calls labels items ≡ [] → Within (items_uses items) → Timers_within (items_timers items) → Items_ok items
+      items_ok : (items : Items) → items_findings (kind_of p) calls labels items ≡ [] → Within (items_uses items) →
+          Timers_within (items_timers items) → Items_ok items
       items_ok Items.none c w t = tt
       items_ok (Items.next item items) c w t =
           let head = item_findings (kind_of p) calls labels item in
           let tail = items_findings (kind_of p) calls labels items in (
             item_ok item (first_empty head tail c) (left_within (item_uses item) (items_uses items) w) (left_timers (item_timers item) (items_timers items) t),
-            items_ok items (second_empty head tail c) (right_within (item_uses item) (items_uses items) w) (right_timers (item_timers item) (items_timers items) t),
+            items_ok items (second_empty head tail c) (right_within (item_uses item) (items_uses items) w)
+                (right_timers (item_timers item) (items_timers items) t),
           )
 
 -- ---- routines
 
-free_of : (rs : List Routine) (kind : List ℕ → Kind) (taken : List ℕ → Bool) (before : List (List ℕ)) → subs_findings kind taken before rs ≡ [] → (n : List ℕ) → among (map (λ r. r.name) rs) n ≡ true → taken n ≡ false
+free_of : (rs : List Routine) (kind : List ℕ → Kind) (taken : List ℕ → Bool) (before : List (List ℕ)) → subs_findings kind taken before rs ≡ [] →
+    (n : List ℕ) → among (map (λ r. r.name) rs) n ≡ true → taken n ≡ false
 free_of [] kind taken before e n a = absurd (true≢false (sym a))
 free_of (r ∷ rs) kind taken before e n a =
     let w = when (among before r.name) r.line SubTwice in
@@ -373,15 +444,18 @@ sized_one (pos n) values e =
     (sized_low n (length values) e, sized_high n (length values) e)
 sized_one (negsuc n) values e = absurd (true≢false e)
 
-sized_of : (xs : List Array) (line_of : List ℕ → Option ℕ) (before : List (List ℕ)) → array_findings line_of before xs ≡ [] → AllByRecursion (λ a. (1 ≤ length a.values) × (length a.values ≤ most_array_cells)) xs
+sized_of : (xs : List Array) (line_of : List ℕ → Option ℕ) (before : List (List ℕ)) → array_findings line_of before xs ≡ [] →
+    AllByRecursion (λ a. (1 ≤ length a.values) × (length a.values ≤ most_array_cells)) xs
 sized_of [] line_of before e = tt
 sized_of (a ∷ xs) line_of before e =
     let w = when (among before a.name) a.line NameKind in
     let clash = clash_findings (line_of a.name) a.line in
     let size = when (is_odd_size a.size a.values) a.line ArraySize in
     let rest = array_findings line_of (with_name before a.name) xs in
-    let past = second_empty clash (size ++ rest) (second_empty w (clash ++ (size ++ rest)) e) in
-    (sized_one a.size a.values (when_none (is_odd_size a.size a.values) a.line ArraySize (first_empty size rest past)), sized_of xs line_of (with_name before a.name) (second_empty size rest past))
+    let past = second_empty clash (size ++ rest) (second_empty w (clash ++ (size ++ rest)) e) in (
+      sized_one a.size a.values (when_none (is_odd_size a.size a.values) a.line ArraySize (first_empty size rest past)),
+      sized_of xs line_of (with_name before a.name) (second_empty size rest past),
+    )
 
 module _ (p : Program) (clean : findings p ≡ []) where
   free : (n : List ℕ) → among (sub_names p) n ≡ true → is_declared p n ≡ false
@@ -402,12 +476,16 @@ module _ (p : Program) (clean : findings p ≡ []) where
   abbrev Body_ok : ℕ → Items → Type 0
   Body_ok q = UsableItems (names_of p) (length (variables p)) (length (timers p)) (length p.arrays) q
 
-  body_ok : (before more : List (List ℕ)) (q : ℕ) → length before ≡ q → sub_names p ≡ before ++ more → (body : Items) → body_findings (kind_of p) before body ≡ [] → Within p (items_uses body) → Timers_within p (items_timers body) → Body_ok q body
+  body_ok : (before more : List (List ℕ)) (q : ℕ) → length before ≡ q → sub_names p ≡ before ++ more → (body : Items) →
+      body_findings (kind_of p) before body ≡ [] → Within p (items_uses body) → Timers_within p (items_timers body) → Body_ok q body
   body_ok before more q l s body c w t =
-      items_ok p (among before) (among (label_names body)) q (above_ok before more q l s) body (second_empty (label_findings [] (items_labels body)) (items_findings (kind_of p) (among before) (among (label_names body)) body) c) w t
+      items_ok p (among before) (among (label_names body)) q (above_ok before more q l s) body
+      (second_empty (label_findings [] (items_labels body)) (items_findings (kind_of p) (among before) (among (label_names body)) body) c) w t
 
-  walk : (rs : List Routine) (before : List (List ℕ)) (q : ℕ) → length before ≡ q → sub_names p ≡ before ++ map (λ r. r.name) rs → subs_findings (kind_of p) (is_declared p) before rs ≡ []
-      → Within p (flat_map items_uses (map (λ r. r.body) rs ++ p.main.body ∷ [])) → Timers_within p (flat_map items_timers (map (λ r. r.body) rs ++ p.main.body ∷ []))
+  walk : (rs : List Routine) (before : List (List ℕ)) (q : ℕ) → length before ≡ q → sub_names p ≡ before ++ map (λ r. r.name) rs →
+      subs_findings (kind_of p) (is_declared p) before rs ≡ []
+      → Within p (flat_map items_uses (map (λ r. r.body) rs ++ p.main.body ∷ [])) →
+      Timers_within p (flat_map items_timers (map (λ r. r.body) rs ++ p.main.body ∷ []))
       → (k : ℕ) → k < length rs → Body_ok (q + k) (get_or (map (λ r. r.body) rs) k Items.none)
   walk [] before q l s c w t k lt = absurd (omega arith)
   walk (r ∷ rs) before q l s c w t zero lt =
@@ -430,7 +508,8 @@ module _ (p : Program) (clean : findings p ≡ []) where
       let more = map (λ (r : Routine). r.body) rs ++ p.main.body ∷ [] in
       let e : q + 1 + k ≡ q + suc k = omega arith in
       let l1 : length (before ++ r.name ∷ []) ≡ q + 1 = length-append before (r.name ∷ []) ∙ ap (λ n. n + 1) l in
-      let c1 : subs_findings (kind_of p) (is_declared p) (before ++ r.name ∷ []) rs ≡ [] = subst (λ ns. subs_findings (kind_of p) (is_declared p) ns rs ≡ []) (one_name before r.name new) (second_empty body rest past) in
+      let c1 : subs_findings (kind_of p) (is_declared p) (before ++ r.name ∷ []) rs ≡ [] =
+      subst (λ ns. subs_findings (kind_of p) (is_declared p) ns rs ≡ []) (one_name before r.name new) (second_empty body rest past) in
       let lt1 : k < length rs = omega arith in
       subst (λ m. Body_ok m (get_or (map (λ (r : Routine). r.body) rs) k Items.none)) e
       (walk rs (before ++ r.name ∷ []) (q + 1) l1 (s ∙ sym (append_assoc before (r.name ∷ []) (map (λ r. r.name) rs))) c1
@@ -440,7 +519,10 @@ module _ (p : Program) (clean : findings p ≡ []) where
   usable none = record {
     few = few p none;
     sized = sized_of p.arrays (const_line p.consts) [] (no_array p clean);
-    subs = λ k lt. let e : 0 + k ≡ k = omega arith in subst (λ m. Body_ok m (get_or (map (λ (r : Routine). r.body) p.subs) k Items.none)) e (walk p.subs [] 0 refl refl (no_sub p clean) (λ n e. e) (λ n e. e) k lt);
+    subs = λ k lt. let e : 0 + k ≡ k = omega arith in
+        subst (λ m. Body_ok m (get_or (map (λ (r : Routine). r.body) p.subs) k Items.none)) e
+        (walk p.subs [] 0 refl refl (no_sub p clean) (λ n e. e) (λ n e. e) k lt);
     main = body_ok (sub_names p) [] (length p.subs) (length-map p.subs (λ r. r.name)) (sym (append-nil (sub_names p))) p.main.body (no_main p clean)
-        (λ n e. last_within items_uses (map (λ (r : Routine). r.body) p.subs) p.main.body n e) (λ n e. last_within items_timers (map (λ (r : Routine). r.body) p.subs) p.main.body n e);
+        (λ n e. last_within items_uses (map (λ (r : Routine). r.body) p.subs) p.main.body n e)
+        (λ n e. last_within items_timers (map (λ (r : Routine). r.body) p.subs) p.main.body n e);
   }

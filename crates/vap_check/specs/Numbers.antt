@@ -6,7 +6,6 @@ use Rattle.vap_ast.specs.declared.name.Meaning.TheVariants.{Constant, Array, Sub
 use Rattle.vap_ast.specs.declared.tree.Program.{Program as Tree}
 use Rattle.vap_ast.specs.Syntax.{Program}
 use Rattle.vap_ast.specs.Tree.{program_of}
-use Rattle.vap_check.specs.declared.kinds.First.{First}
 use Rattle.vap_check.specs.Names.{array_names, sub_names, timers, variables}
 
 -- names with the numbers from this one on
@@ -27,10 +26,6 @@ consts_of p = map (λ c. record { name = c.name; meaning = Constant c.value }) p
 -- variables in the order of their first uses.
 abbrev pub names_of : Program → List Entry
 names_of p = entries (consts_of p) (array_names p) (sub_names p) (timers p) (variables p)
-
--- the constants that are kept
-abbrev pub consts_in : List (List ℕ × First) → List Entry
-consts_in kept = map (λ e. record { name = e.0; meaning = Constant e.1.value }) kept
 
 -- what a checked program is seen as: the tree as it was read, what its names are, and how many variables and timers it has
 pub record Meant : Type 0 where

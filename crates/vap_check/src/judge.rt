@@ -1,61 +1,39 @@
-// The first refusal of a program, and all of its names.
-ghost use Rattle.std.specs.Prelude.{◌≡◌, None, IfOk, length};
+// The first refusal of a program, or all of its names.
+ghost use Rattle.std.specs.Prelude.{◌≡◌, [], None, IfOk, length, nat_lt};
+ghost use Rattle.sig_types.specs.Limits.{most_variables, most_timers};
 ghost use Rattle.vap_ast.specs.Tree.{program_of};
-ghost use Rattle.vap_check.specs.FirstFinding.{first_of_all};
 ghost use Rattle.vap_check.specs.Findings.{findings};
 ghost use Rattle.vap_check.specs.Names as names_of;
-ghost use Rattle.vap_check.specs.KeptNames.{KnowsAll};
-ghost use Rattle.vap_check.specs.Judgement.{IsJudged, RefusalIs};
+ghost use Rattle.vap_check.specs.KeptNames.{Knows};
+ghost use Rattle.vap_check.specs.Judgement.{IsJudged, LimitIs};
 
-use crate::declarations::first_finding;
+use crate::declarations::judge_program;
 use crate::finding::Finding;
-use crate::gather::{declared_names, used_names};
+use crate::gather::{array_names, declared_names, sub_names, used_names};
 use crate::kinds::{Kind, Names};
+use crate::known::Known;
 use crate::limits::{first_passed_limit, program_size};
 use crate::refusal::CheckWhy;
 use sig_types::Memory;
-use sig_types::limits::MOST_INSTRS;
+use sig_types::limits::{MOST_INSTRS, MOST_TIMERS, MOST_VARIABLES};
 use std::alloc::Global;
 use vap_ast::Program;
 
-/// The names of a program, and what it is refused for.
+/// What a program is refused for, or all of its names where it is accepted.
 #[derive(Drop)]
-pub struct Judged {
-    pub names: Names,
-    pub refusal: Option<Finding>,
+pub enum Judged {
+    Refused(Finding),
+    Named(Names),
 }
 
-// All names of a program.
-fn gather_names(alloc: Global, program: &Program) -> Result<Names, Memory>
-    ensures { IfOk result (λ n. KnowsAll n (program_of program.now)) }
+// What a program in which nothing is wrong is refused for, where it is known whether it has too many variables and too many
+// timers.
+fn refusal_of(program: &Program, many_variables: bool, many_timers: bool) -> Option<Finding>
+    requires variables { many_variables ≡ nat_lt most_variables (length (names_of.variables (program_of program.now))) }
+    requires timers { many_timers ≡ nat_lt most_timers (length (names_of.timers (program_of program.now))) }
+    ensures { LimitIs (program_of program.now) result }
 {
-    let known = declared_names(alloc, program)?;
-    let timers = used_names(alloc, &known, Kind::Timer, program)?;
-    let variables = used_names(alloc, &known, Kind::Variable, program)?;
-    Ok(Names {
-        known,
-        timers,
-        variables,
-    })
-}
-
-// What a program is refused for, where this is the first of its findings, and these are the numbers of its variables and
-// its timers.
-fn refusal_of(
-    program: &Program,
-    first: Option<Finding>,
-    variables: usize,
-    timers: usize,
-) -> Option<Finding>
-    requires first { first ≡ first_of_all None (findings (program_of program.now)) }
-    requires variables { variables ≡ length (names_of.variables (program_of program.now)) }
-    requires timers { timers ≡ length (names_of.timers (program_of program.now)) }
-    ensures { RefusalIs (program_of program.now) result }
-{
-    if let Some(finding) = first {
-        return Some(finding);
-    }
-    if let Some(which) = first_passed_limit(program, variables, timers) {
+    if let Some(which) = first_passed_limit(program, many_variables, many_timers) {
         return Some(Finding {
             line: 0,
             why: CheckWhy::Limit(which),
@@ -70,12 +48,38 @@ fn refusal_of(
     None
 }
 
-/// Gathers the names of a program, and what it is refused for.
+// Numbers the names of a program in which nothing is wrong, unless it passes a limit. Arrays and subroutines are numbered
+// where no limit is passed.
+fn judge_limits(alloc: Global, known: Known, program: &Program) -> Result<Judged, Memory>
+    requires knows { Knows known (program_of program.now) }
+    requires clean { findings (program_of program.now) ≡ [] }
+    ensures { IfOk result (λ j. IsJudged (program_of program.now) j) }
+{
+    let timers = used_names(alloc, &known, Kind::Timer, program, MOST_TIMERS)?;
+    let variables = used_names(alloc, &known, Kind::Variable, program, MOST_VARIABLES)?;
+    if let Some(finding) = refusal_of(program, variables.is_over, timers.is_over) {
+        return Ok(Judged::Refused(finding));
+    }
+    let arrays = array_names(alloc, &program.arrays)?;
+    let subs = sub_names(alloc, &program.subs)?;
+    Ok(Judged::Named(Names {
+        known,
+        arrays,
+        subs,
+        timers: timers.names,
+        variables: variables.names,
+    }))
+}
+
+/// What a program is refused for, or all of its names where it is accepted.
 pub fn judge(alloc: Global, program: &Program) -> Result<Judged, Memory>
     ensures { IfOk result (λ j. IsJudged (program_of program.now) j) }
 {
-    let names = gather_names(alloc, program)?;
-    let first = first_finding(alloc, &names.known, program)?;
-    let refusal = refusal_of(program, first, names.variables.len(), names.timers.len());
-    Ok(Judged { names, refusal })
+    let mut first = None;
+    let known = declared_names(alloc, program, &mut first)?;
+    judge_program(alloc, &known, program, &mut first)?;
+    match first {
+        Some(finding) => Ok(Judged::Refused(finding)),
+        None => judge_limits(alloc, known, program),
+    }
 }

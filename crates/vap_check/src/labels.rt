@@ -6,27 +6,28 @@ ghost use Rattle.vap_check.specs.Names.{among, with_name, with_names, stmt_label
 ghost use Rattle.vap_check.specs.Findings.{label_findings};
 
 use crate::finding::{Finding, note_finding_if};
-use crate::kinds::{has, note};
 use crate::refusal::CheckWhy;
-use indexmap::IndexSet;
+use crate::sets::note;
 use sig_types::Memory;
 use std::alloc::Global;
+use std::collections::BTreeSet;
 use vap_ast::{Item, Name, Stmt};
 
 /// Adds a name to `before`. If the name is there already, `first` becomes the earlier of itself and a finding for `why`.
 pub fn declare(
     alloc: Global,
-    before: &mut IndexSet<Name>,
+    before: &mut BTreeSet<Name>,
     name: &Name,
     line: u32,
     why: CheckWhy,
     first: &mut Option<Finding>,
 ) -> Result<(), Memory>
-    ensures names { OnOk result (before.new.keys ≡ with_name before.old.keys name.now) }
+    ensures names { OnOk result (among before.new.keys ≡ among (with_name before.old.keys name.now)) }
     ensures found { OnOk result (first.new ≡ first_of_all first.old (when (among before.old.keys name.now) line why)) }
 {
-    note_finding_if(first, has(before, name), line, why);
-    note(alloc, before, name)
+    let was_there = note(alloc, before, name)?;
+    note_finding_if(first, was_there, line, why);
+    Ok(())
 }
 
 // Adds the labels of an item to `names`; `first` becomes the earlier of itself and the first label that is there already.
@@ -35,11 +36,11 @@ pub fn declare(
 fn note_item_labels(
     alloc: Global,
     item: &Item,
-    names: &mut IndexSet<Name>,
+    names: &mut BTreeSet<Name>,
     first: &mut Option<Finding>,
 ) -> Result<(), Memory>
     ensures names { OnOk result
-        (names.new.keys ≡ with_names names.old.keys (map (λ l. l.name) (labels_of_item (item_of item.now)))) }
+        (among names.new.keys ≡ among (with_names names.old.keys (map (λ l. l.name) (labels_of_item (item_of item.now))))) }
     ensures found { OnOk result
         (first.new ≡ first_of_all first.old (label_findings names.old.keys (labels_of_item (item_of item.now)))) }
 {
@@ -61,18 +62,19 @@ fn note_item_labels(
 fn note_stmt_labels(
     alloc: Global,
     what: &Stmt,
-    names: &mut IndexSet<Name>,
+    names: &mut BTreeSet<Name>,
     first: &mut Option<Finding>,
 ) -> Result<(), Memory>
     ensures names { OnOk result
-        (names.new.keys ≡ with_names names.old.keys (map (λ l. l.name) (labels_of_stmt (stmt_of what.now)))) }
+        (among names.new.keys ≡ among (with_names names.old.keys (map (λ l. l.name) (labels_of_stmt (stmt_of what.now))))) }
     ensures found { OnOk result
         (first.new ≡ first_of_all first.old (label_findings names.old.keys (labels_of_stmt (stmt_of what.now)))) }
 {
     match what {
         Stmt::If { yes, no, .. } => {
             note_items_labels(alloc, &yes.0, names, first)?;
-            note_items_labels(alloc, &no.0, names, first)
+            note_items_labels(alloc, &no.0, names, first)?;
+            Ok(())
         }
         Stmt::Assign { .. }
         | Stmt::Cell { .. }
@@ -90,11 +92,11 @@ fn note_stmt_labels(
 pub fn note_items_labels(
     alloc: Global,
     items: &[Item],
-    names: &mut IndexSet<Name>,
+    names: &mut BTreeSet<Name>,
     first: &mut Option<Finding>,
 ) -> Result<(), Memory>
     ensures names { OnOk result
-        (names.new.keys ≡ with_names names.old.keys (map (λ l. l.name) (labels_of_items (items_of items.now)))) }
+        (among names.new.keys ≡ among (with_names names.old.keys (map (λ l. l.name) (labels_of_items (items_of items.now))))) }
     ensures found { OnOk result
         (first.new ≡ first_of_all first.old (label_findings names.old.keys (labels_of_items (items_of items.now)))) }
 {

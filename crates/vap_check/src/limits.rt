@@ -1,13 +1,12 @@
 // What a program has too many of, and its size.
-ghost use Rattle.std.specs.Prelude.{◌≡◌, ◌≤◌, length, min, map, flat_map};
+ghost use Rattle.std.specs.Prelude.{◌≡◌, ◌≤◌, length, min, map, flat_map, nat_lt};
+ghost use Rattle.sig_types.specs.Limits.{most_variables, most_timers};
 ghost use Rattle.vap_ast.specs.Tree.{stmt_of, item_of, items_of, array_of, routine_of, program_of};
 ghost use Rattle.vap_check.specs.Accepted as whole;
 ghost use Rattle.vap_check.specs.Names as names;
 
 use crate::refusal::Which;
-use sig_types::limits::{
-    MOST_ARRAYS, MOST_CELLS, MOST_LABELS, MOST_SUBROUTINES, MOST_TIMERS, MOST_VARIABLES,
-};
+use sig_types::limits::{MOST_ARRAYS, MOST_CELLS, MOST_LABELS, MOST_SUBROUTINES};
 use vap_ast::{ArrayDecl, Item, Program, Routine, Stmt, add_capped, items_size};
 
 // The cells of arrays, counted up to 65,536.
@@ -111,16 +110,20 @@ pub fn program_size(program: &Program) -> usize
     )
 }
 
-/// What a program has too many of, where these are the numbers of its variables and its timers; `None` where it passes no
-/// limit.
-pub fn first_passed_limit(program: &Program, variables: usize, timers: usize) -> Option<Which>
-    requires variables { variables ≡ length (names.variables (program_of program.now)) }
-    requires timers { timers ≡ length (names.timers (program_of program.now)) }
+/// What a program has too many of, where it is known whether it has too many variables and too many timers; `None` where it
+/// passes no limit.
+pub fn first_passed_limit(
+    program: &Program,
+    many_variables: bool,
+    many_timers: bool,
+) -> Option<Which>
+    requires variables { many_variables ≡ nat_lt most_variables (length (names.variables (program_of program.now))) }
+    requires timers { many_timers ≡ nat_lt most_timers (length (names.timers (program_of program.now))) }
     ensures { result ≡ whole.passed (program_of program.now) }
 {
-    if variables > usize::from(MOST_VARIABLES) {
+    if many_variables {
         Some(Which::Variables)
-    } else if timers > usize::from(MOST_TIMERS) {
+    } else if many_timers {
         Some(Which::Timers)
     } else if program.arrays.len() > usize::from(MOST_ARRAYS) {
         Some(Which::Arrays)

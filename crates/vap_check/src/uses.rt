@@ -8,17 +8,19 @@ ghost use Rattle.vap_check.specs.KeptNames.{kind_in};
 ghost use Rattle.vap_check.specs.KeptNames as scoped;
 
 use crate::finding::{Finding, note_finding, note_finding_if};
-use crate::kinds::{Kind, Known, has};
+use crate::kinds::Kind;
+use crate::known::Known;
 use crate::refusal::CheckWhy;
-use indexmap::IndexSet;
+use crate::sets::has;
+use std::collections::BTreeSet;
 use vap_ast::{Expr, Item, Name, Stmt, own_size};
 
 /// What a statement's routine knows: the names of the program, the subroutines above the routine, and its labels.
 #[derive(Drop)]
 pub struct Scope<'a> {
     pub known: &'a Known,
-    pub above: &'a IndexSet<Name>,
-    pub labels: &'a IndexSet<Name>,
+    pub above: &'a BTreeSet<Name>,
+    pub labels: &'a BTreeSet<Name>,
 }
 
 // Whether a name of this kind is no plain value.

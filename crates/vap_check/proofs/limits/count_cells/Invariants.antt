@@ -4,4 +4,5 @@ use Rattle.vap_ast.specs.Tree.{array_of}
 use Rattle.vap_check.proofs.limits.count_cells.Given as goal
 
 abbrev pub invariant-loop-array : goal.invariant-loop-array
-invariant-loop-array l = (min (l.total + length (flat_map (λ a. a.values) (map array_of (drop l.array-index l.arrays)))) 65536 ≡ min (length (flat_map (λ a. a.values) (map array_of l.arrays))) 65536) × (l.total ≤ 65536)
+invariant-loop-array l = (min (l.total + length (flat_map (λ a. a.values) (map array_of (drop l.array-index l.arrays)))) 65536 ≡ min
+    (length (flat_map (λ a. a.values) (map array_of l.arrays))) 65536) × (l.total ≤ 65536)

@@ -5,4 +5,5 @@ use Rattle.vap_check.specs.Names.{items_labels}
 use Rattle.vap_check.proofs.limits.count_subs_labels.Given as goal
 
 abbrev pub invariant-loop-sub : goal.invariant-loop-sub
-invariant-loop-sub l = (min (l.total + length (flat_map items_labels (map (λ r. r.body) (map routine_of (drop l.sub-index l.subs))))) 65536 ≡ min (length (flat_map items_labels (map (λ r. r.body) (map routine_of l.subs)))) 65536) × (l.total ≤ 65536)
+invariant-loop-sub l = (min (l.total + length (flat_map items_labels (map (λ r. r.body) (map routine_of (drop l.sub-index l.subs))))) 65536 ≡ min
+    (length (flat_map items_labels (map (λ r. r.body) (map routine_of l.subs)))) 65536) × (l.total ≤ 65536)
