@@ -6,14 +6,14 @@ ghost use Rattle.vap_ast.specs.Tree.{item_of, items_of, stmt_of};
 ghost use Rattle.vap_compile.specs.Labels.{Notes, one_place, place_at};
 ghost use Rattle.vap_compile.specs.Layout.{items_steps, label_place, place_in_item, place_in_items, place_in_stmt};
 
-use indexmap::IndexMap;
 use std::alloc::{AllocError, Global};
+use std::collections::BTreeMap;
 use vap_ast::{Item, Name, Stmt, expr_size, item_size, items_size};
 
 /// The labels of a routine with their places, and the place of its return.
 #[derive(Drop)]
 pub struct Labels {
-    places: IndexMap<Name, u16>,
+    places: BTreeMap<Name, u16>,
     end: u16,
 }
 
@@ -25,7 +25,7 @@ impl Labels {
             place_at labels label ≡ label_place place (items_of body.now) label) }
     {
         let end = place + items_size(body);
-        let mut places = IndexMap::new(alloc);
+        let mut places = BTreeMap::new(alloc);
         note_items(alloc, &mut places, place, end, body)?;
         Ok(Labels {
             places,
@@ -34,6 +34,7 @@ impl Labels {
     }
 
     /// The place of a label; that of the return for `prog_ende`, and for a label that the routine doesn't have.
+    #[tactic(auto, using(crate::proofs::LabelTable::by_bytes))]
     pub fn place(&self, label: &Name) -> u16
         ensures { result ≡ place_at self.now label.now }
     {
@@ -58,7 +59,7 @@ fn has_step(items: &[Item]) -> bool
 }
 
 // The place of what comes behind an item: the next one where a statement is left, and else what comes behind all.
-fn behind(rest: &[Item], next: usize, after: usize) -> usize
+fn place_behind(rest: &[Item], next: usize, after: usize) -> usize
     ensures { result ≡ (if items_steps (items_of rest.now) then next else after) }
 {
     if has_step(rest) { next } else { after }
@@ -66,9 +67,9 @@ fn behind(rest: &[Item], next: usize, after: usize) -> usize
 
 // Notes the place of a label, unless it has one.
 #[tactic(auto, using(crate::proofs::LabelTable::noted, crate::proofs::LabelTable::kept))]
-fn note(
+fn note_place(
     alloc: Global,
-    places: &mut IndexMap<Name, u16>,
+    places: &mut BTreeMap<Name, u16>,
     name: &Name,
     place: usize,
 ) -> Result<(), AllocError>
@@ -81,17 +82,17 @@ fn note(
     let Ok(name) = name.copy(alloc) else {
         return Err(AllocError);
     };
-    match places.insert(name, place as u16) {
-        Ok(_) => Ok(()),
-        Err(_) => Err(AllocError),
-    }
+    let Ok(_) = places.insert(name, place as u16) else {
+        return Err(AllocError);
+    };
+    Ok(())
 }
 
 /// Notes the places of the labels of items that begin at a place; `after` is the place of what comes behind them.
 #[cycle(labels)]
 fn note_items(
     alloc: Global,
-    places: &mut IndexMap<Name, u16>,
+    places: &mut BTreeMap<Name, u16>,
     place: usize,
     after: usize,
     items: &[Item],
@@ -103,7 +104,7 @@ fn note_items(
     let mut start = place;
     for (index, item) in items.iter().enumerate() {
         let next = start + item_size(item);
-        let following = behind(&items[index + 1..], next, after);
+        let following = place_behind(&items[index + 1..], next, after);
         note_item(alloc, places, start, following, item)?;
         start = next;
     }
@@ -113,7 +114,7 @@ fn note_items(
 #[cycle(labels)]
 fn note_item(
     alloc: Global,
-    places: &mut IndexMap<Name, u16>,
+    places: &mut BTreeMap<Name, u16>,
     place: usize,
     after: usize,
     item: &Item,
@@ -123,7 +124,7 @@ fn note_item(
         (λ label. place_in_item label place after (item_of item.now))) }
 {
     match item {
-        Item::Label { name, .. } => note(alloc, places, name, after),
+        Item::Label { name, .. } => note_place(alloc, places, name, after),
         Item::Step { what, .. } => note_stmt(alloc, places, place, after, what),
     }
 }
@@ -131,7 +132,7 @@ fn note_item(
 #[cycle(labels)]
 fn note_stmt(
     alloc: Global,
-    places: &mut IndexMap<Name, u16>,
+    places: &mut BTreeMap<Name, u16>,
     place: usize,
     after: usize,
     what: &Stmt,
