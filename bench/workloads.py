@@ -5,7 +5,8 @@ The site is the four-arm junction of crates/junction/examples/four_arms. `traffi
 detector d from 1 to 12 for which d + 5 divides k + 7 d; `empty` has as many empty lines; the program `units.vap` spends
 all 10,000 units of each second. `names.vap` declares many constants, and `colliding.vap` as many whose names have hashes that
 collide (names.rs, built with rustc). `kinds.vap` has as many names of each other kind as there may be, and uses them;
-`colliding_kinds.vap` is the same with names that collide.
+`colliding_kinds.vap` is the same with names that collide. The names of `one_tree.vap` and `one_tree_kinds.vap` all lie in one of
+the trees over which the checker spreads names.
 """
 import itertools
 import os
@@ -60,6 +61,23 @@ def colliding(folder):
     return subprocess.run([program, str(NAMES)], check=True, stdout=subprocess.PIPE, text=True).stdout.split()
 
 
+def tree_of(name):
+    """Returns the tree that the checker keeps a name in."""
+    tree = 0
+    for letter in name.encode():
+        tree = (tree * 37 + letter) % 1024
+    return tree
+
+
+def in_one_tree():
+    """Returns names of six letters that lie in the first tree, in the order of their letters."""
+    letters = "abcdefghijklmnopqrstuvwxyz"
+    for start in map("".join, itertools.product(letters, repeat=5)):
+        last = -tree_of(start) * 37 % 1024
+        if chr(last) in letters:
+            yield start + chr(last)
+
+
 def main():
     folder = sys.argv[1]
     os.makedirs(folder, exist_ok=True)
@@ -67,6 +85,7 @@ def main():
         shutil.copy(os.path.join(EXAMPLE, name), folder)
     usual = ["".join(letters) for letters in itertools.islice(itertools.product("klmnopqrst", repeat=6), NAMES)]
     alike = colliding(folder)
+    close = list(itertools.islice(in_one_tree(), NAMES))
     texts = {
         "traffic.txt": "".join(map(traffic, range(1, SECONDS + 1))),
         "empty.txt": "\n" * SECONDS,
@@ -76,6 +95,8 @@ def main():
         "colliding.vap": constants(alike),
         "kinds.vap": kinds(usual),
         "colliding_kinds.vap": kinds(alike),
+        "one_tree.vap": constants(close),
+        "one_tree_kinds.vap": kinds(close),
     }
     for name, text in texts.items():
         with open(os.path.join(folder, name), "w") as file:
