@@ -63,7 +63,8 @@ pieces_joined p (q ∷ ps) here rest = pieces_append p (joined (q ∷ ps)) here 
 
 -- ---- numbers
 
-both_case : (p : List ℕ) (ps : List (List ℕ)) (o : Option ℤ) (os : Option (List ℤ)) (vs : List ℤ) → signed_of p ≡ o → both o os ≡ Some vs → list_all fits vs ≡ true →
+both_case : (p : List ℕ) (ps : List (List ℕ)) (o : Option ℤ) (os : Option (List ℤ)) (vs : List ℤ) → signed_of p ≡ o → both o os ≡ Some vs →
+    list_all fits vs ≡ true →
     ((ws : List ℤ) → os ≡ Some ws → list_all fits ws ≡ true → ps ≡ map signed_decimal ws) → p ∷ ps ≡ map signed_decimal vs
 both_case p ps None os vs first e all before = absurd cc
 both_case p ps (Some v) None vs first e all before = absurd cc
@@ -87,14 +88,17 @@ all_signed_again (v ∷ vs) all =
 
 -- ---- arrays
 
-array_tests : (room : ℕ) (ws vs : List ℤ) (a b c : Bool) → nat_le (length ws) most_array_cells ≡ a → nat_le (length ws) room ≡ b → list_all fits ws ≡ c → (e : CodeWhy) (d : CodeWhy) →
-    (if (a && b) then (if c then Ok ws else Err e) else Err d) ≡ Ok vs → (ws ≡ vs) × (length ws ≤ most_array_cells) × (length ws ≤ room) × (list_all fits ws ≡ true)
+array_tests : (room : ℕ) (ws vs : List ℤ) (a b c : Bool) → nat_le (length ws) most_array_cells ≡ a → nat_le (length ws) room ≡ b →
+    list_all fits ws ≡ c → (e : CodeWhy) (d : CodeWhy) →
+    (if (a && b) then (if c then Ok ws else Err e) else Err d) ≡ Ok vs → (ws ≡ vs) × (length ws ≤ most_array_cells) × (length ws ≤ room)
+    × (list_all fits ws ≡ true)
 array_tests room ws vs false b c few within all e d is = absurd cc
 array_tests room ws vs true false c few within all e d is = absurd cc
 array_tests room ws vs true true false few within all e d is = absurd cc
 array_tests room ws vs true true true few within all e d is = (ok_is ws vs is, leb-true _ _ few, leb-true _ _ within, all)
 
-array_case : (room : ℕ) (line : List ℕ) (o : Option (List ℤ)) (vs : List ℤ) → all_signed (pieces line) ≡ o → as_array room o ≡ Ok vs → (line ≡ values_text vs) × ArrayFits room vs
+array_case : (room : ℕ) (line : List ℕ) (o : Option (List ℤ)) (vs : List ℤ) → all_signed (pieces line) ≡ o → as_array room o ≡ Ok vs →
+    (line ≡ values_text vs) × ArrayFits room vs
 array_case room line None vs is e = absurd cc
 array_case room line (Some ws) vs is e =
     let t = array_tests room ws vs (nat_le (length ws) most_array_cells) (nat_le (length ws) room) (list_all fits ws) refl refl refl _ _ e in

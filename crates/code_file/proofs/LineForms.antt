@@ -31,7 +31,8 @@ pub record IsCount (word : List ℕ) (least most : ℕ) (l : List ℕ) (n : ℕ)
   pub low : least ≤ n
   pub high : n ≤ most
 
-count_case : (word l : List ℕ) (least most n : ℕ) (o : Option (List ℕ)) → most < 2 ^ 64 → strip word l ≡ o → counted least most o ≡ Ok n → IsCount word least most l n
+count_case : (word l : List ℕ) (least most n : ℕ) (o : Option (List ℕ)) → most < 2 ^ 64 → strip word l ≡ o → counted least most o ≡ Ok n →
+    IsCount word least most l n
 count_case word l least most n None small is e = absurd cc
 count_case word l least most n (Some rest) small is e =
     let r = range_found (λ n. n) least most Limit rest n small e in
@@ -82,7 +83,8 @@ pub record IsInstrCount (last : ℕ) (l : List ℕ) (n : ℕ) : Type 0 where
   pub at_most : n ≤ most_instrs
   pub above_last : last < n
 
-instr_count_case : (last : ℕ) (l : List ℕ) (n : ℕ) (r : Result ℕ CodeWhy) → count_in (codes "CODE ") 1 most_instrs l ≡ r → above last r ≡ Ok n → IsInstrCount last l n
+instr_count_case : (last : ℕ) (l : List ℕ) (n : ℕ) (r : Result ℕ CodeWhy) → count_in (codes "CODE ") 1 most_instrs l ≡ r → above last r ≡ Ok n →
+    IsInstrCount last l n
 instr_count_case last l n (Err why) is e = absurd cc
 instr_count_case last l n (Ok m) is e =
     let g = guard_ok (nat_lt last m) m n Range e in

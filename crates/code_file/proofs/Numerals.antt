@@ -68,11 +68,13 @@ range_case make least most past n true false x low high e = absurd cc
 range_case make least most past n true true x low high e = (leb-true least n low, leb-true n most high, ok_is _ _ e)
 
 -- what is made of a number in the range
-pub range_found : {A : Type 0} (make : ℕ → A) (least most : ℕ) (past : CodeWhy) (ds : List ℕ) (x : A) → most < 2 ^ 64 → within_range make least most past (number_of ds) ≡ Ok x →
+pub range_found : {A : Type 0} (make : ℕ → A) (least most : ℕ) (past : CodeWhy) (ds : List ℕ) (x : A) → most < 2 ^ 64 →
+    within_range make least most past (number_of ds) ≡ Ok x →
     (n : ℕ) × (least ≤ n) × (n ≤ most) × (make n ≡ x) × (ds ≡ decimal n)
 range_found make least most past ds x small e = by_number (number_of ds) refl e
   where
-    by_number : (o : Option ℕ) → number_of ds ≡ o → within_range make least most past o ≡ Ok x → (n : ℕ) × (least ≤ n) × (n ≤ most) × (make n ≡ x) × (ds ≡ decimal n)
+    by_number : (o : Option ℕ) → number_of ds ≡ o → within_range make least most past o ≡ Ok x → (n : ℕ) × (least ≤ n) × (n ≤ most) × (make n ≡ x)
+        × (ds ≡ decimal n)
     by_number None is e = absurd cc
     by_number (Some n) is e =
         let r = range_case make least most past n (nat_le least n) (nat_le n most) x refl refl e in

@@ -53,22 +53,29 @@ none_after : (beginning : List ℤ) → after_beginning beginning None ≡ None
 none_after beginning = refl
 
 -- no number stands there
-pub none_cut : (line rest l r : List ℕ) (beginning : List ℤ) → all_signed (pieces line) ≡ after_beginning beginning (all_signed (pieces rest)) → cut_at 32 rest ≡ parts l r → signed_of l ≡ None → all_signed (pieces line) ≡ None
-none_cut line rest l r beginning is cut none = is ∙ ap (λ ps. after_beginning beginning (all_signed ps)) (pieces_cut rest l r cut) ∙ ap (λ o. after_beginning beginning (both o (all_signed (pieces r)))) none
+pub none_cut : (line rest l r : List ℕ) (beginning : List ℤ) → all_signed (pieces line) ≡ after_beginning beginning (all_signed (pieces rest)) →
+    cut_at 32 rest ≡ parts l r → signed_of l ≡ None → all_signed (pieces line) ≡ None
+none_cut line rest l r beginning is cut none = is ∙ ap (λ ps. after_beginning beginning (all_signed ps)) (pieces_cut rest l r cut) ∙
+    ap (λ o. after_beginning beginning (both o (all_signed (pieces r)))) none
 
-pub none_last : (line rest : List ℕ) (beginning : List ℤ) → all_signed (pieces line) ≡ after_beginning beginning (all_signed (pieces rest)) → cut_at 32 rest ≡ None → signed_of rest ≡ None → all_signed (pieces line) ≡ None
-none_last line rest beginning is cut none = is ∙ ap (λ ps. after_beginning beginning (all_signed ps)) (pieces_whole rest cut) ∙ ap (λ o. after_beginning beginning (both o (Some []))) none
+pub none_last : (line rest : List ℕ) (beginning : List ℤ) → all_signed (pieces line) ≡ after_beginning beginning (all_signed (pieces rest)) →
+    cut_at 32 rest ≡ None → signed_of rest ≡ None → all_signed (pieces line) ≡ None
+none_last line rest beginning is cut none = is ∙ ap (λ ps. after_beginning beginning (all_signed ps)) (pieces_whole rest cut) ∙
+    ap (λ o. after_beginning beginning (both o (Some []))) none
 
 one_more : (beginning : List ℤ) (v : ℤ) (o : Option (List ℤ)) → after_beginning beginning (both (Some v) o) ≡ after_beginning (beginning ++ v ∷ []) o
 one_more beginning v None = refl
 one_more beginning v (Some vs) = ap Some (sym (append_assoc beginning (v ∷ []) vs))
 
-pub more_cut : (line rest l r : List ℕ) (beginning : List ℤ) (v : ℤ) → all_signed (pieces line) ≡ after_beginning beginning (all_signed (pieces rest)) → cut_at 32 rest ≡ parts l r → signed_of l ≡ Some v →
+pub more_cut : (line rest l r : List ℕ) (beginning : List ℤ) (v : ℤ) →
+    all_signed (pieces line) ≡ after_beginning beginning (all_signed (pieces rest)) → cut_at 32 rest ≡ parts l r → signed_of l ≡ Some v →
     all_signed (pieces line) ≡ after_beginning (beginning ++ v ∷ []) (all_signed (pieces r))
 more_cut line rest l r beginning v is cut some =
-    is ∙ ap (λ ps. after_beginning beginning (all_signed ps)) (pieces_cut rest l r cut) ∙ ap (λ o. after_beginning beginning (both o (all_signed (pieces r)))) some ∙ one_more beginning v (all_signed (pieces r))
+    is ∙ ap (λ ps. after_beginning beginning (all_signed ps)) (pieces_cut rest l r cut) ∙
+    ap (λ o. after_beginning beginning (both o (all_signed (pieces r)))) some ∙ one_more beginning v (all_signed (pieces r))
 
-pub more_last : (line rest : List ℕ) (beginning : List ℤ) (v : ℤ) → all_signed (pieces line) ≡ after_beginning beginning (all_signed (pieces rest)) → cut_at 32 rest ≡ None → signed_of rest ≡ Some v →
+pub more_last : (line rest : List ℕ) (beginning : List ℤ) (v : ℤ) → all_signed (pieces line) ≡ after_beginning beginning (all_signed (pieces rest)) →
+    cut_at 32 rest ≡ None → signed_of rest ≡ Some v →
     all_signed (pieces line) ≡ Some (beginning ++ v ∷ [])
 more_last line rest beginning v is cut some =
     is ∙ ap (λ ps. after_beginning beginning (all_signed ps)) (pieces_whole rest cut) ∙ ap (λ o. after_beginning beginning (both o (Some []))) some

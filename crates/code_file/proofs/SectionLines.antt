@@ -23,7 +23,8 @@ judged_found u judge p x e =
     let is : (b.0, a.0.1) ≡ x = ok_is (b.0, a.0.1) x b.2 in
     subst (λ y. Took judge p y) is (record { text = a.0.0; judged = at_line_ok p.number (judge a.0.0) b.0 b.1; bytes = line_taken u p a.0.0 a.0.1 a.1 })
 
-pub judged_again : {A : Type 0} (u : CodeWhy) (judge : List ℕ → Result A CodeWhy) (k : ℕ) (text rest : List ℕ) (x : A) → lacks 10 text ≡ true → judge text ≡ Ok x →
+pub judged_again : {A : Type 0} (u : CodeWhy) (judge : List ℕ → Result A CodeWhy) (k : ℕ) (text rest : List ℕ) (x : A) → lacks 10 text ≡ true →
+    judge text ≡ Ok x →
     judged_at u judge (from k (line text ++ rest)) ≡ Ok (x, from (k + 1) rest)
 unfolding judged_at
 judged_again u judge k text rest x clean is =
@@ -41,18 +42,21 @@ pub record IsSection {S A : Type 0} (judge : S → List ℕ → Result A CodeWhy
 abbrev pub lines_text : {A : Type 0} → (A → List ℕ) → List A → List ℕ
 lines_text text items = flat_map (λ a. line (text a)) items
 
-pub record TookMany {S A : Type 0} (Fits : S → A → Type 0) (after : S → A → S) (text : A → List ℕ) (n : ℕ) (s : S) (p : Place) (x : List A × Place) : Type 0 where
+pub record TookMany {S A : Type 0} (Fits : S → A → Type 0) (after : S → A → S) (text : A → List ℕ) (n : ℕ) (s : S) (p : Place) (x : List A × Place)
+    : Type 0 where
   pub bytes : p.bytes ≡ lines_text text x.0 ++ x.1.bytes
   pub count : length x.0 ≡ n
   pub fit : AllFit Fits after s x.0
 
-pub many_found : {S A : Type 0} (judge : S → List ℕ → Result A CodeWhy) (after : S → A → S) (Fits : S → A → Type 0) (text : A → List ℕ) → IsSection judge Fits text →
+pub many_found : {S A : Type 0} (judge : S → List ℕ → Result A CodeWhy) (after : S → A → S) (Fits : S → A → Type 0) (text : A → List ℕ) →
+    IsSection judge Fits text →
     (n : ℕ) (s : S) (p : Place) (x : List A × Place) → many_at judge after n s p ≡ Ok x → TookMany Fits after text n s p x
 unfolding many_at
 many_found judge after Fits text is zero s p x e =
     subst (λ y. TookMany Fits after text 0 s p y) (ok_is ([], p) x e) (record { bytes = refl; count = refl; fit = tt })
 many_found judge after Fits text is (suc n) s p x e =
-    let a = bind_ok (judged_at Line (judge s) p) (λ first. many_at judge after n (after s first.0) first.1 >>= λ others. Ok (first.0 ∷ others.0, others.1)) x e in
+    let a = bind_ok (judged_at Line (judge s) p)
+    (λ first. many_at judge after n (after s first.0) first.1 >>= λ others. Ok (first.0 ∷ others.0, others.1)) x e in
     let b = bind_ok (many_at judge after n (after s a.0.0) a.0.1) (λ others. Ok (a.0.0 ∷ others.0, others.1)) x a.2 in
     let one = judged_found Line (judge s) p a.0 a.1 in
     let here = is.found s one.text a.0.0 one.judged in
@@ -63,7 +67,8 @@ many_found judge after Fits text is (suc n) s p x e =
     subst (λ y. TookMany Fits after text (suc n) s p y) (ok_is (a.0.0 ∷ b.0.0, b.0.1) x b.2)
     (record { bytes = parts; count = ap suc rest.count; fit = (here.1, rest.fit) })
 
-pub many_again : {S A : Type 0} (judge : S → List ℕ → Result A CodeWhy) (after : S → A → S) (Fits : S → A → Type 0) (text : A → List ℕ) → IsSection judge Fits text →
+pub many_again : {S A : Type 0} (judge : S → List ℕ → Result A CodeWhy) (after : S → A → S) (Fits : S → A → Type 0) (text : A → List ℕ) →
+    IsSection judge Fits text →
     (items : List A) (s : S) (k : ℕ) (rest : List ℕ) → AllFit Fits after s items →
     (q : ℕ) × (many_at judge after (length items) s (from k (lines_text text items ++ rest)) ≡ Ok (items, from q rest))
 unfolding many_at
@@ -71,7 +76,8 @@ many_again judge after Fits text is [] s k rest fit = (k, refl)
 many_again judge after Fits text is (a ∷ items) s k rest fit =
     let one = judged_again Line (judge s) k (text a) (lines_text text items ++ rest) a (is.clean s a fit.0) (is.again s a fit.0) in
     let others = many_again judge after Fits text is items (after s a) (k + 1) rest fit.1 in
-    let regrouped : (line (text a) ++ lines_text text items) ++ rest ≡ line (text a) ++ (lines_text text items ++ rest) = append_assoc (line (text a)) (lines_text text items) rest in (
+    let regrouped : (line (text a) ++ lines_text text items) ++ rest ≡ line (text a) ++ (lines_text text items ++ rest) =
+    append_assoc (line (text a)) (lines_text text items) rest in (
       others.0,
       ap (λ bs. many_at judge after (suc (length items)) s (from k bs)) regrouped
           ∙ ap (λ r. r >>= λ first. many_at judge after (length items) (after s first.0) first.1 >>= λ more. Ok (first.0 ∷ more.0, more.1)) one

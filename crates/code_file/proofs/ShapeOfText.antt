@@ -66,7 +66,8 @@ starts_rise (n ∷ ns) some fit =
 -- ---- arrays
 
 cells_fit : (items : List (List ℤ)) (room : ℕ) → AllFit ArrayFits room_after room items →
-    AllByRecursion (λ a. (1 ≤ length a) × (length a ≤ most_array_cells)) items × AllByRecursion (λ a. list_all fits a ≡ true) items × (sum (map length items) ≤ room)
+    AllByRecursion (λ a. (1 ≤ length a) × (length a ≤ most_array_cells)) items × AllByRecursion (λ a. list_all fits a ≡ true) items
+    × (sum (map length items) ≤ room)
 cells_fit [] room fit = (tt, tt, omega arith)
 cells_fit (a ∷ items) room fit =
     let sums : sum (map length (a ∷ items)) ≡ length a + sum (map length items) = sum_by-cons (λ n. n) (length a) (map length items) in

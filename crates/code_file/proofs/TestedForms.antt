@@ -15,12 +15,14 @@ use Rattle.code_file.specs.Values.{as_value}
 use Rattle.code_file.proofs.Numerals.{number_found}
 use Rattle.code_file.proofs.Steps.{some_is}
 
-made_case : (make : ℕ → Instr) (c : Bool) (k n : ℕ) (i : Instr) (why : CodeWhy) → Ok n ≡ cond c (Ok k) (Err why) → Some i ≡ Some (make n) → Ok i ≡ cond c (Ok (make k)) (Err why)
+made_case : (make : ℕ → Instr) (c : Bool) (k n : ℕ) (i : Instr) (why : CodeWhy) → Ok n ≡ cond c (Ok k) (Err why) → Some i ≡ Some (make n) →
+    Ok i ≡ cond c (Ok (make k)) (Err why)
 made_case make true k n i why first second = (let same : n ≡ k = cc in let is : i ≡ make n = some_is _ _ second in rw (is, same) refl)
 made_case make false k n i why first second = absurd cc
 
 -- a number in its range, and the instruction of a word
-pub numbered_is : (o : Option (ℕ → Instr)) (m : Option ℕ) (n : ℕ) (i : Instr) → Ok n ≡ within_range (λ x. x) 0 65535 Range m → Some i ≡ option_map (λ make. make n) o → Ok i ≡ numbered o m
+pub numbered_is : (o : Option (ℕ → Instr)) (m : Option ℕ) (n : ℕ) (i : Instr) → Ok n ≡ within_range (λ x. x) 0 65535 Range m →
+    Some i ≡ option_map (λ make. make n) o → Ok i ≡ numbered o m
 numbered_is None m n i first second = absurd cc
 numbered_is (Some make) None n i first second = absurd cc
 numbered_is (Some make) (Some k) n i first second = made_case make (nat_le 0 k && nat_le k 65535) k n i Range first second
@@ -29,7 +31,8 @@ kept_case : (make : ℕ → Instr) (c : Bool) (k : ℕ) (why past : CodeWhy) →
 kept_case make true k why past e = absurd cc
 kept_case make false k why past e = cc
 
-pub numbered_fails : (o : Option (ℕ → Instr)) (m : Option ℕ) (why : CodeWhy) → is_some (option_map (λ make. make 0) o) ≡ true → Err why ≡ within_range (λ x. x) 0 65535 Range m → Err why ≡ numbered o m
+pub numbered_fails : (o : Option (ℕ → Instr)) (m : Option ℕ) (why : CodeWhy) → is_some (option_map (λ make. make 0) o) ≡ true →
+    Err why ≡ within_range (λ x. x) 0 65535 Range m → Err why ≡ numbered o m
 numbered_fails None m why some e = absurd (true≢false (sym some))
 numbered_fails (Some make) None why some e = cc
 numbered_fails (Some make) (Some k) why some e = kept_case make (nat_le 0 k && nat_le k 65535) k why Range e
@@ -40,7 +43,8 @@ far_case n true false low high e = leb-false (suc n) 2147483648 high
 far_case n false b low high e = absurd (true≢false (sym (le-leb 1 (suc n) (omega arith)) ∙ low))
 
 -- a number below zero that is no number of 32 bits
-pub below_refused : (ds : List ℕ) (o : Option ℕ) → number_of ds ≡ o → is_some o ≡ true → pointwise nat_eq ds (48 ∷ []) ≡ false → None ≡ within 1 2147483648 o → Err Range ≡ as_value (below_zero o)
+pub below_refused : (ds : List ℕ) (o : Option ℕ) → number_of ds ≡ o → is_some o ≡ true → pointwise nat_eq ds (48 ∷ []) ≡ false →
+    None ≡ within 1 2147483648 o → Err Range ≡ as_value (below_zero o)
 below_refused ds None is some other e = absurd (true≢false (sym some))
 below_refused ds (Some zero) is some other e =
     let zero_text : ds ≡ 48 ∷ [] = number_found ds 0 is (omega arith) ∙ decimal_digit 0 (omega arith) in
@@ -55,7 +59,8 @@ alone_case ds n true is same = absurd (let zero_is : Some (suc n) ≡ Some 0 = s
 alone_case ds n false is same = refl
 
 -- a number that isn't the digit 0 alone
-pub positive_is : (ds : List ℕ) (o : Option ℕ) (t : Bool) → number_of ds ≡ o → is_some o ≡ true → t ≡ not (pointwise nat_eq ds (48 ∷ [])) → t ≡ is_some (below_zero o)
+pub positive_is : (ds : List ℕ) (o : Option ℕ) (t : Bool) → number_of ds ≡ o → is_some o ≡ true → t ≡ not (pointwise nat_eq ds (48 ∷ [])) →
+    t ≡ is_some (below_zero o)
 positive_is ds None t is some test = absurd (true≢false (sym some))
 positive_is ds (Some zero) t is some test =
     let zero_text : ds ≡ 48 ∷ [] = number_found ds 0 is (omega arith) ∙ decimal_digit 0 (omega arith) in

@@ -38,7 +38,8 @@ instrs_stand (i ∷ is) each = (each 0 (omega arith), instrs_stand is (λ p lt. 
 
 -- ---- starts
 
-follow : (last : ℕ) (ns : List ℕ) (all : ℕ) → all ≤ most_instrs → rise (last ∷ ns) ≡ true → ((k : ℕ) → k < length ns → at ns k 0 < all) → AllFit StartFits last_after (Some last) ns
+follow : (last : ℕ) (ns : List ℕ) (all : ℕ) → all ≤ most_instrs → rise (last ∷ ns) ≡ true → ((k : ℕ) → k < length ns → at ns k 0 < all) →
+    AllFit StartFits last_after (Some last) ns
 follow last [] all few rising inside = tt
 follow last (n ∷ ns) all few rising inside =
     let h = and_parts (nat_lt last n) (rise (n ∷ ns)) rising in

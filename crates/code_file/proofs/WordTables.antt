@@ -11,7 +11,8 @@ abbrev pub EachEntry : {A : Type 0} → (List ℕ → A → Type 0) → List (Li
 EachEntry P [] = Unit {0}
 EachEntry P (e ∷ es) = P e.0 e.1 × EachEntry P es
 
-entry_case : {A : Type 0} (P : List ℕ → A → Type 0) (e : List ℕ × A) (es : List (List ℕ × A)) (w : List ℕ) (a : A) (t : Bool) → (t ≡ true → w ≡ e.0) → P e.0 e.1 →
+entry_case : {A : Type 0} (P : List ℕ → A → Type 0) (e : List ℕ × A) (es : List (List ℕ × A)) (w : List ℕ) (a : A) (t : Bool) → (t ≡ true → w ≡ e.0)
+    → P e.0 e.1 →
     (find_word es w ≡ Some a → P w a) → (if t then Some e.1 else find_word es w) ≡ Some a → P w a
 entry_case P e es w a true same here rest is = subst (λ (x : List ℕ × _). P x.0 x.1) (λ j. (sym (same refl) j, some_is e.1 a is j)) here
 entry_case P e es w a false same here rest is = rest is

@@ -17,7 +17,8 @@ or_assoc None b c = refl
 or_assoc (Some h) b c = refl
 
 -- one more height
-pub first_jump_push : (is : List Instr) (hs : List ℕ) (h p : ℕ) (d : Instr) → length hs < length is → first_jump is (hs ++ h ∷ []) p ≡ option_or (first_jump is hs p) (brings (get_or is (length hs) d) h p)
+pub first_jump_push : (is : List Instr) (hs : List ℕ) (h p : ℕ) (d : Instr) → length hs < length is →
+    first_jump is (hs ++ h ∷ []) p ≡ option_or (first_jump is hs p) (brings (get_or is (length hs) d) h p)
 first_jump_push [] hs h p d lt = absurd (omega arith)
 first_jump_push (i ∷ is) [] h p d lt = ap (option_or (brings i h p)) (none_yet is p) ∙ option_or-none (brings i h p)
 first_jump_push (i ∷ is) (g ∷ hs) h p d lt =
@@ -33,7 +34,8 @@ jumped_is [] hs p = refl
 jumped_is (i ∷ is) [] p = refl
 jumped_is (i ∷ is) (h ∷ hs) p =
     let rest = jumped_is is hs p in
-    elim (jumps_to i p) as (λ b. or_zero (option_or (if b then Some (leaves h i) else None) (first_jump is hs p)) ≡ (if b then leaves h i else jumped_height is hs p)) [ true ↦ refl | false ↦ rest ]
+    elim (jumps_to i p) as (λ b. or_zero (option_or (if b then Some (leaves h i) else None) (first_jump is hs p)) ≡
+    (if b then leaves h i else jumped_height is hs p)) [ true ↦ refl | false ↦ rest ]
 
 pushes_upto : (i : Instr) → pushes i ≤ 1
 pushes_upto (Push v) = omega arith
@@ -64,8 +66,10 @@ jumped_unwrap is hs p = same (first_jump is hs p) ∙ jumped_is is hs p
     same None = refl
     same (Some h) = refl
 
-pub height_jumped : (instrs : List Instr) (starts hs : List ℕ) → begins starts (length hs) ≡ false → goes_on (instr_at instrs (length hs - 1)) ≡ false → jumped_height instrs hs (length hs) ≡ height_after instrs starts hs
+pub height_jumped : (instrs : List Instr) (starts hs : List ℕ) → begins starts (length hs) ≡ false →
+    goes_on (instr_at instrs (length hs - 1)) ≡ false → jumped_height instrs hs (length hs) ≡ height_after instrs starts hs
 height_jumped instrs starts hs b g =
     let first = ap (λ x. if x then leaves (get_or hs (length hs - 1) 0) (instr_at instrs (length hs - 1)) else jumped_height instrs hs (length hs)) g in
-    let second = ap (λ x. if x then 0 else if goes_on (instr_at instrs (length hs - 1)) then leaves (get_or hs (length hs - 1) 0) (instr_at instrs (length hs - 1)) else jumped_height instrs hs (length hs)) b in
+    let second = ap (λ x. if x then 0 else if goes_on (instr_at instrs (length hs - 1)) then leaves (get_or hs (length hs - 1) 0)
+    (instr_at instrs (length hs - 1)) else jumped_height instrs hs (length hs)) b in
     sym (second ∙ first)

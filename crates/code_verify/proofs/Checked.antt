@@ -91,6 +91,8 @@ module _ (code : CodeOf) where
       let within : Within code p = omega arith in
       both (target (instr_at code.instrs p)) (passed JumpOut (omega arith) p within) (passed BackToNoTick (omega arith) p within)
     where
-      both : (o : Option ℕ) → IfSome o (λ t. (t < length code.instrs) × (routine_of code.starts t ≡ routine_of code.starts p)) → IfSome o (λ t. t ≤ p → IsTrue (is_tick (instr_at code.instrs t))) → IfSome o (λ t. (t < length code.instrs) × (t ≤ p → IsTrue (is_tick (instr_at code.instrs t))))
+      both : (o : Option ℕ) → IfSome o (λ t. (t < length code.instrs) × (routine_of code.starts t ≡ routine_of code.starts p)) →
+          IfSome o (λ t. t ≤ p → IsTrue (is_tick (instr_at code.instrs t))) →
+          IfSome o (λ t. (t < length code.instrs) × (t ≤ p → IsTrue (is_tick (instr_at code.instrs t))))
       both None a b = tt
       both (Some t) a b = (a.0, b)

@@ -41,7 +41,8 @@ module _ (world : World) where
   two (y ∷ []) go all = All-nil P
   two (y ∷ x ∷ below) go all = all x y below
 
-  arguments : (n : ℕ) (operands : List ℤ) (go : ℤ → ℤ → List ℤ → Step) → ((x y : ℤ) (below : List ℤ) → Keeps (go x y below)) → Keeps (on_arguments n operands go)
+  arguments : (n : ℕ) (operands : List ℤ) (go : ℤ → ℤ → List ℤ → Step) → ((x y : ℤ) (below : List ℤ) → Keeps (go x y below)) →
+      Keeps (on_arguments n operands go)
   arguments zero operands go all = all (pos 0) (pos 0) operands
   arguments (suc zero) operands go all = one operands _ (λ x below. all x (pos 0) below)
   arguments (suc (suc n)) operands go all = two operands go all
@@ -126,4 +127,5 @@ module _ (world : World) where
 
 pub codes_give_the_worlds : CodesGiveTheWorlds
 codes_give_the_worlds code world s none =
-    runs world code.instrs code.starts step_limit (first_state code.starts unit_limit s) (subst (All (HasCommand world)) (sym none) (All-nil (HasCommand world)))
+    runs world code.instrs code.starts step_limit (first_state code.starts unit_limit s)
+    (subst (All (HasCommand world)) (sym none) (All-nil (HasCommand world)))

@@ -95,15 +95,19 @@ module _ (code : CodeOf) where
       need (le_known (pops i) h) (λ (f : HeightFits code p). f.enough) (λ enough.
       need (le_known (leaves h i) 256) (λ (f : HeightFits code p). f.room) (λ room.
       need (asked_known (true_known (stands_clear i)) (eq_known h 0)) (λ (f : HeightFits code p). f.clear) (λ clear.
-      need (some_known (λ t. get_or (heights code) t 0 ≡ leaves h i) (λ t. eq_known (get_or (heights code) t 0) (leaves h i)) (target i)) (λ (f : HeightFits code p). f.jumped) (λ jumped.
-      need (asked_known (true_known (goes_on i)) (asked_known (true_known (has_next code.starts (length code.instrs) p)) (eq_known (get_or (heights code) (p + 1) 0) (leaves h i)))) (λ (f : HeightFits code p). f.fallen) (λ fallen.
+      need (some_known (λ t. get_or (heights code) t 0 ≡ leaves h i) (λ t. eq_known (get_or (heights code) t 0) (leaves h i)) (target i))
+      (λ (f : HeightFits code p). f.jumped) (λ jumped.
+      need (asked_known (true_known (goes_on i))
+      (asked_known (true_known (has_next code.starts (length code.instrs) p)) (eq_known (get_or (heights code) (p + 1) 0) (leaves h i))))
+      (λ (f : HeightFits code p). f.fallen) (λ fallen.
       inl (record { enough = enough; room = room; clear = clear; jumped = jumped; fallen = fallen }))))))
 
   edge_known : (p : ℕ) → Known (EdgeFits code p)
   edge_known p =
       let i = instr_at code.instrs p in
       as_known
-      (both_known (asked_known (true_known (is_call i)) (asked_known (true_known (has_next code.starts (length code.instrs) p)) (true_known (is_tick (instr_at code.instrs (p + 1))))))
+      (both_known (asked_known (true_known (is_call i))
+      (asked_known (true_known (has_next code.starts (length code.instrs) p)) (true_known (is_tick (instr_at code.instrs (p + 1))))))
       (asked_known (true_known (begins code.starts p)) (asked_known (false_known (is_ret i)) (true_known (is_tick i)))))
       (λ h. record { after_call = h.0; at_start = h.1 })
       (λ f. (f.after_call, f.at_start))
@@ -125,12 +129,15 @@ module _ (code : CodeOf) where
       need (le_known code.vars most_variables) (λ (f : HasShape code). f.variables) (λ variables.
       need (le_known code.timers most_timers) (λ (f : HasShape code). f.timers) (λ timers.
       need (le_known (length code.arrays) most_arrays) (λ (f : HasShape code). f.arrays) (λ arrays.
-      need (all_known (λ (a : List ℤ). (1 ≤ length a) × (length a ≤ most_array_cells)) (λ a. both_known (le_known 1 (length a)) (le_known (length a) most_array_cells)) code.arrays) (λ (f : HasShape code). f.cells) (λ cells.
+      need (all_known (λ (a : List ℤ). (1 ≤ length a) × (length a ≤ most_array_cells))
+      (λ a. both_known (le_known 1 (length a)) (le_known (length a) most_array_cells)) code.arrays) (λ (f : HasShape code). f.cells) (λ cells.
       need (le_known (sum (map length code.arrays)) most_cells) (λ (f : HasShape code). f.all_cells) (λ all_cells.
       need (eq_known (get_or code.starts 0 1) 0) (λ (f : HasShape code). f.first) (λ first.
       need (true_known (rise code.starts)) (λ (f : HasShape code). f.rising) (λ rising.
-      need (below_known (λ k. get_or code.starts k 0 < length code.instrs) (λ k. lt_known (get_or code.starts k 0) (length code.instrs)) (length code.starts)) (λ (f : HasShape code). f.inside) (λ inside.
-      need (below_known (λ p. IsTrue (line_fits (instr_at code.instrs p))) (λ p. true_known (line_fits (instr_at code.instrs p))) (length code.instrs)) (λ (f : HasShape code). f.lines) (λ lines.
+      need (below_known (λ k. get_or code.starts k 0 < length code.instrs) (λ k. lt_known (get_or code.starts k 0) (length code.instrs))
+      (length code.starts)) (λ (f : HasShape code). f.inside) (λ inside.
+      need (below_known (λ p. IsTrue (line_fits (instr_at code.instrs p))) (λ p. true_known (line_fits (instr_at code.instrs p)))
+      (length code.instrs)) (λ (f : HasShape code). f.lines) (λ lines.
       inl (record {
         instrs = instrs;
         routines = routines;
@@ -146,8 +153,10 @@ module _ (code : CodeOf) where
       }))))))))))))
 
   fits_known : (why : VerifyWhy) (p : ℕ) → Known (FitsCheck code why p)
-  fits_known JumpOut p = some_known (λ t. (t < length code.instrs) × (routine_of code.starts t ≡ routine_of code.starts p)) (λ t. both_known (lt_known t (length code.instrs)) (eq_known (routine_of code.starts t) (routine_of code.starts p))) (target (instr_at code.instrs p))
-  fits_known BackToNoTick p = some_known (λ t. t ≤ p → IsTrue (is_tick (instr_at code.instrs t))) (λ t. asked_known (le_known t p) (true_known (is_tick (instr_at code.instrs t)))) (target (instr_at code.instrs p))
+  fits_known JumpOut p = some_known (λ t. (t < length code.instrs) × (routine_of code.starts t ≡ routine_of code.starts p))
+      (λ t. both_known (lt_known t (length code.instrs)) (eq_known (routine_of code.starts t) (routine_of code.starts p))) (target (instr_at code.instrs p))
+  fits_known BackToNoTick p = some_known (λ t. t ≤ p → IsTrue (is_tick (instr_at code.instrs t)))
+      (λ t. asked_known (le_known t p) (true_known (is_tick (instr_at code.instrs t)))) (target (instr_at code.instrs p))
   fits_known Height p = height_known p
   fits_known Slot p = slot_known (operand_of (instr_at code.instrs p))
   fits_known CallOrder p = call_known p (operand_of (instr_at code.instrs p))

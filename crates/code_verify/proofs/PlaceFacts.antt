@@ -40,7 +40,8 @@ pub record At (code : CodeOf) (p : ℕ) (i : Instr) : Type 0 where
   pub room : leaves (height code p) i ≤ 256
   pub clear : IsTrue (stands_clear i) → height code p ≡ 0
   pub jumped : IfSome (target i) (λ t. (t < all code) × (height code t ≡ leaves (height code p) i) × (routine_of code.starts t ≡ routine_of code.starts p))
-  pub fallen : IsTrue (goes_on i) → (p + 1 < all code) × (height code (p + 1) ≡ leaves (height code p) i) × (routine_of code.starts (p + 1) ≡ routine_of code.starts p)
+  pub fallen : IsTrue (goes_on i) → (p + 1 < all code) × (height code (p + 1) ≡ leaves (height code p) i)
+      × (routine_of code.starts (p + 1) ≡ routine_of code.starts p)
   pub slot : SlotFits code i
   pub called : CallFits code.starts p i
   pub after_call : IsTrue (is_call i) → IsTrue (is_tick (here code (p + 1)))
@@ -108,7 +109,8 @@ module _ (code : CodeOf) (valid : Valid code) where
         ∙ later_from_last head (all code) (p + 1) (q - (p + 1)) (omega arith)
         ∙ ap (λ n. get_or (from_last head (all code)) n 0) b
 
-    no_more : (p q : ℕ) → q < all code → (is_tick (here code q) ≡ false → p < q) → unless_tick code (λ k. get_or table k 0) q ≤ later_at code.instrs p (later p) q
+    no_more : (p q : ℕ) → q < all code → (is_tick (here code q) ≡ false → p < q) →
+        unless_tick code (λ k. get_or table k 0) q ≤ later_at code.instrs p (later p) q
     no_more p q k ahead = go (is_tick (here code q)) refl
       where
         go : (b : Bool) → is_tick (here code q) ≡ b → (if b then 0 else get_or table q 0) ≤ (if b then 0 else get_or (later p) (q - (p + 1)) 0)
@@ -129,18 +131,24 @@ module _ (code : CodeOf) (valid : Valid code) where
     unfolding top
     bounds p h = record { jumped = by_jump (target (here code p)) refl; fallen = by_fall }
       where
-        by_jump : (o : Option ℕ) → target (here code p) ≡ o → IfSome o (λ t. unless_tick code (λ k. get_or table k 0) t ≤ greatest code.instrs code.starts p (later_at code.instrs p (later p)))
+        by_jump : (o : Option ℕ) → target (here code p) ≡ o →
+            IfSome o (λ t. unless_tick code (λ k. get_or table k 0) t ≤ greatest code.instrs code.starts p (later_at code.instrs p (later p)))
         by_jump None e = tt
         by_jump (Some t) e =
             let inside = subst (λ o. IfSome o (λ t. (t < all code) × (routine_of code.starts t ≡ routine_of code.starts p))) e (valid JumpOut p (within p h)) in
             let back = subst (λ o. IfSome o (λ t. t ≤ p → IsTrue (is_tick (here code t)))) e (valid BackToNoTick p (within p h)) in
             omega (arith, no_more p t inside.0 (jump_ahead p t back), ap (λ o. of_target o (later_at code.instrs p (later p))) e)
 
-        by_fall : IsTrue (goes_on (here code p)) → unless_tick code (λ k. get_or table k 0) (p + 1) ≤ greatest code.instrs code.starts p (later_at code.instrs p (later p))
+        by_fall : IsTrue (goes_on (here code p)) →
+            unless_tick code (λ k. get_or table k 0) (p + 1) ≤ greatest code.instrs code.starts p (later_at code.instrs p (later p))
         by_fall goes =
             let there = next_there p h goes in
             let both = and_true _ _ goes there in
-            omega (arith, no_more p (p + 1) (next_within p h there) (λ e. omega arith), if_true (goes_on (here code p) && has_next code.starts (all code) p) (later_at code.instrs p (later p) (p + 1)) 0 both)
+            omega (
+              arith,
+              no_more p (p + 1) (next_within p h there) (λ e. omega arith),
+              if_true (goes_on (here code p) && has_next code.starts (all code) p) (later_at code.instrs p (later p) (p + 1)) 0 both,
+            )
 
   height_next : (p : ℕ) → p < all code → (q : ℕ) → height code p ≡ height_after code.instrs code.starts (from_first (height_after code.instrs code.starts) p)
   height_next p h q = at_from_first (height_after code.instrs code.starts) (all code) p h
@@ -159,7 +167,8 @@ module _ (code : CodeOf) (valid : Valid code) where
         room = fits.room;
         clear = fits.clear;
         jumped = jumps (target (here code p)) (valid JumpOut p (within p h)) fits.jumped;
-        fallen = λ goes. let there = next_there p h goes in (next_within p h there, fits.fallen goes there, same_routine code.starts (all code) p (shape p h).rising there);
+        fallen = λ goes. let there = next_there p h goes in
+            (next_within p h there, fits.fallen goes there, same_routine code.starts (all code) p (shape p h).rising there);
         slot = valid Slot p (within p h);
         called = valid CallOrder p (within p h);
         after_call = λ c. (valid EdgeToNoTick p (within p h)).after_call c (next_there p h (call_goes (here code p) c));
@@ -171,7 +180,9 @@ module _ (code : CodeOf) (valid : Valid code) where
         commands_bounds = bounds commands_of p h;
       }
     where
-      jumps : (o : Option ℕ) → IfSome o (λ t. (t < all code) × (routine_of code.starts t ≡ routine_of code.starts p)) → IfSome o (λ t. height code t ≡ leaves (height code p) (here code p)) → IfSome o (λ t. (t < all code) × (height code t ≡ leaves (height code p) (here code p)) × (routine_of code.starts t ≡ routine_of code.starts p))
+      jumps : (o : Option ℕ) → IfSome o (λ t. (t < all code) × (routine_of code.starts t ≡ routine_of code.starts p)) →
+          IfSome o (λ t. height code t ≡ leaves (height code p) (here code p)) →
+          IfSome o (λ t. (t < all code) × (height code t ≡ leaves (height code p) (here code p)) × (routine_of code.starts t ≡ routine_of code.starts p))
       jumps None a b = tt
       jumps (Some t) a b = (a.0, b, a.1)
 

@@ -37,7 +37,8 @@ upto_start (s ∷ ss) zero h lt =
     elim (nat_lt s s) as (λ b. (if b then 0 else 1) + starts_upto ss s ≤ 0 + 1) [ true ↦ omega (arith, none) | false ↦ omega (arith, none) ]
 upto_start (s ∷ ss) (suc r) h lt =
     let rest = upto_start ss r (rise_tail s ss h) (omega arith) in
-    elim (nat_lt (get_or ss r 0) s) as (λ b. (if b then 0 else 1) + starts_upto ss (get_or ss r 0) ≤ suc r + 1) [ true ↦ omega (arith, rest) | false ↦ omega (arith, rest) ]
+    elim (nat_lt (get_or ss r 0) s) as (λ b. (if b then 0 else 1) + starts_upto ss (get_or ss r 0) ≤ suc r + 1)
+    [ true ↦ omega (arith, rest) | false ↦ omega (arith, rest) ]
 
 pub routine_start : (starts : List ℕ) (r : ℕ) → IsTrue (rise starts) → r < length starts → routine_of starts (get_or starts r 0) ≤ r
 routine_start starts r h lt = omega (arith, upto_start starts r h lt)
@@ -45,12 +46,15 @@ routine_start starts r h lt = omega (arith, upto_start starts r h lt)
 upto_next : (starts : List ℕ) (all p : ℕ) → IsTrue (rise starts) → p + 1 < end_above starts all p → starts_upto starts (p + 1) ≡ starts_upto starts p
 upto_next [] all p h lt = refl
 upto_next (s ∷ ss) all p h lt =
-    go (nat_lt p s) (nat_lt (p + 1) s) refl refl (λ before. omega (arith, ap (λ b. if b then s else end_above ss all p) before, lt)) (λ before. omega (arith, ap (λ b. if b then s else end_above ss all p) before, lt)) (upto_next ss all p (rise_tail s ss h))
+    go (nat_lt p s) (nat_lt (p + 1) s) refl refl (λ before. omega (arith, ap (λ b. if b then s else end_above ss all p) before, lt))
+    (λ before. omega (arith, ap (λ b. if b then s else end_above ss all p) before, lt)) (upto_next ss all p (rise_tail s ss h))
   where
     none : (q : ℕ) → q ≤ s → starts_upto ss q ≡ 0
     none q le = upto_none s ss q h le
 
-    go : (a b : Bool) → nat_lt p s ≡ a → nat_lt (p + 1) s ≡ b → (nat_lt p s ≡ true → p + 1 < s) → (nat_lt p s ≡ false → p + 1 < end_above ss all p) → (p + 1 < end_above ss all p → starts_upto ss (p + 1) ≡ starts_upto ss p) → (if b then 0 else 1) + starts_upto ss (p + 1) ≡ (if a then 0 else 1) + starts_upto ss p
+    go : (a b : Bool) → nat_lt p s ≡ a → nat_lt (p + 1) s ≡ b → (nat_lt p s ≡ true → p + 1 < s) → (nat_lt p s ≡ false → p + 1 < end_above ss all p) →
+        (p + 1 < end_above ss all p → starts_upto ss (p + 1) ≡ starts_upto ss p) →
+        (if b then 0 else 1) + starts_upto ss (p + 1) ≡ (if a then 0 else 1) + starts_upto ss p
     go true true e f less more rest = let lt' = less e in omega (arith, none (p + 1) (omega arith), none p (omega arith))
     go true false e f less more rest = let lt' = less e in absurd (let le : s ≤ p + 1 = grind (arith, f) in omega arith)
     go false true e f less more rest = absurd (let le : s ≤ p = grind (arith, e) in let lt' : p + 1 < s = grind (arith, f) in omega arith)

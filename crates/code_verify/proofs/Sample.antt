@@ -40,7 +40,8 @@ abbrev empty : StoreOf
 empty = record { variables = pos 7 ∷ []; arrays = []; timers = []; commands = [] }
 
 -- a fault after a call has the line of the tick spent last
-called : (w : World) → exec (Tick 9 ∷ Push (pos 5) ∷ Store 0 ∷ Ret ∷ Tick 1 ∷ Call 0 ∷ Tick 1 ∷ Tick 2 ∷ Load 0 ∷ Push (pos 0) ∷ Div ∷ Store 0 ∷ Ret ∷ []) (0 ∷ 4 ∷ []) w 100 (first_state (0 ∷ 4 ∷ []) 10 empty) ≡ Faulted ZeroDivisor 2
+called : (w : World) → exec (Tick 9 ∷ Push (pos 5) ∷ Store 0 ∷ Ret ∷ Tick 1 ∷ Call 0 ∷ Tick 1 ∷ Tick 2 ∷ Load 0 ∷ Push (pos 0) ∷ Div ∷ Store 0 ∷ Ret
+    ∷ []) (0 ∷ 4 ∷ []) w 100 (first_state (0 ∷ 4 ∷ []) 10 empty) ≡ Faulted ZeroDivisor 2
 called w = refl
 
 -- quotients are cut toward zero

@@ -63,11 +63,13 @@ module _ (step : List ℕ → ℕ) where
       let next : suc p ≡ p + 1 = omega arith in
       ap (λ n. hs ++ n ∷ []) e ∙ ap (λ xs. xs ++ step xs ∷ []) is ∙ ap (from_first step) next
 
-pub low_push : (hs : List ℕ) (h : ℕ) → ((k : ℕ) → k < length hs → get_or hs k 0 ≤ k) → h ≤ length hs → (k : ℕ) → k < length (hs ++ h ∷ []) → get_or (hs ++ h ∷ []) k 0 ≤ k
+pub low_push : (hs : List ℕ) (h : ℕ) → ((k : ℕ) → k < length hs → get_or hs k 0 ≤ k) → h ≤ length hs → (k : ℕ) → k < length (hs ++ h ∷ []) →
+    get_or (hs ++ h ∷ []) k 0 ≤ k
 low_push hs h low le k lt =
     ⊎_elim
     (λ less. omega (arith, low k less, get_or_append_left hs (h ∷ []) 0 k less))
-    (λ more. let e : k ≡ length hs + 0 = omega (arith, length-append hs (h ∷ [])) in omega (arith, le, e, ap (λ n. get_or (hs ++ h ∷ []) n 0) e, get_or-append-add hs (h ∷ []) 0 0))
+    (λ more. let e : k ≡ length hs + 0 = omega (arith, length-append hs (h ∷ [])) in
+    omega (arith, le, e, ap (λ n. get_or (hs ++ h ∷ []) n 0) e, get_or-append-add hs (h ∷ []) 0 0))
     (cases_lt k (length hs))
 
 pub length-from_last : (head : ℕ → List ℕ → ℕ) (n : ℕ) → length (from_last head n) ≡ n
@@ -75,7 +77,10 @@ length-from_last head zero = refl
 length-from_last head (suc n) = omega (arith, length-from_last head n)
 
 module _ (number : Number) (instrs : List Instr) (starts : List ℕ) where
-  pub from_last_more : (table : List ℕ) (n p v : ℕ) → p ≡ length instrs - 1 - n → n < length instrs → length table ≡ length instrs → drop (length instrs - n) table ≡ from_last (number_before number instrs starts) n → v ≡ number_of number (instr_at instrs p) (greatest instrs starts p (later_at instrs p (drop (p + 1) table))) → drop (length instrs - (n + 1)) (set table p v) ≡ from_last (number_before number instrs starts) (n + 1)
+  pub from_last_more : (table : List ℕ) (n p v : ℕ) → p ≡ length instrs - 1 - n → n < length instrs → length table ≡ length instrs →
+      drop (length instrs - n) table ≡ from_last (number_before number instrs starts) n →
+      v ≡ number_of number (instr_at instrs p) (greatest instrs starts p (later_at instrs p (drop (p + 1) table))) →
+      drop (length instrs - (n + 1)) (set table p v) ≡ from_last (number_before number instrs starts) (n + 1)
   from_last_more table n p v at lt long is e =
       let here : length instrs - (n + 1) ≡ p = omega arith in
       let from : p ≡ length instrs - suc n = omega arith in

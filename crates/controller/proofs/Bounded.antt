@@ -159,7 +159,8 @@ module _ (Fits : Store → Type 0) (logic : Logic) (site : Site) (keeps : KeepsF
             (refusals_name_groups site.rules past.history (wishes_in site past end));
       }
 
-  bounded_from : (past : Past) (k : ℕ) (fs : List Counts) → next_second past ≡ k → Fits past.store → IsHistory site.rules.count past.history → Safe site.rules past.history →
+  bounded_from : (past : Past) (k : ℕ) (fs : List Counts) → next_second past ≡ k → Fits past.store → IsHistory site.rules.count past.history →
+      Safe site.rules past.history →
       AreBoundedFrom site k fs (run_from logic site past fs)
   unfolding past_after
   bounded_from past k [] here fits is safe = tt
@@ -170,11 +171,13 @@ module _ (Fits : Store → Type 0) (logic : Logic) (site : Site) (keeps : KeepsF
       let size : next_second (past_after_second logic site past f) ≡ k + 1 =
       omega (arith, length-append past.history (guard_picture site.rules past.history (wishes_in site past end) ∷ []), here) in (
         subst (λ n. IsBoundedAt site n f (record_of logic site past f)) here (second_bounded past f fits is safe),
-        bounded_from (past_after_second logic site past f) (k + 1) fs size (keeps.goes_on world (begun past.store) (keeps.begins past.store fits)) more.0 more.1,
+        bounded_from (past_after_second logic site past f) (k + 1) fs size (keeps.goes_on world (begun past.store) (keeps.begins past.store fits))
+            more.0 more.1,
       )
 
 pub runs_are_bounded : (Fits : Store → Type 0) → RunsAreBounded Fits
 runs_are_bounded Fits logic site store frames keeps few fits two count =
     let n = groups_in site.plan in
-    let begins = begins_safe site.rules (replicate n Red) (length-replicate n Red ∙ sym count) (λ g lt. get_or-replicate n g Red Red (omega (arith, lt, count))) in
+    let begins = begins_safe site.rules (replicate n Red) (length-replicate n Red ∙ sym count)
+    (λ g lt. get_or-replicate n g Red Red (omega (arith, lt, count))) in
     bounded_from Fits logic site keeps few two count (opening site store) 1 frames refl fits begins.0 begins.1

@@ -31,7 +31,8 @@ first_refused : (plan : PlanOf) (k : ℕ) (orders : List Order) (c : Command) (c
     All (IsRefusedStage plan k orders (c ∷ cs)) (refused_by plan k orders c)
 first_refused plan k orders (Interstage a b) cs = go (refused_order plan (place_at plan orders k) a.0 b.0) refl
   where
-    go : (o : Option Rule) → refused_order plan (place_at plan orders k) a.0 b.0 ≡ o → All (IsRefusedStage plan k orders (Interstage a b ∷ cs)) (refusal a.0 b.0 o)
+    go : (o : Option Rule) → refused_order plan (place_at plan orders k) a.0 b.0 ≡ o →
+        All (IsRefusedStage plan k orders (Interstage a b ∷ cs)) (refusal a.0 b.0 o)
     go None is = All-nil (IsRefusedStage plan k orders (Interstage a b ∷ cs))
     go (Some rule) is = All-cons (IsRefusedStage plan k orders (Interstage a b ∷ cs)) _ [] (record { before = []; later = cs; given = refl; rule = is })
         (All-nil (IsRefusedStage plan k orders (Interstage a b ∷ cs)))
@@ -46,7 +47,8 @@ stages_refused : (plan : PlanOf) (k : ℕ) (orders : List Order) (cs : List Comm
 stages_refused plan k orders [] = All-nil (IsRefusedStage plan k orders [])
 stages_refused plan k orders (c ∷ cs) =
     let rest = stages_refused plan k (order_by plan k orders c) cs in
-    All-append (IsRefusedStage plan k orders (c ∷ cs)) (refused_by plan k orders c) (refusals_of plan k (order_by plan k orders c) cs) (first_refused plan k orders c cs)
+    All-append (IsRefusedStage plan k orders (c ∷ cs)) (refused_by plan k orders c) (refusals_of plan k (order_by plan k orders c) cs)
+    (first_refused plan k orders c cs)
     (λ n d lt. refused_later plan k orders c cs _ (rest n d lt))
 
 second_is_guarded : (site : Site) (past : Past) (frame : Counts) (end : End) → IsHistory site.rules.count past.history →
@@ -59,7 +61,8 @@ second_is_guarded site past frame end is = record {
 }
 
 -- a run goes on from a safe history to safe histories
-run_keeps : (logic : Logic) (site : Site) (past : Past) (fs : List Counts) → IsTwoWay site.rules → IsHistory site.rules.count past.history → Safe site.rules past.history →
+run_keeps : (logic : Logic) (site : Site) (past : Past) (fs : List Counts) → IsTwoWay site.rules → IsHistory site.rules.count past.history →
+    Safe site.rules past.history →
     IsHistory site.rules.count (past_of logic site past fs).history × Safe site.rules (past_of logic site past fs).history
 unfolding past_after
 run_keeps logic site past [] two is safe = (is, safe)
@@ -88,7 +91,8 @@ runs_are_guarded logic site store frames two count = record {
   histories = λ n le. history_of_run logic site (opening site store) (take n frames)
       ∙ ap (λ rs. pictures_of site rs) (run_front logic site (opening site store) frames n);
   seconds = λ n r lt.
-      subst (IsGuardedSecond site (past_at logic site store frames n) (pass_at logic site store frames n)) (record_at logic site (opening site store) frames n r lt)
+      subst (IsGuardedSecond site (past_at logic site store frames n) (pass_at logic site store frames n))
+      (record_at logic site (opening site store) frames n r lt)
       (second_is_guarded site (past_at logic site store frames n) (get_or frames n []) (pass_at logic site store frames n)
       (run_keeps logic site (opening site store) (take n frames) two begins.0 begins.1).0);
 }

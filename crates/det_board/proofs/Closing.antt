@@ -43,7 +43,8 @@ get_front (x ∷ xs) ys (suc k) p e = get_front xs ys k p e
 some_one : {a b : Feeding} → Some a ≡ Some b → a ≡ b
 some_one e = cc
 
-pub gathers_one : (board : Boarded) (all rest rest' : List Feeding) (tick : Ticking) (x : Feeding) (place : ℕ) (loads : List (List ℕ)) (me me' : Me (Unit {0}) View) (counts : List (ℕ × ℕ)) → AreAll board all tick → board.detectors ≤ 64
+pub gathers_one : (board : Boarded) (all rest rest' : List Feeding) (tick : Ticking) (x : Feeding) (place : ℕ) (loads : List (List ℕ))
+    (me me' : Me (Unit {0}) View) (counts : List (ℕ × ℕ)) → AreAll board all tick → board.detectors ≤ 64
     → Gathering all rest board.detectors loads me counts → rest ≡ rest' ++ x ∷ [] → place ≡ x.place → x.place < board.detectors
     → me' ≡ (Tick (dealt_of me.0) (loads_of me.0) (set (owned_of me.0) x.place (Some (x.fronts, x.rears))), [])
     → Gathering all rest' board.detectors loads me' (set counts place (x.fronts, x.rears))
@@ -55,7 +56,8 @@ gathers_one board all rest rest' tick x place loads me me' counts are low g cut 
     let c : Option (ℕ × ℕ) = Some (x.fronts, x.rears) in
     let O = set (owned_of me.0) x.place c in
     let now : me' ≡ (Tick (dealt_of me.0) loads O, []) = is ∙ (λ i. (Tick (dealt_of me.0) (L' i) O, [])) in
-    let which : (k : ℕ) (p : Feeding) → slice_get all k ≡ Some p → k ≡ n → x ≡ p = λ k p e same. some_one (sym mine ∙ subst (λ j. slice_get all j ≡ Some p) same e) in
+    let which : (k : ℕ) (p : Feeding) → slice_get all k ≡ Some p → k ≡ n → x ≡ p =
+    λ k p e same. some_one (sym mine ∙ subst (λ j. slice_get all j ≡ Some p) same e) in
     let apart : (k : ℕ) (p : Feeding) → slice_get all k ≡ Some p → k ≢ n → p.place ≢ x.place = λ k p e ne same. ne (are.once k n p x e mine same) in
     subst (λ (j : ℕ). Gathering all rest' board.detectors loads me' (set counts j (x.fronts, x.rears))) (sym at) (record {
       part = λ k p e. g.part k p (subst (λ l. slice_get l k ≡ Some p) (sym cut) (get_front rest' (x ∷ []) k p e));
@@ -78,10 +80,12 @@ gathers_one board all rest rest' tick x place loads me me' counts are low g cut 
     })
 
 -- the frame that is left
-pub closes : (board : Boarded) (all : List Feeding) (tick : Ticking) (me : Me (Unit {0}) View) (totals counts frame : List (ℕ × ℕ)) → AreAll board all tick → board.detectors ≤ 64 → Gathering all [] board.detectors tick.loads me counts → WithinCounts board.detectors me.0
+pub closes : (board : Boarded) (all : List Feeding) (tick : Ticking) (me : Me (Unit {0}) View) (totals counts frame : List (ℕ × ℕ)) →
+    AreAll board all tick → board.detectors ≤ 64 → Gathering all [] board.detectors tick.loads me counts → WithinCounts board.detectors me.0
     → ((d : ℕ) → d < 64 → slice_index_or totals d (0, 0) ≡ (last_read tick.loads (fronts_word d), last_read tick.loads (rears_word d)))
     → length frame ≡ 64
-    → ((d : ℕ) → d < board.detectors → ((slice_index_or frame d (0, 0)).0 + (slice_index_or totals d (0, 0)).0 ≡ (slice_index_or counts d (0, 0)).0) × ((slice_index_or frame d (0, 0)).1 + (slice_index_or totals d (0, 0)).1 ≡ (slice_index_or counts d (0, 0)).1))
+    → ((d : ℕ) → d < board.detectors → ((slice_index_or frame d (0, 0)).0 + (slice_index_or totals d (0, 0)).0 ≡ (slice_index_or counts d (0, 0)).0)
+    × ((slice_index_or frame d (0, 0)).1 + (slice_index_or totals d (0, 0)).1 ≡ (slice_index_or counts d (0, 0)).1))
     → ((d : ℕ) → board.detectors ≤ d → slice_index_or frame d (0, 0) ≡ (0, 0))
     → Closes board all tick frame
 closes board all tick me totals counts frame are low g within read size sums absent = record {
@@ -102,13 +106,16 @@ closes board all tick me totals counts frame are low g within read size sums abs
     ticks_of : (me : Me (Unit {0}) View) → Gathering all [] board.detectors tick.loads me counts → IsTick me.0
     ticks_of me g = subst (λ (m : Me (Unit {0}) View). IsTick m.0) (sym g.back.view) tt
 
-    owns : (me : Me (Unit {0}) View) → Gathering all [] board.detectors tick.loads me counts → (k : ℕ) (p : Feeding) → slice_get all k ≡ Some p → owned_by me.0 p.place ≡ Some (p.fronts, p.rears)
+    owns : (me : Me (Unit {0}) View) → Gathering all [] board.detectors tick.loads me counts → (k : ℕ) (p : Feeding) → slice_get all k ≡ Some p →
+        owned_by me.0 p.place ≡ Some (p.fronts, p.rears)
     owns me g k p e = ap (λ (m : Me (Unit {0}) View). owned_by m.0 p.place) g.back.view ∙ g.back.back k p (omega arith) e
 
 -- what was read is at most what was counted
-pub read_within : (board : Boarded) (all : List Feeding) (tick : Ticking) (me : Me (Unit {0}) View) (totals counts : List (ℕ × ℕ)) → AreAll board all tick → board.detectors ≤ 64 → Gathering all [] board.detectors tick.loads me counts → WithinCounts board.detectors me.0
+pub read_within : (board : Boarded) (all : List Feeding) (tick : Ticking) (me : Me (Unit {0}) View) (totals counts : List (ℕ × ℕ)) →
+    AreAll board all tick → board.detectors ≤ 64 → Gathering all [] board.detectors tick.loads me counts → WithinCounts board.detectors me.0
     → ((d : ℕ) → d < 64 → slice_index_or totals d (0, 0) ≡ (last_read tick.loads (fronts_word d), last_read tick.loads (rears_word d)))
-    → (d : ℕ) → d < board.detectors → ((slice_index_or totals d (0, 0)).0 ≤ (slice_index_or counts d (0, 0)).0) × ((slice_index_or totals d (0, 0)).1 ≤ (slice_index_or counts d (0, 0)).1)
+    → (d : ℕ) → d < board.detectors → ((slice_index_or totals d (0, 0)).0 ≤ (slice_index_or counts d (0, 0)).0)
+    × ((slice_index_or totals d (0, 0)).1 ≤ (slice_index_or counts d (0, 0)).1)
 read_within board all tick me totals counts are low g within read d inside =
     let one = are.each d inside in
     let k = one.0 in
@@ -116,13 +123,15 @@ read_within board all tick me totals counts are low g within read d inside =
     let e : slice_get all k ≡ Some p = one.2 in
     let at : p.place ≡ d = one.3 in
     let ticks = subst (λ (m : Me (Unit {0}) View). IsTick m.0) (sym g.back.view) tt in
-    let owns : owned_by me.0 d ≡ Some (p.fronts, p.rears) = ap (λ (m : Me (Unit {0}) View). owned_by m.0 d) g.back.view ∙ subst (λ (j : ℕ). slice_index_or (owned_of me.0) j None ≡ Some (p.fronts, p.rears)) at (g.back.back k p (omega arith) e) in
+    let owns : owned_by me.0 d ≡ Some (p.fronts, p.rears) = ap (λ (m : Me (Unit {0}) View). owned_by m.0 d) g.back.view ∙
+    subst (λ (j : ℕ). slice_index_or (owned_of me.0) j None ≡ Some (p.fronts, p.rears)) at (g.back.back k p (omega arith) e) in
     let w = within ticks d p.fronts p.rears inside owns in
     let L : loads_of me.0 ≡ tick.loads = ap (λ (m : Me (Unit {0}) View). loads_of m.0) g.back.view in
     let a = subst (λ l. last_read l (fronts_word d) ≤ p.fronts) L w.0 in
     let b = subst (λ l. last_read l (rears_word d) ≤ p.rears) L w.1 in
     let t = read d (omega arith) in
-    let c : slice_index_or counts d (0, 0) ≡ (p.fronts, p.rears) = subst (λ (j : ℕ). slice_index_or counts j (0, 0) ≡ (p.fronts, p.rears)) at (g.counted k p (omega arith) e) in
+    let c : slice_index_or counts d (0, 0) ≡ (p.fronts, p.rears) =
+    subst (λ (j : ℕ). slice_index_or counts j (0, 0) ≡ (p.fronts, p.rears)) at (g.counted k p (omega arith) e) in
     let tf : (slice_index_or totals d (0, 0)).0 ≡ fronts_read tick d = ap (λ (q : ℕ × ℕ). q.0) t in
     let tr : (slice_index_or totals d (0, 0)).1 ≡ rears_read tick d = ap (λ (q : ℕ × ℕ). q.1) t in
     let cf : (slice_index_or counts d (0, 0)).0 ≡ p.fronts = ap (λ (q : ℕ × ℕ). q.0) c in

@@ -11,13 +11,15 @@ use Rattle.det_board.proofs.Allowed.{deal_allows}
 use Rattle.det_board.proofs.Opening.{nothing_read, length-same, all_zero}
 
 -- the seat's view, and what the new seat gets
-seen : (n detectors : ℕ) (me : Me (Unit {0}) View) → Undealt n detectors me → n < detectors → (dealt_to me.0 ≡ Feeder n 0 0) × (dealt_from me.0 ≡ Tick (suc n) (replicate (8 * detectors) []) (slice_set (owned_of me.0) n None))
+seen : (n detectors : ℕ) (me : Me (Unit {0}) View) → Undealt n detectors me → n < detectors → (dealt_to me.0 ≡ Feeder n 0 0)
+    × (dealt_from me.0 ≡ Tick (suc n) (replicate (8 * detectors) []) (slice_set (owned_of me.0) n None))
 seen n detectors me u inside = (
   ap (λ (m : Me (Unit {0}) View). dealt_to m.0) u.view ∙ ap (feeder_of n) (u.rest n (omega arith) inside),
   ap (λ (m : Me (Unit {0}) View). dealt_from m.0) u.view,
 )
 
-pub deals : (key detectors id n : ℕ) (me : Me (Unit {0}) View) → key ≡ detectors → Undealt n detectors me → n < detectors → Splits (Keeps key) id me.0 (dealt_from me.0) (dealt_to me.0)
+pub deals : (key detectors id n : ℕ) (me : Me (Unit {0}) View) → key ≡ detectors → Undealt n detectors me → n < detectors →
+    Splits (Keeps key) id me.0 (dealt_from me.0) (dealt_to me.0)
 deals key detectors id n me same u inside =
     let none_loaded : List ℕ = [] in
     let L = replicate (8 * detectors) none_loaded in
@@ -28,7 +30,8 @@ deals key detectors id n me same u inside =
     (subst (λ (l : View). Splits (Keeps key) id (Tick n L (owned_of me.0)) l (Feeder n 0 0)) (sym s.1)
     (deal_allows key id n 0 0 L (owned_of me.0) (u.rest n (omega arith) inside))))
 
-pub ticking_first : (id : TableId) (n detectors : ℕ) (me : Me (Unit {0}) View) (totals : List (ℕ × ℕ)) → Undealt n detectors me → id.words ≡ 8 * detectors → totals ≡ replicate 64 (0, 0) → IsTicking id me totals
+pub ticking_first : (id : TableId) (n detectors : ℕ) (me : Me (Unit {0}) View) (totals : List (ℕ × ℕ)) → Undealt n detectors me →
+    id.words ≡ 8 * detectors → totals ≡ replicate 64 (0, 0) → IsTicking id me totals
 ticking_first id n detectors me totals u words zeros =
     let none_loaded : List ℕ = [] in
     let z : ℕ × ℕ = (0, 0) in
@@ -41,5 +44,6 @@ ticking_first id n detectors me totals u words zeros =
       owned_count = let o = u.owned_count in omega arith;
       size = refl;
       read = λ d lt. all_zero 64 d ∙ (λ i. (sym (nothing_read (8 * detectors) (fronts_word d)) i, sym (nothing_read (8 * detectors) (rears_word d)) i));
-      ordered = λ d lt. let a = nothing_read (8 * detectors) (rears_word d) in let b = nothing_read (8 * detectors) (fronts_word d) in (omega arith, omega arith);
+      ordered = λ d lt. let a = nothing_read (8 * detectors) (rears_word d) in let b = nothing_read (8 * detectors) (fronts_word d) in
+          (omega arith, omega arith);
     }))

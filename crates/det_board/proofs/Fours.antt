@@ -22,12 +22,19 @@ pub record FourLoads (id : TableId) (me : Me (Unit {0}) View) (T : Counts) (d : 
   pub four : LoadsOne (d + 3) ids.2 mes.2 id' me' e
 
 -- what was found is at least what was read before
-pub grows : (id id' : TableId) (me me' : Me (Unit {0}) View) (T : Counts) (d : ℕ) (c : ℕ × ℕ) → IsTicking id me T → d < 64 → LoadsOne d id me id' me' c → GrowsTo T d c
+pub grows : (id id' : TableId) (me me' : Me (Unit {0}) View) (T : Counts) (d : ℕ) (c : ℕ × ℕ) → IsTicking id me T → d < 64 →
+    LoadsOne d id me id' me' c → GrowsTo T d c
 grows id id' me me' T d c was low one =
     let is = was.read d low in
     let f = ap (λ (p : ℕ × ℕ). p.0) is in
     let r = ap (λ (p : ℕ × ℕ). p.1) is in
-    record { inside = low; fronts = let g = one.fronts_grow in omega arith; rears = let g = one.rears_grow in omega arith; ordered = one.ordered; bounded = one.bounded }
+    record {
+      inside = low;
+      fronts = let g = one.fronts_grow in omega arith;
+      rears = let g = one.rears_grow in omega arith;
+      ordered = one.ordered;
+      bounded = one.bounded;
+    }
 
 -- the same counts put again
 same_put : (t : Counts) (k : ℕ) (n : ℕ × ℕ) → n ≡ slice_index_or t k (0, 0) → set t k n ≡ t
@@ -69,7 +76,8 @@ module _ {id id' : TableId} {me me' : Me (Unit {0}) View} {T : Counts} {d : ℕ}
   grows_four h = grows h.ids.2 id' h.mes.2 me' (set (set (set T d a) (d + 1) b) (d + 2) c) (d + 3) e (after_three h) h.low h.four
 
   -- what the four gained
-  pub reads_four : (f : Counts) → FourLoads id me T d a b c e id' me' → ReadsFour d (record { table = id; loads = loads_of me.0 }) (record { table = id'; loads = loads_of me'.0 }) f
+  pub reads_four : (f : Counts) → FourLoads id me T d a b c e id' me' →
+      ReadsFour d (record { table = id; loads = loads_of me.0 }) (record { table = id'; loads = loads_of me'.0 }) f
       (set (set (set (set f d (gain_of T d a)) (d + 1) (gain_of (set T d a) (d + 1) b)) (d + 2) (gain_of (set (set T d a) (d + 1) b) (d + 2) c))
       (d + 3) (gain_of (set (set (set T d a) (d + 1) b) (d + 2) c) (d + 3) e))
   reads_four f h =
@@ -78,7 +86,11 @@ module _ {id id' : TableId} {me me' : Me (Unit {0}) View} {T : Counts} {d : ℕ}
       let T3 = set T2 (d + 2) c in
       let l = h.low in
       record {
-        passes = (record { table = h.ids.0; loads = loads_of h.mes.0.0 }, record { table = h.ids.1; loads = loads_of h.mes.1.0 }, record { table = h.ids.2; loads = loads_of h.mes.2.0 });
+        passes = (
+          record { table = h.ids.0; loads = loads_of h.mes.0.0 },
+          record { table = h.ids.1; loads = loads_of h.mes.1.0 },
+          record { table = h.ids.2; loads = loads_of h.mes.2.0 },
+        );
         gained = (gain_of T d a, gain_of T1 (d + 1) b, gain_of T2 (d + 2) c, gain_of T3 (d + 3) e);
         one = reads_one id h.ids.0 me h.mes.0 d a (slice_index_or T d (0, 0)) h.one (h.was.read d (omega arith));
         two = reads_one h.ids.0 h.ids.1 h.mes.0 h.mes.1 (d + 1) b (slice_index_or T1 (d + 1) (0, 0)) h.two ((after_one h).read (d + 1) (omega arith));
@@ -100,9 +112,11 @@ module _ {id id' : TableId} {me me' : Me (Unit {0}) View} {T : Counts} {d : ℕ}
       let z = slice_index_or T (d + 2) (0, 0) in
       let w = slice_index_or T (d + 3) (0, 0) in
       let y_is : slice_index_or T1 (d + 1) (0, 0) ≡ y = get_or-set_other T d (d + 1) a (0, 0) (λ q. omega arith) in
-      let z_is : slice_index_or T2 (d + 2) (0, 0) ≡ z = get_or-set_other T1 (d + 1) (d + 2) b (0, 0) (λ q. omega arith) ∙ get_or-set_other T d (d + 2) a (0, 0) (λ q. omega arith) in
+      let z_is : slice_index_or T2 (d + 2) (0, 0) ≡ z = get_or-set_other T1 (d + 1) (d + 2) b (0, 0) (λ q. omega arith) ∙
+      get_or-set_other T d (d + 2) a (0, 0) (λ q. omega arith) in
       let w_is : slice_index_or T3 (d + 3) (0, 0) ≡ w =
-      get_or-set_other T2 (d + 2) (d + 3) c (0, 0) (λ q. omega arith) ∙ get_or-set_other T1 (d + 1) (d + 3) b (0, 0) (λ q. omega arith) ∙ get_or-set_other T d (d + 3) a (0, 0) (λ q. omega arith) in
+      get_or-set_other T2 (d + 2) (d + 3) c (0, 0) (λ q. omega arith) ∙ get_or-set_other T1 (d + 1) (d + 3) b (0, 0) (λ q. omega arith) ∙
+      get_or-set_other T d (d + 3) a (0, 0) (λ q. omega arith) in
       let one = grows_one h in
       let two = subst (λ (p : ℕ × ℕ). (p.0 ≤ b.0) × (p.1 ≤ b.1)) y_is ((grows_two h).fronts, (grows_two h).rears) in
       let three = subst (λ (p : ℕ × ℕ). (p.0 ≤ c.0) × (p.1 ≤ c.1)) z_is ((grows_three h).fronts, (grows_three h).rears) in

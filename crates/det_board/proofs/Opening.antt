@@ -65,8 +65,13 @@ opens detectors =
     let O = replicate detectors (Some z) in
     let zero_words : (i : ℕ) → slice_index W i ≡ 0 = zeros (8 * detectors) in
     let seat : ℕ = 0 in
-    let F : (d : ℕ) (c : ℕ × ℕ) → owned_by (Tick 0 L O) d ≡ Some c → (d < detectors) × (seat ≡ seat) × CountsAt W d c = λ d c e. let at = owned_at detectors d c e in
-    (at.0, refl, subst (CountsAt W d) (sym at.1) (record { fronts = zero_words (fronts_word d); rears = zero_words (rears_word d); ordered = omega arith; bounded = omega arith })) in
+    let F : (d : ℕ) (c : ℕ × ℕ) → owned_by (Tick 0 L O) d ≡ Some c → (d < detectors) × (seat ≡ seat) × CountsAt W d c = λ d c e. let at =
+    owned_at detectors d c e in (
+      at.0,
+      refl,
+      subst (CountsAt W d) (sym at.1)
+          (record { fronts = zero_words (fronts_word d); rears = zero_words (rears_word d); ordered = omega arith; bounded = omega arith }),
+    ) in
     record {
       tick = 0;
       dealt = 0;
@@ -79,15 +84,29 @@ opens detectors =
       fits = λ i v e. one i v e F;
       has_owner = λ d inside. (Tick 0 L O, refl, (z, owned_first detectors d inside));
       read = λ w inside. let a = nothing_read (8 * detectors) w in omega arith;
-      reached = ([], λ i. record { fronts = λ d. zero_words (fronts_word d) i; rears = λ d. zero_words (rears_word d) i; fronts_read = λ d. nothing_read (8 * detectors) (fronts_word d) i; rears_read = λ d. nothing_read (8 * detectors) (rears_word d) i });
+      reached = (
+        [],
+        λ i. record {
+          fronts = λ d. zero_words (fronts_word d) i;
+          rears = λ d. zero_words (rears_word d) i;
+          fronts_read =
+              λ d. nothing_read (8 * detectors) (fronts_word d) i;
+          rears_read = λ d. nothing_read (8 * detectors) (rears_word d) i;
+        },
+      );
     }
   where
-    one : (i : ℕ) (v : View) → get_elem? (opening_view detectors ∷ []) i ≡ some v → ((d : ℕ) (c : ℕ × ℕ) → owned_by (opening_view detectors) d ≡ Some c → (d < detectors) × (let seat : ℕ = 0 in seat ≡ seat) × CountsAt (replicate (8 * detectors) 0) d c) → Fits detectors (replicate (8 * detectors) 0) 0 (λ _. 0) i v
-    one zero v e F = subst (λ u. Fits detectors (replicate (8 * detectors) 0) 0 (λ _. 0) 0 u) (some-injective (opening_view detectors) v e) (record { one_tick = λ _. refl; one_owner = F })
+    one : (i : ℕ) (v : View) → get_elem? (opening_view detectors ∷ []) i ≡ some v →
+        ((d : ℕ) (c : ℕ × ℕ) → owned_by (opening_view detectors) d ≡ Some c → (d < detectors) × (let seat : ℕ = 0 in seat ≡ seat)
+        × CountsAt (replicate (8 * detectors) 0) d c) → Fits detectors (replicate (8 * detectors) 0) 0 (λ _. 0) i v
+    one zero v e F = subst (λ u. Fits detectors (replicate (8 * detectors) 0) 0 (λ _. 0) 0 u) (some-injective (opening_view detectors) v e)
+        (record { one_tick = λ _. refl; one_owner = F })
     one (suc i) v e F = absurd (some-ne-none v (sym e))
 
 pub opens_at : (detectors : ℕ) (ws : List ℕ) → ws ≡ replicate (8 * detectors) 0 → Keeps detectors (opening ws [] (opening_view detectors))
 opens_at detectors ws e = subst (λ w. Keeps detectors (opening w [] (opening_view detectors))) (sym e) (opens detectors)
 
-pub opens_front : (detectors n : ℕ) (zs : List ℕ) → zs ≡ replicate 512 0 → n ≡ detectors → detectors ≤ 64 → Keeps detectors (opening (take (8 * n) zs) [] (opening_view detectors))
-opens_front detectors n zs e same low = opens_at detectors (take (8 * n) zs) (ap (take (8 * n)) e ∙ take-replicate (8 * n) 512 0 (omega arith) ∙ ap (λ k. replicate (8 * k) 0) same)
+pub opens_front : (detectors n : ℕ) (zs : List ℕ) → zs ≡ replicate 512 0 → n ≡ detectors → detectors ≤ 64 →
+    Keeps detectors (opening (take (8 * n) zs) [] (opening_view detectors))
+opens_front detectors n zs e same low = opens_at detectors (take (8 * n) zs)
+    (ap (take (8 * n)) e ∙ take-replicate (8 * n) 512 0 (omega arith) ∙ ap (λ k. replicate (8 * k) 0) same)

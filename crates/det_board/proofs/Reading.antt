@@ -11,26 +11,32 @@ use Rattle.det_board.specs.Rule.{most_fronts, last_read, loads_after, fronts_wor
 use Rattle.det_board.specs.Passes.{IsTicking, LoadsOne, ReadsOne}
 use Rattle.det_board.proofs.Words.{last_read-here, last_read-else}
 
-pub after_load : (me me' : Me (Unit {0}) View) (w n D : ℕ) (L : List (List ℕ)) (O : List (Option (ℕ × ℕ))) → me ≡ (Tick D L O, []) → me' ≡ (with_load w n me.0, me.1) → me' ≡ (Tick D (loads_after L w n) O, [])
+pub after_load : (me me' : Me (Unit {0}) View) (w n D : ℕ) (L : List (List ℕ)) (O : List (Option (ℕ × ℕ))) → me ≡ (Tick D L O, []) →
+    me' ≡ (with_load w n me.0, me.1) → me' ≡ (Tick D (loads_after L w n) O, [])
 after_load me me' w n D L O is e = e ∙ ap (λ (m : Me (Unit {0}) View). (with_load w n m.0, m.1)) is
 
 abbrev pub both_loads : List (List ℕ) → ℕ → ℕ → ℕ → List (List ℕ)
 both_loads L d r f = loads_after (loads_after L (rears_word d) r) (fronts_word d) f
 
 pub fronts_last : (L : List (List ℕ)) (d r f : ℕ) → 8 * d + 1 < length L → last_read (both_loads L d r f) (fronts_word d) ≡ f
-fronts_last L d r f inside = last_read-here (loads_after L (rears_word d) r) (fronts_word d) f (omega (arith, length-set L (rears_word d) (slice_index_or L (rears_word d) [] ++ r ∷ [])))
+fronts_last L d r f inside = last_read-here (loads_after L (rears_word d) r) (fronts_word d) f
+    (omega (arith, length-set L (rears_word d) (slice_index_or L (rears_word d) [] ++ r ∷ [])))
 
 pub rears_last : (L : List (List ℕ)) (d r f : ℕ) → 8 * d + 1 < length L → last_read (both_loads L d r f) (rears_word d) ≡ r
-rears_last L d r f inside = last_read-else (loads_after L (rears_word d) r) (fronts_word d) f (rears_word d) (λ e. omega arith) ∙ last_read-here L (rears_word d) r inside
+rears_last L d r f inside = last_read-else (loads_after L (rears_word d) r) (fronts_word d) f (rears_word d) (λ e. omega arith) ∙
+    last_read-here L (rears_word d) r inside
 
 pub fronts_kept : (L : List (List ℕ)) (d r f k : ℕ) → k ≢ d → last_read (both_loads L d r f) (fronts_word k) ≡ last_read L (fronts_word k)
-fronts_kept L d r f k ne = last_read-else (loads_after L (rears_word d) r) (fronts_word d) f (fronts_word k) (λ e. ne (omega arith)) ∙ last_read-else L (rears_word d) r (fronts_word k) (λ e. omega arith)
+fronts_kept L d r f k ne = last_read-else (loads_after L (rears_word d) r) (fronts_word d) f (fronts_word k) (λ e. ne (omega arith)) ∙
+    last_read-else L (rears_word d) r (fronts_word k) (λ e. omega arith)
 
 pub rears_kept : (L : List (List ℕ)) (d r f k : ℕ) → k ≢ d → last_read (both_loads L d r f) (rears_word k) ≡ last_read L (rears_word k)
-rears_kept L d r f k ne = last_read-else (loads_after L (rears_word d) r) (fronts_word d) f (rears_word k) (λ e. omega arith) ∙ last_read-else L (rears_word d) r (rears_word k) (λ e. ne (omega arith))
+rears_kept L d r f k ne = last_read-else (loads_after L (rears_word d) r) (fronts_word d) f (rears_word k) (λ e. omega arith) ∙
+    last_read-else L (rears_word d) r (rears_word k) (λ e. ne (omega arith))
 
 -- what the second load tells of the first
-pub between : (me : Me (Unit {0}) View) (d r f D : ℕ) (L : List (List ℕ)) (O : List (Option (ℕ × ℕ))) → 8 * d + 1 < length L → me ≡ (Tick D (loads_after L (rears_word d) r) O, [])
+pub between : (me : Me (Unit {0}) View) (d r f D : ℕ) (L : List (List ℕ)) (O : List (Option (ℕ × ℕ))) → 8 * d + 1 < length L →
+    me ≡ (Tick D (loads_after L (rears_word d) r) O, [])
     → last_read (loads_of me.0) (fronts_word d) ≤ f → last_read (loads_of me.0) (rears_word d) ≤ f → (last_read L (fronts_word d) ≤ f) × (r ≤ f)
 between me d r f D L O inside is a b =
     let x = subst (λ (m : Me (Unit {0}) View). last_read (loads_of m.0) (fronts_word d) ≤ f) is a in

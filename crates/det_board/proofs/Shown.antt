@@ -39,7 +39,8 @@ rear_is detectors id d f r s at room m sh =
     let reached = reached_on (rear d) (marks_of s.words h.loads) (marks_of new h.loads) h.reached may event in
     (subst (May (rear d)) sh.1 may, (counts_on detectors s h id d f r f (r + 1) new at on reached, event ∙ ap (after (rear d)) sh.1))
 
-loaded_is : (detectors id dealt w : ℕ) (loads : List (List ℕ)) (owned : List (Option (ℕ × ℕ))) (s : State (Unit {0}) View) (h : Keeps detectors s) (m : Marks) → lib.ListN.get_elem? s.views id ≡ mathlib.Core.Option.some (Tick dealt loads owned) → w < 8 * detectors
+loaded_is : (detectors id dealt w : ℕ) (loads : List (List ℕ)) (owned : List (Option (ℕ × ℕ))) (s : State (Unit {0}) View) (h : Keeps detectors s)
+    (m : Marks) → lib.ListN.get_elem? s.views id ≡ mathlib.Core.Option.some (Tick dealt loads owned) → w < 8 * detectors
     → Reached (marks_of s.words (loads_after loads w (slice_index s.words w))) → marks_of s.words (loads_after loads w (slice_index s.words w)) ≡ m
     → Shows detectors (with s (set s.words w (slice_index s.words w)) id (Tick dealt (loads_after loads w (slice_index s.words w)) owned)) m
 unfolding loads_on
@@ -50,8 +51,10 @@ loaded_is detectors id dealt w loads owned s h m at inside reached is =
     let V = Tick dealt (loads_after loads w n) owned in
     let size : length loads ≡ 8 * detectors = ap length tick.1 ∙ h.load_count in
     let read : (k : ℕ) → k < 8 * detectors → last_read (loads_after loads w n) k ≤ slice_index s.words k = λ k lt. dite (ℕ_discrete k w)
-    (λ e. subst (λ j. last_read (loads_after loads w n) j ≤ slice_index s.words j) (sym e) (let here = last_read-here loads w n (omega arith) in omega (arith, here)))
-    (λ ne. let else = last_read-else loads w n k ne in let was = subst (λ l. last_read l k ≤ slice_index s.words k) same (h.read k lt) in omega (arith, else, was)) in
+    (λ e. subst (λ j. last_read (loads_after loads w n) j ≤ slice_index s.words j) (sym e)
+    (let here = last_read-here loads w n (omega arith) in omega (arith, here)))
+    (λ ne. let else = last_read-else loads w n k ne in let was = subst (λ l. last_read l k ≤ slice_index s.words k) same (h.read k lt) in
+    omega (arith, else, was)) in
     let kept = loads_on detectors s h id dealt loads (loads_after loads w n) owned at (length-set loads w _ ∙ size) read reached in
     let got : Shows detectors (with s s.words id V) m = (kept, is) in
     subst (λ ws. Shows detectors (with s ws id V) m) (sym (set-get_or s.words w 0)) got
@@ -73,8 +76,11 @@ read_fronts_is detectors id d dealt loads owned s at inside m sh =
     let same : h.loads ≡ loads = sym tick.1 in
     let event = fronts_event s.words loads d (slice_index s.words (fronts_word d)) refl (let c = ap length tick.1 ∙ h.load_count in omega arith) in
     let was : marks_of s.words loads ≡ m = ap (marks_of s.words) tick.1 ∙ sh.1 in
-    let reached = reached_on (read_fronts d) (marks_of s.words loads) _ (subst (λ l. Reached (marks_of s.words l)) same h.reached) tt event in
-    (tt, loaded_is detectors id dealt (fronts_word d) loads owned s h (after (read_fronts d) m) at (omega arith) reached (event ∙ ap (after (read_fronts d)) was))
+    let reached = reached_on (read_fronts d) (marks_of s.words loads) _ (subst (λ l. Reached (marks_of s.words l)) same h.reached) tt event in (
+      tt,
+      loaded_is detectors id dealt (fronts_word d) loads owned s h (after (read_fronts d) m) at (omega arith) reached
+          (event ∙ ap (after (read_fronts d)) was),
+    )
 
 pub deal_moves : DealMoves
 unfolding deals_on

@@ -11,7 +11,8 @@ last_from-push n [] x = refl
 last_from-push n (y ∷ xs) x = last_from-push y xs x
 
 pub last_read-here : (loads : List (List ℕ)) (w n : ℕ) → w < length loads → last_read (loads_after loads w n) w ≡ n
-last_read-here loads w n inside = ap (last_from 0) (get_or-set_same {A = List ℕ} loads w (slice_index_or loads w [] ++ n ∷ []) [] inside) ∙ last_from-push 0 (slice_index_or loads w []) n
+last_read-here loads w n inside = ap (last_from 0) (get_or-set_same {A = List ℕ} loads w (slice_index_or loads w [] ++ n ∷ []) [] inside) ∙
+    last_from-push 0 (slice_index_or loads w []) n
 
 pub last_read-else : (loads : List (List ℕ)) (w n k : ℕ) → k ≢ w → last_read (loads_after loads w n) k ≡ last_read loads k
 last_read-else loads w n k apart = ap (last_from 0) (get_or-set_other loads w k (slice_index_or loads w [] ++ n ∷ []) [] apart)

@@ -35,7 +35,8 @@ one_place n p f first lists l size low done left is = (
   λ d lt inside. elim (cases_lt d p) [
     | inl before ↦ get_or-set_other lists p d l [] (λ e. omega (arith, e, before)) ∙ done d before inside
     | inr after ↦ (let here : d ≡ p = omega arith in
-        rw here (get_or-set_same lists p l [] (omega (arith, size, low)) ∙ is ∙ ap (λ bs. bs ++ line_kept n (slice_index_or f p (0, 0))) (left p (omega arith))))
+        rw here (get_or-set_same lists p l [] (omega (arith, size, low)) ∙ is ∙
+        ap (λ bs. bs ++ line_kept n (slice_index_or f p (0, 0))) (left p (omega arith))))
   ],
   λ d after. get_or-set_other lists p d l [] (λ e. omega (arith, e, after)) ∙ left d (omega arith),
 )
@@ -72,7 +73,8 @@ at ds n d lt = get_or-map (counts_in_line n) ds d [] (0, 0) lt
 module _ (n : ℕ) (f : Counts) (old new : List (List BusyLine)) (kept : AreKept n old) (keeps : KeepsLine n f old new) where
   frame_stays : (k : ℕ) → k < n → frame_of_line k new ≡ frame_of_line k old
   frame_stays k lt =
-      ext_get_or (0, 0) (frame_of_line k new) (frame_of_line k old) (omega (arith, keeps.size, kept.size, length-map new (counts_in_line k), length-map old (counts_in_line k)))
+      ext_get_or (0, 0) (frame_of_line k new) (frame_of_line k old)
+      (omega (arith, keeps.size, kept.size, length-map new (counts_in_line k), length-map old (counts_in_line k)))
       (λ d inside. (let low : d < 64 = omega (arith, inside, keeps.size, length-map new (counts_in_line k)) in
       at new k d (omega (arith, keeps.size)) ∙ ap (counts_in_line k) (keeps.each d low) ∙ earlier k n (slice_index_or f d (0, 0)) (slice_index_or old d []) lt
       ∙ sym (at old k d (omega (arith, kept.size)))))
@@ -81,7 +83,8 @@ module _ (n : ℕ) (f : Counts) (old new : List (List BusyLine)) (kept : AreKept
   frame_is size =
       ext_get_or (0, 0) (frame_of_line n new) f (omega (arith, keeps.size, size, length-map new (counts_in_line n)))
       (λ d inside. (let low : d < 64 = omega (arith, inside, keeps.size, length-map new (counts_in_line n)) in
-      at new n d (omega (arith, keeps.size)) ∙ ap (counts_in_line n) (keeps.each d low) ∙ latest n (slice_index_or f d (0, 0)) (slice_index_or old d []) (kept.before d low)))
+      at new n d (omega (arith, keeps.size)) ∙ ap (counts_in_line n) (keeps.each d low) ∙
+      latest n (slice_index_or f d (0, 0)) (slice_index_or old d []) (kept.before d low)))
 
   frames_stay : (k : ℕ) → k ≤ n → frames_of new k ≡ frames_of old k
   unfolding frames_of
@@ -142,8 +145,10 @@ pub small_counts : (fs : List Counts) (f : Counts) → AreFrames (fs ++ f ∷ []
 small_counts fs f are p low =
     let here : slice_index_or (fs ++ f ∷ []) (length fs) [] ≡ f = get_or-append_seam fs f [] [] in
     let inside : length fs < length (fs ++ f ∷ []) = omega (arith, length-append fs (f ∷ [])) in
-    let back : p + 1 - 1 ≡ p = omega arith in
-    (rw (here, back) at (are.fronts_fit (length fs) (p + 1) inside (omega arith) (omega arith)), rw (here, back) at (are.rears_fit (length fs) (p + 1) inside (omega arith) (omega arith)))
+    let back : p + 1 - 1 ≡ p = omega arith in (
+      rw (here, back) at (are.fronts_fit (length fs) (p + 1) inside (omega arith) (omega arith)),
+      rw (here, back) at (are.rears_fit (length fs) (p + 1) inside (omega arith) (omega arith)),
+    )
 
 -- the frame at a place
 pub frame_at : (ds : List (List BusyLine)) (n k : ℕ) → k < n → slice_index_or (frames_of ds n) k [] ≡ frame_of_line k ds
@@ -152,7 +157,8 @@ frame_at ds zero k lt = absurd (omega arith)
 frame_at ds (suc n) k lt = elim (cases_lt k n) [
   | inl before ↦ get_or_append_left (frames_of ds n) (frame_of_line n ds ∷ []) [] k (omega (arith, length-frames_of ds n, before)) ∙ frame_at ds n k before
   | inr after ↦ (let last : k ≡ n = omega arith in
-      rw last (ap (λ i. slice_index_or (frames_of ds n ++ frame_of_line n ds ∷ []) i []) (sym (length-frames_of ds n)) ∙ get_or-append_seam (frames_of ds n) (frame_of_line n ds) [] []))
+      rw last (ap (λ i. slice_index_or (frames_of ds n ++ frame_of_line n ds ∷ []) i []) (sym (length-frames_of ds n)) ∙
+      get_or-append_seam (frames_of ds n) (frame_of_line n ds) [] []))
 ]
 
 -- a frame that has the counts of a line at each place is that line's

@@ -25,7 +25,8 @@ split_by xs (Some p) = p.0 ∷ slice_split at_colon p.1
 
 split_turn : (b : Bool) (x : ℕ) (xs : List ℕ) (o : Option (List ℕ × List ℕ)) → slice_split at_colon xs ≡ split_by xs o →
     cond b ([] ∷ slice_split at_colon xs) (onto_first x (slice_split at_colon xs))
-    ≡ split_by (x ∷ xs) (if◌then◌else◌ {A = Option (List ℕ × List ℕ)} b (Some ([], xs)) (option_map {T = List ℕ × List ℕ} {U = List ℕ × List ℕ} (λ p. (x ∷ p.0, p.1)) o))
+    ≡ split_by (x ∷ xs) (if◌then◌else◌ {A = Option (List ℕ × List ℕ)} b (Some ([], xs))
+    (option_map {T = List ℕ × List ℕ} {U = List ℕ × List ℕ} (λ p. (x ∷ p.0, p.1)) o))
 split_turn true x xs o ih = refl
 split_turn false x xs None ih = rw ih refl
 split_turn false x xs (Some p) ih = rw ih refl
@@ -59,13 +60,15 @@ no_fourth a c e (x ∷ l) lt = refl
 pub more_parts : (xs a b c d e f : List ℕ) → cut_at 58 xs ≡ Some (a, b) → cut_at 58 b ≡ Some (c, d) → cut_at 58 d ≡ Some (e, f) → numbers_of xs ≡ None
 unfolding numbers_of
 more_parts xs a b c d e f some more yet =
-    rw (split_some xs a b some, split_some b c d more, split_some d e f yet) (no_fourth a c e (slice_split at_colon f) (omega (arith, length-slice_split at_colon f)))
+    rw (split_some xs a b some, split_some b c d more, split_some d e f yet)
+    (no_fourth a c e (slice_split at_colon f) (omega (arith, length-slice_split at_colon f)))
 
 field_is : (b : Bool) (o : Option ℕ) → is_some (if◌then◌else◌ {A = Option ℕ} b o None) ≡ true → if◌then◌else◌ {A = Option ℕ} b o None ≡ o
 field_is true o some = refl
 field_is false o some = cc
 
-all_there : (xs : List ℕ) (d f r : List ℕ) → slice_split at_colon xs ≡ d ∷ f ∷ r ∷ [] → numbers_of xs ≡ all_three (field_number d) (field_number f) (field_number r)
+all_there : (xs : List ℕ) (d f r : List ℕ) → slice_split at_colon xs ≡ d ∷ f ∷ r ∷ [] →
+    numbers_of xs ≡ all_three (field_number d) (field_number f) (field_number r)
 unfolding numbers_of
 all_there xs d f r parts = ap numbers_in parts
 
@@ -75,7 +78,8 @@ three_none (Some d) None r failed = refl
 three_none (Some d) (Some f) None failed = refl
 three_none (Some d) (Some f) (Some r) failed = cc
 
-pub no_numbers : (xs : List ℕ) (d f r : List ℕ) → slice_split at_colon xs ≡ d ∷ f ∷ r ∷ [] → (is_some (field_number d) && is_some (field_number f) && is_some (field_number r)) ≡ false → numbers_of xs ≡ None
+pub no_numbers : (xs : List ℕ) (d f r : List ℕ) → slice_split at_colon xs ≡ d ∷ f ∷ r ∷ [] →
+    (is_some (field_number d) && is_some (field_number f) && is_some (field_number r)) ≡ false → numbers_of xs ≡ None
 no_numbers xs d f r parts failed = all_there xs d f r parts ∙ three_none (field_number d) (field_number f) (field_number r) failed
 
 three_some : (d f r : Option ℕ) → (is_some d && is_some f && is_some r) ≡ true → (is_some d ≡ true) × (is_some f ≡ true) × (is_some r ≡ true)
@@ -84,7 +88,8 @@ three_some (Some d) None r passed = cc
 three_some (Some d) (Some f) None passed = cc
 three_some (Some d) (Some f) (Some r) passed = (refl, refl, refl)
 
-pub are_numbers : (xs : List ℕ) (d f r : List ℕ) → slice_split at_colon xs ≡ d ∷ f ∷ r ∷ [] → (is_some (field_number d) && is_some (field_number f) && is_some (field_number r)) ≡ true →
+pub are_numbers : (xs : List ℕ) (d f r : List ℕ) → slice_split at_colon xs ≡ d ∷ f ∷ r ∷ [] →
+    (is_some (field_number d) && is_some (field_number f) && is_some (field_number r)) ≡ true →
     AreNumbers (numbers_of xs) (number_of d) (number_of f) (number_of r)
 are_numbers xs d f r parts passed =
     let each = three_some (field_number d) (field_number f) (field_number r) passed in
@@ -92,7 +97,8 @@ are_numbers xs d f r parts passed =
     let f_is = field_is (nat_le (length f) 9) (number_of f) each.1 in
     let r_is = field_is (nat_le (length r) 9) (number_of r) each.2 in
     record {
-      are = all_there xs d f r parts ∙ ap (λ o. all_three o (field_number f) (field_number r)) d_is ∙ ap (λ o. all_three (number_of d) o (field_number r)) f_is ∙ ap (λ o. all_three (number_of d) (number_of f) o) r_is;
+      are = all_there xs d f r parts ∙ ap (λ o. all_three o (field_number f) (field_number r)) d_is ∙
+          ap (λ o. all_three (number_of d) o (field_number r)) f_is ∙ ap (λ o. all_three (number_of d) (number_of f) o) r_is;
       detector = ap is_some (sym d_is) ∙ each.0;
       fronts = ap is_some (sym f_is) ∙ each.1;
       rears = ap is_some (sym r_is) ∙ each.2;
@@ -127,7 +133,8 @@ zero_counts most p lt = rw (get_or-replicate 64 p nothing nothing lt) (omega ari
 pub zeros_within : RearsWithinFronts (replicate 64 (0, 0))
 zeros_within p lt = rw (get_or-replicate 64 p nothing nothing lt) (omega arith)
 
-pub small_put : (counts : Counts) (d f r : ℕ) → HasAtMost 99 counts → length counts ≡ 64 → 1 ≤ d → d ≤ 64 → f ≤ 99 → r ≤ 99 → HasAtMost 99 (slice_set counts (d - 1) (f, r))
+pub small_put : (counts : Counts) (d f r : ℕ) → HasAtMost 99 counts → length counts ≡ 64 → 1 ≤ d → d ≤ 64 → f ≤ 99 → r ≤ 99 →
+    HasAtMost 99 (slice_set counts (d - 1) (f, r))
 small_put counts d f r small size least most few more p lt = elim (cases_eq p (d - 1)) [
   | inl same ↦ rw (get_or-set_at counts (d - 1) p item nothing same (omega arith)) (few, more)
   | inr other ↦ rw (get_or-set_other counts (d - 1) p item nothing other) (small p lt)
@@ -147,4 +154,5 @@ frame_whole line = refl
 pub frame_pushed : (before : List (List ℕ)) (piece : List ℕ) (n : Numbers) (counts : Counts) → counts ≡ entries_frame before → numbers_of piece ≡ Some n →
     slice_set counts (n.0 - 1) (n.1, n.2) ≡ entries_frame (before ++ piece ∷ [])
 frame_pushed before piece n counts is known =
-    sym (fold_push (λ counts entry. with_entry counts (numbers_of entry)) (replicate 64 (0, 0)) before piece ∙ ap (with_entry (entries_frame before)) known ∙ ap (λ (l : Counts). slice_set l (n.0 - 1) (n.1, n.2)) (sym is))
+    sym (fold_push (λ counts entry. with_entry counts (numbers_of entry)) (replicate 64 (0, 0)) before piece ∙
+    ap (with_entry (entries_frame before)) known ∙ ap (λ (l : Counts). slice_set l (n.0 - 1) (n.1, n.2)) (sym is))

@@ -59,9 +59,13 @@ ended r bytes frames read none =
     let gone : drop (length frames) (lines bytes) ≡ [] = sym read.rest ∙ ap lines none in
     let whole : length frames ≡ length (lines bytes) = omega (arith, length-drop (length frames) (lines bytes), ap length gone, read.inside) in
     let first : first_refused judge (lines bytes) [] ≡ None = rw (← whole) read.accepted in
-    record { frames_are = rw first (sym (read.frames_are ∙ ap (map frame_of) (take_all (length frames) (lines bytes) (omega (arith, whole))))); refusal_is = first }
+    record {
+      frames_are = rw first (sym (read.frames_are ∙ ap (map frame_of) (take_all (length frames) (lines bytes) (omega (arith, whole)))));
+      refusal_is = first;
+    }
 
-pub given_more : (old new : Lines) (frames : List Counts) → HasGiven old frames → new.second ≡ old.second + 1 → old.second < 604800 → length new.frame ≡ 64 → HasAtMost 99 new.frame →
+pub given_more : (old new : Lines) (frames : List Counts) → HasGiven old frames → new.second ≡ old.second + 1 → old.second < 604800 →
+    length new.frame ≡ 64 → HasAtMost 99 new.frame →
     IsSum old.totals new.frame new.totals → RearsWithinFronts new.totals → HasGiven new (frames ++ new.frame ∷ [])
 given_more old new frames gave more few size small sum behind =
     let totals = totals_more old.totals new.frame new.totals frames gave.totals_are sum in
@@ -73,7 +77,8 @@ given_more old new frames gave more few size small sum behind =
 
 -- the next line is accepted
 pub read_more : (old new : Lines) (bytes : List ℕ) (frames : List Counts) (x : List ℕ) → HasRead old bytes frames → HasGiven new (frames ++ new.frame ∷ []) →
-    lines (unread_bytes old.reader bytes) ≡ x ∷ lines (unread_bytes new.reader bytes) → judge_line (before_of bytes frames) x ≡ None → new.frame ≡ frame_of x → HasRead new bytes (frames ++ new.frame ∷ [])
+    lines (unread_bytes old.reader bytes) ≡ x ∷ lines (unread_bytes new.reader bytes) → judge_line (before_of bytes frames) x ≡ None →
+    new.frame ≡ frame_of x → HasRead new bytes (frames ++ new.frame ∷ [])
 read_more old new bytes frames x read gave next right is =
     let head = head_at (lines bytes) (length frames) x (lines (unread_bytes new.reader bytes)) (sym read.rest ∙ next) in
     let more : length (frames ++ new.frame ∷ []) ≡ length frames + 1 = length-append frames (new.frame ∷ []) in
@@ -83,7 +88,9 @@ read_more old new bytes frames x read gave next right is =
       rest = rw more (sym head.after);
       inside = omega (arith, more, head.inside);
       accepted = rw more (accepted_more judge (lines bytes) [] (length frames) read.accepted here);
-      frames_are = ap (λ l. l ++ new.frame ∷ []) read.frames_are ∙ sym (ap (λ (n : ℕ). map frame_of (take n (lines bytes))) (more ∙ add-one (length frames)) ∙ ap (map frame_of) (take-suc (lines bytes) (length frames) [] head.inside ∙ ap (λ y. take (length frames) (lines bytes) ++ y ∷ []) head.here)
+      frames_are = ap (λ l. l ++ new.frame ∷ []) read.frames_are ∙
+          sym (ap (λ (n : ℕ). map frame_of (take n (lines bytes))) (more ∙ add-one (length frames)) ∙
+          ap (map frame_of) (take-suc (lines bytes) (length frames) [] head.inside ∙ ap (λ y. take (length frames) (lines bytes) ++ y ∷ []) head.here)
           ∙ map-append frame_of (take (length frames) (lines bytes)) (x ∷ []) ∙ ap (λ y. map frame_of (take (length frames) (lines bytes)) ++ y ∷ []) (sym is));
     }
 
@@ -126,7 +133,8 @@ pub gave_frames : (r : Lines) (frames : List Counts) → Gave r frames → AreFr
 unfolding Gave
 gave_frames r frames gave = gave.are_frames
 
-pub all_refused : (bytes : List ℕ) (frames : List Counts) (new : Lines) (refusal : StreamRefusal) → IsNext bytes frames new (Err refusal) → IsReadAll bytes (Err refusal)
+pub all_refused : (bytes : List ℕ) (frames : List Counts) (new : Lines) (refusal : StreamRefusal) → IsNext bytes frames new (Err refusal) →
+    IsReadAll bytes (Err refusal)
 all_refused bytes frames new Memory next = absurd next
 all_refused bytes frames new Fault next = tt
 all_refused bytes frames new (At line reason) next = next.refusal_is
@@ -150,7 +158,8 @@ either (Some w) next at is = inl is
 either None next at is = inr is
 
 -- a refusal that comes after k accepted lines has a greater number
-refused_after : (xs : List (List ℕ)) (k m : ℕ) (at : ℕ × StreamWhy) → refused_to judge xs [] k ≡ None → k + m ≤ length xs → refused_to judge xs [] (k + m) ≡ Some at → k ≤ at.0 - 1
+refused_after : (xs : List (List ℕ)) (k m : ℕ) (at : ℕ × StreamWhy) → refused_to judge xs [] k ≡ None → k + m ≤ length xs →
+    refused_to judge xs [] (k + m) ≡ Some at → k ≤ at.0 - 1
 unfolding refused_to
 refused_after xs k zero at none le is = let e : k + 0 ≡ k = omega arith in absurd (none_some (sym none ∙ rw e at is))
 refused_after xs k (suc m) at none le is =
@@ -165,7 +174,8 @@ front_of : (xs : List (List ℕ)) (k n : ℕ) → k ≤ n → map frame_of (take
 front_of xs k n le = let e : n ≡ k + (n - k) = omega arith in
     ap (λ (j : ℕ). map frame_of (take j xs)) e ∙ ap (map frame_of) (take-add k (n - k) xs) ∙ map-append frame_of (take k xs) (take (n - k) (drop k xs))
 
-front_upto : (xs : List (List ℕ)) (k : ℕ) (o : Option (ℕ × StreamWhy)) → k ≤ length xs → refused_to judge xs [] k ≡ None → refused_to judge xs [] (length xs) ≡ o →
+front_upto : (xs : List (List ℕ)) (k : ℕ) (o : Option (ℕ × StreamWhy)) → k ≤ length xs → refused_to judge xs [] k ≡ None →
+    refused_to judge xs [] (length xs) ≡ o →
     (more : List Counts) × (map frame_of (before_refused o xs) ≡ map frame_of (take k xs) ++ more)
 front_upto xs k None le none is = (map frame_of (drop k xs), ap (map frame_of) (sym (take-append-drop k xs)) ∙ map-append frame_of (take k xs) (drop k xs))
 front_upto xs k (Some at) le none is =
@@ -173,7 +183,8 @@ front_upto xs k (Some at) le none is =
     (map frame_of (take (at.0 - 1 - k) (drop k xs)), front_of xs k (at.0 - 1) (refused_after xs k (length xs - k) at none (omega arith) (rw whole is)))
 
 -- the frames that were given are the first of the file's
-pub reads_front : (r : Lines) (bytes : List ℕ) (frames : List Counts) → Reads r bytes frames → (more : List Counts) × ((stream_of bytes).frames ≡ frames ++ more)
+pub reads_front : (r : Lines) (bytes : List ℕ) (frames : List Counts) → Reads r bytes frames → (more : List Counts)
+    × ((stream_of bytes).frames ≡ frames ++ more)
 unfolding Reads stream_of
 reads_front r bytes frames read =
     let front = front_upto (lines bytes) (length frames) (first_refused judge (lines bytes) []) read.inside read.accepted refl in

@@ -83,7 +83,8 @@ refused : (form : LiveWords) (file : Contents) (s : Status) (out : Option (List 
 refused form file s out is = (Err is.0, is.1, is.2, no_text is.0 out)
 
 -- the site wasn't loaded
-pub site_meets : (form : LiveWords) (file : Contents) (s : Status) (out : Option (List ℕ)) → IsSiteLoad form.program form.site file (Err s) → Meets form file s out out
+pub site_meets : (form : LiveWords) (file : Contents) (s : Status) (out : Option (List ℕ)) → IsSiteLoad form.program form.site file (Err s) →
+    Meets form file s out out
 site_meets form file status.Done out is = absurd is
 site_meets form file status.Memory out is = refl
 site_meets form file status.Words out is = is
@@ -93,7 +94,8 @@ site_meets form file status.RefusedFile out is = refused form file status.Refuse
 site_meets form file status.RefusedLine out is = absurd is
 site_meets form file status.TooLong out is = refused form file status.TooLong out is
 
-pub site_note_meets : (form : LiveWords) (file : Contents) (s : Status) (note : List ℕ) → IsSiteNote form.program form.site file s note → NoteMeets form file s note
+pub site_note_meets : (form : LiveWords) (file : Contents) (s : Status) (note : List ℕ) → IsSiteNote form.program form.site file s note →
+    NoteMeets form file s note
 site_note_meets form file status.Done note is = tt
 site_note_meets form file status.Memory note is = tt
 site_note_meets form file status.Words note is = tt

@@ -35,8 +35,10 @@ pub record Ready (board : Boarded) (fs : List Counts) (old new : List Feeding) (
   pub loaded : Loaded tick' made
   pub closes : Closes board new tick' closing
 
-own : (board : Boarded) (fs : List Counts) (old new : List Feeding) (tick tick' : Ticking) (made : List Counts) (closing : Counts) → Ready board fs old new tick tick' made closing → (d : ℕ) → d < 64
-    → (fronts_in d closing + all_fronts d made ≡ all_fronts d fs) × (rears_in d closing + all_rears d made ≡ all_rears d fs) × (all_rears d fs ≤ all_fronts d fs) × (all_fronts d fs ≤ 2147483647)
+own : (board : Boarded) (fs : List Counts) (old new : List Feeding) (tick tick' : Ticking) (made : List Counts) (closing : Counts) →
+    Ready board fs old new tick tick' made closing → (d : ℕ) → d < 64
+    → (fronts_in d closing + all_fronts d made ≡ all_fronts d fs) × (rears_in d closing + all_rears d made ≡ all_rears d fs)
+    × (all_rears d fs ≤ all_fronts d fs) × (all_fronts d fs ≤ 2147483647)
 own board fs old new tick tick' made closing r d low =
     let first : Feeding = record { table = board.table; place = d; fronts = 0; rears = 0 } in
     let was = index_of old d first first (r.opening.each d low) in
@@ -46,7 +48,8 @@ own board fs old new tick tick' made closing r d low =
     let pf : p.fronts ≡ all_fronts d fs = ap (λ (q : Feeding). q.fronts) is in
     let pr : p.rears ≡ all_rears d fs = ap (λ (q : Feeding). q.rears) is in
     let place : p.place ≡ d = ap (λ (q : Feeding). q.place) is in
-    let rest = subst (λ (k : ℕ). ((slice_index_or closing k (0, 0)).0 + fronts_read tick' k ≡ p.fronts) × ((slice_index_or closing k (0, 0)).1 + rears_read tick' k ≡ p.rears)) place (r.closes.rest d p got) in
+    let rest = subst (λ (k : ℕ). ((slice_index_or closing k (0, 0)).0 + fronts_read tick' k ≡ p.fronts)
+    × ((slice_index_or closing k (0, 0)).1 + rears_read tick' k ≡ p.rears)) place (r.closes.rest d p got) in
     let ord = r.closes.ordered d p got in
     let sf = fronts_sum tick' made d low r.loaded in
     let sr = rears_sum tick' made d low r.loaded in
@@ -55,26 +58,32 @@ own board fs old new tick tick' made closing r d low =
 push_sum : (h : Counts → ℕ) (fs : List Counts) (f : Counts) → sum_by h (fs ++ f ∷ []) ≡ sum_by h fs + h f
 push_sum h fs f = let e = sum_by-append h fs (f ∷ []) in omega arith
 
-pub takes_close : (board : Boarded) (fs : List Counts) (old new : List Feeding) (tick tick' : Ticking) (made : List Counts) (closing : Counts) → Ready board fs old new tick tick' made closing → length made ≤ 604800 → Takes made closing
+pub takes_close : (board : Boarded) (fs : List Counts) (old new : List Feeding) (tick tick' : Ticking) (made : List Counts) (closing : Counts) →
+    Ready board fs old new tick tick' made closing → length made ≤ 604800 → Takes made closing
 takes_close board fs old new tick tick' made closing r few = takes_from made closing (omega (arith, few)) r.closes.size (λ d low.
     let o = own board fs old new tick tick' made closing r d low in
     let a = push_sum (fronts_in d) made closing in
     let b = push_sum (rears_in d) made closing in
     (omega (arith, a, b, o.0, o.1, o.2), omega (arith, a, o.0, o.3)))
 
-pub same_sums : (board : Boarded) (fs : List Counts) (old new : List Feeding) (tick tick' : Ticking) (made : List Counts) (closing : Counts) → Ready board fs old new tick tick' made closing → SameSums fs (made ++ closing ∷ [])
+pub same_sums : (board : Boarded) (fs : List Counts) (old new : List Feeding) (tick tick' : Ticking) (made : List Counts) (closing : Counts) →
+    Ready board fs old new tick tick' made closing → SameSums fs (made ++ closing ∷ [])
 same_sums board fs old new tick tick' made closing r d low =
-    let o = own board fs old new tick tick' made closing r d low in let a = push_sum (fronts_in d) made closing in let b = push_sum (rears_in d) made closing in (omega (arith, o.0), omega (arith, o.1))
+    let o = own board fs old new tick tick' made closing r d low in let a = push_sum (fronts_in d) made closing in let b =
+    push_sum (rears_in d) made closing in (omega (arith, o.0), omega (arith, o.1))
 
-pub no_more : (board : Boarded) (fs : List Counts) (old new : List Feeding) (tick tick' : Ticking) (made : List Counts) (closing : Counts) → Ready board fs old new tick tick' made closing → NoMore fs made
+pub no_more : (board : Boarded) (fs : List Counts) (old new : List Feeding) (tick tick' : Ticking) (made : List Counts) (closing : Counts) →
+    Ready board fs old new tick tick' made closing → NoMore fs made
 no_more board fs old new tick tick' made closing r d low =
     let o = own board fs old new tick tick' made closing r d low in (omega (arith, o.0), omega (arith, o.1))
 
-pub ahead_closed : (board : Boarded) (fs : List Counts) (old new : List Feeding) (tick tick' : Ticking) (made : List Counts) (closing : Counts) → Ready board fs old new tick tick' made closing → NeverAhead (made ++ closing ∷ [])
+pub ahead_closed : (board : Boarded) (fs : List Counts) (old new : List Feeding) (tick tick' : Ticking) (made : List Counts) (closing : Counts) →
+    Ready board fs old new tick tick' made closing → NeverAhead (made ++ closing ∷ [])
 ahead_closed board fs old new tick tick' made closing r n d le low = part (dec_le n (length made))
   where
     part : Dec (n ≤ length made) → all_rears d (take n (made ++ closing ∷ [])) ≤ all_fronts d (take n (made ++ closing ∷ []))
-    part (yes h) = subst (λ (l : List Counts). all_rears d l ≤ all_fronts d l) (sym (take-append-le n made (closing ∷ []) h)) (never_ahead tick' made r.loaded n d h low)
+    part (yes h) = subst (λ (l : List Counts). all_rears d l ≤ all_fronts d l) (sym (take-append-le n made (closing ∷ []) h))
+        (never_ahead tick' made r.loaded n d h low)
     part (no h) = let whole = take_all {A = Counts} n (made ++ closing ∷ []) (omega (arith, length-append made (closing ∷ []))) in
         let s = same_sums board fs old new tick tick' made closing r d low in let o = own board fs old new tick tick' made closing r d low in
         subst (λ (l : List Counts). all_rears d l ≤ all_fronts d l) (sym whole) (omega (arith, s.0, s.1, o.2))
@@ -87,7 +96,8 @@ closed_printable board fs old new tick tick' made closing r =
     let o = own board fs old new tick tick' made closing r d low in (omega (arith, o.0, o.3), omega (arith, o.1, o.2, o.3))))
 
 -- passes in the order of the detectors are all of the board
-in_order : (board : Boarded) (feeders : List Feeding) (tick : Ticking) → length feeders ≡ board.detectors → ((k : ℕ) (p : Feeding) → slice_get feeders k ≡ Some p → (p.table ≡ board.table) × (p.place ≡ k)) →
+in_order : (board : Boarded) (feeders : List Feeding) (tick : Ticking) → length feeders ≡ board.detectors →
+    ((k : ℕ) (p : Feeding) → slice_get feeders k ≡ Some p → (p.table ≡ board.table) × (p.place ≡ k)) →
     tick.table ≡ board.table → AreAll board feeders tick
 in_order board feeders tick count each of_tick = record {
   of_board = λ k p got. (each k p got).0;
@@ -101,7 +111,8 @@ in_order board feeders tick count each of_tick = record {
 
 -- the passes are still the board's, in order
 pub all_passes : (board : Boarded) (fs : List Counts) (old new : List Feeding) (tick tick' : Ticking) → IsOpening 64 board old tick →
-    ((k : ℕ) (d : Feeding) → k < 64 → Played fs (slice_index_or old k d) (slice_index_or new k d)) → length new ≡ 64 → tick'.table ≡ tick.table → AreAll board new tick'
+    ((k : ℕ) (d : Feeding) → k < 64 → Played fs (slice_index_or old k d) (slice_index_or new k d)) → length new ≡ 64 → tick'.table ≡ tick.table →
+    AreAll board new tick'
 all_passes board fs old new tick tick' opening played count same =
     in_order board new tick' (count ∙ sym opening.detectors_are) (λ k p got. each k p got (slice_get_within new k p got)) (same ∙ opening.of_tick)
   where

@@ -11,18 +11,21 @@ use Rattle.junction_live.specs.Outcome.{Live, Written, all_written, cut_off, is_
 use Rattle.junction_live.specs.Play.{NeverAhead, NoMore}
 
 -- all was done
-pub all_of : (status : Status) (seconds : ℕ) (made : List Counts) (logic : Logic) (site : Site) (past : Past) (old new : Option (List ℕ)) → is_done status ≡ true →
+pub all_of : (status : Status) (seconds : ℕ) (made : List Counts) (logic : Logic) (site : Site) (past : Past) (old new : Option (List ℕ)) →
+    is_done status ≡ true →
     Written seconds logic site past made old new status → (length made ≡ seconds) × (new ≡ append_known old (log_of logic site past made))
 all_of status seconds made logic site past old new is (all_written count text) = (count, text)
 all_of status seconds made logic site past old new is (cut_off le n cut) = cc
 
-pub cut_live : (A : Type 0) {E : Type 0} (status : Status) (fault : E) (frames made : List Counts) (logic : Logic) (site : Site) (past : Past) (old new : Option (List ℕ)) → is_done status ≡ false →
+pub cut_live : (A : Type 0) {E : Type 0} (status : Status) (fault : E) (frames made : List Counts) (logic : Logic) (site : Site) (past : Past)
+    (old new : Option (List ℕ)) → is_done status ≡ false →
     Written (length frames) logic site past made old new status → NeverAhead made → NoMore frames made → Live {A = A} (Err fault) frames logic site past old new
 cut_live A status fault frames made logic site past old new is (all_written count text) ahead less = cc
 cut_live A status fault frames made logic site past old new is (cut_off le n cut) ahead less = (made, omega (arith, le), (n, cut), ahead, less)
 
 -- unless all was done, the sink failed
-pub cut_is : (status : Status) (seconds : ℕ) (made : List Counts) (logic : Logic) (site : Site) (past : Past) (old new : Option (List ℕ)) → is_done status ≡ false →
+pub cut_is : (status : Status) (seconds : ℕ) (made : List Counts) (logic : Logic) (site : Site) (past : Past) (old new : Option (List ℕ)) →
+    is_done status ≡ false →
     Written seconds logic site past made old new status → status ≡ WriteFault
 cut_is status seconds made logic site past old new is (all_written count text) = cc
 cut_is status seconds made logic site past old new is (cut_off le n cut) = refl

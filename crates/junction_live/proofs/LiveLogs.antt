@@ -33,7 +33,8 @@ frames_recorded logic site past [] = refl
 frames_recorded logic site past (f ∷ fs) = ap (λ l. f ∷ l) (frames_recorded logic site (past_after_second logic site past f) fs)
 
 -- the text of a log tells its frames
-pub tells_frames : (p : Playing) (made : List Counts) → are_names p.site.plan.names ≡ true → ArePrintable made → TellsFrames p.site.plan.names (log_of p made) made
+pub tells_frames : (p : Playing) (made : List Counts) → are_names p.site.plan.names ≡ true → ArePrintable made →
+    TellsFrames p.site.plan.names (log_of p made) made
 unfolding log_of records_of
 tells_frames p made named printable =
     let spelled : Spells p.site.plan.names (log_of p made) made = (records_of p made, refl, frames_recorded p.logic p.site (opening p.site p.store) made) in
@@ -61,7 +62,8 @@ whole_log frames c store made named two count all printable ahead sums = record 
 }
 
 -- the header and the records are the log
-pub log_gained : (c : Controller) (store : Store) (made : List Counts) (old mid new : Option (List ℕ)) → mid ≡ append_known old (header_text (site_of c).plan.names) →
+pub log_gained : (c : Controller) (store : Store) (made : List Counts) (old mid new : Option (List ℕ)) →
+    mid ≡ append_known old (header_text (site_of c).plan.names) →
     new ≡ append_known mid (records_in (logic_of c) (site_of c) (opening (site_of c) store) made) → new ≡ append_known old (log_of (playing_of c store) made)
 log_gained c store made old mid new headed is =
     is ∙ ap (λ o. append_known o (records_in (logic_of c) (site_of c) (opening (site_of c) store) made)) headed
@@ -69,17 +71,29 @@ log_gained c store made old mid new headed is =
     ∙ ap (append_known old) (sym (log_parts c store made))
 
 -- the header and then a live run of a controller
-pub wrote : {A E : Type 0} (r : Result A E) (frames : List Counts) (c : Controller) (store : Store) (old mid new : Option (List ℕ)) → are_names (site_of c).plan.names ≡ true →
+pub wrote : {A E : Type 0} (r : Result A E) (frames : List Counts) (c : Controller) (store : Store) (old mid new : Option (List ℕ)) →
+    are_names (site_of c).plan.names ≡ true →
     IsTwoWay (site_of c).rules → (site_of c).rules.count ≡ groups_in (site_of c).plan →
     mid ≡ append_known old (header_text (site_of c).plan.names) → Live r frames (logic_of c) (site_of c) (opening (site_of c) store) mid new →
     WroteLog r frames (playing_of c store) old new
 wrote (Ok x) frames c store old mid new named two count headed is =
     (log_of (playing_of c store) is.0, whole_log frames c store is.0 named two count is.1 is.2 is.4 is.5, log_gained c store is.0 old mid new headed is.3)
-wrote (Err fault) frames c store old mid new named two count headed is =
-    (log_of (playing_of c store) is.0, begun, length (header_text (site_of c).plan.names) + is.2.0, cut_later old mid new is.2.0 (header_text (site_of c).plan.names) _ _ headed (log_parts c store is.0) is.2.1)
+wrote (Err fault) frames c store old mid new named two count headed is = (
+  log_of (playing_of c store) is.0,
+  begun,
+  length (header_text (site_of c).plan.names) + is.2.0,
+  cut_later old mid new is.2.0 (header_text (site_of c).plan.names) _ _ headed (log_parts c store is.0) is.2.1,
+)
   where
     begun : IsBegunLog (playing_of c store) frames (log_of (playing_of c store) is.0)
-    begun = record { made = is.0; count = is.1; ahead = is.3; sums = is.4; guarded = runs_are_guarded (logic_of c) (site_of c) store is.0 two count; text_is = refl }
+    begun = record {
+      made = is.0;
+      count = is.1;
+      ahead = is.3;
+      sums = is.4;
+      guarded = runs_are_guarded (logic_of c) (site_of c) store is.0 two count;
+      text_is = refl;
+    }
 
 none_ahead : NeverAhead []
 none_ahead zero d le low = omega arith
@@ -87,7 +101,8 @@ none_ahead (suc n) d le low = absurd (omega (arith, le))
 
 -- a header that was cut
 pub header_cut : (frames : List Counts) (c : Controller) (store : Store) (old new : Option (List ℕ)) (n : ℕ) → IsTwoWay (site_of c).rules →
-    (site_of c).rules.count ≡ groups_in (site_of c).plan → IsCut old new n (header_text (site_of c).plan.names) → GainedFront (playing_of c store) frames old new
+    (site_of c).rules.count ≡ groups_in (site_of c).plan → IsCut old new n (header_text (site_of c).plan.names) →
+    GainedFront (playing_of c store) frames old new
 header_cut frames c store old new n two count cut = (
   log_of (playing_of c store) [],
   record {

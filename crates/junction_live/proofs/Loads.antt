@@ -49,17 +49,21 @@ sums_to h fs xs g (suc j) le =
     subst (λ k. sum_by h (take k fs) ≡ slice_index xs j) (add-one j) (omega arith)
 
 pub gains_sum : (h : Counts → ℕ) (fs : List Counts) (xs : List ℕ) → Gains h fs xs → sum_by h fs ≡ last_from 0 xs
-gains_sum h fs xs g = ap (sum_by h) (sym (take_all (length fs) fs (omega arith))) ∙ sums_to h fs xs g (length fs) (omega arith) ∙ ap (before xs) (sym g.0) ∙ before_all xs
+gains_sum h fs xs g = ap (sum_by h) (sym (take_all (length fs) fs (omega arith))) ∙ sums_to h fs xs g (length fs) (omega arith) ∙
+    ap (before xs) (sym g.0) ∙ before_all xs
 
-gains_more : (h : Counts → ℕ) (fs : List Counts) (xs : List ℕ) (f : Counts) (v : ℕ) → Gains h fs xs → h f + last_from 0 xs ≡ v → Gains h (fs ++ f ∷ []) (xs ++ v ∷ [])
+gains_more : (h : Counts → ℕ) (fs : List Counts) (xs : List ℕ) (f : Counts) (v : ℕ) → Gains h fs xs → h f + last_from 0 xs ≡ v →
+    Gains h (fs ++ f ∷ []) (xs ++ v ∷ [])
 gains_more h fs xs f v g gain =
     let long : length (fs ++ f ∷ []) ≡ length fs + 1 = length-append fs (f ∷ []) in
     let long' : length (xs ++ v ∷ []) ≡ length xs + 1 = length-append xs (v ∷ []) in
     let same = g.0 in (
       (omega arith),
       λ j lt. dite (ℕ_discrete j (length fs))
-          (λ e. let a = ap h (at_end fs f j [] e) in let b = at_end xs v j 0 (omega arith) in let c = before_front xs v j (omega arith) in let d = ap (before xs) (e ∙ sym same) ∙ before_all xs in omega arith)
-          (λ ne. let a = ap h (in_front fs (f ∷ []) j [] (omega arith)) in let b = in_front xs (v ∷ []) j 0 (omega arith) in let c = before_front xs v j (omega arith) in let w = g.1 j (omega arith) in omega arith),
+          (λ e. let a = ap h (at_end fs f j [] e) in let b = at_end xs v j 0 (omega arith) in let c = before_front xs v j (omega arith) in let d =
+          ap (before xs) (e ∙ sym same) ∙ before_all xs in omega arith)
+          (λ ne. let a = ap h (in_front fs (f ∷ []) j [] (omega arith)) in let b = in_front xs (v ∷ []) j 0 (omega arith) in let c =
+          before_front xs v j (omega arith) in let w = g.1 j (omega arith) in omega arith),
     )
 
 fronts_gains : (t : Ticking) (fs : List Counts) (d : ℕ) → d < 64 → Loaded t fs → Gains (fronts_in d) fs (fronts_loads t d)
@@ -89,18 +93,25 @@ loaded_more old new fs f l t = record {
 }
   where
     fg : (d : ℕ) → d < 64 → Gains (fronts_in d) (fs ++ f ∷ []) (fronts_loads new d)
-    fg d low = subst (Gains (fronts_in d) (fs ++ f ∷ [])) (sym (t.fronts d low)) (gains_more (fronts_in d) fs (fronts_loads old d) f (fronts_read new d) (fronts_gains old fs d low l) (t.gains d low).0)
+    fg d low = subst (Gains (fronts_in d) (fs ++ f ∷ [])) (sym (t.fronts d low))
+        (gains_more (fronts_in d) fs (fronts_loads old d) f (fronts_read new d) (fronts_gains old fs d low l) (t.gains d low).0)
 
-    ord : (j d : ℕ) → j < length (fs ++ f ∷ []) → d < 64 → (slice_index (rears_loads new d) j ≤ slice_index (fronts_loads new d) j) × (slice_index (fronts_loads new d) j ≤ 2147483647)
+    ord : (j d : ℕ) → j < length (fs ++ f ∷ []) → d < 64 → (slice_index (rears_loads new d) j ≤ slice_index (fronts_loads new d) j)
+        × (slice_index (fronts_loads new d) j ≤ 2147483647)
     ord j d lt low = let F = fronts_loads old d in let R = rears_loads old d in let vf = fronts_read new d in let vr = rears_read new d in
         let lf = l.fronts d low in let lr = l.rears d low in
         dite (ℕ_discrete j (length fs))
-        (λ e. let a = ap (λ (xs : List ℕ). slice_index xs j) (t.fronts d low) ∙ at_end F vf j 0 (omega arith) in let b = ap (λ (xs : List ℕ). slice_index xs j) (t.rears d low) ∙ at_end R vr j 0 (omega arith) in let o = t.ordered d low in (omega (arith, o.0), omega (arith, o.1)))
+        (λ e. let a = ap (λ (xs : List ℕ). slice_index xs j) (t.fronts d low) ∙ at_end F vf j 0 (omega arith) in let b =
+        ap (λ (xs : List ℕ). slice_index xs j) (t.rears d low) ∙ at_end R vr j 0 (omega arith) in let o = t.ordered d low in
+        (omega (arith, o.0), omega (arith, o.1)))
         (λ ne. let inside : j < length fs = omega (arith, length-append fs (f ∷ [])) in
-        let a = ap (λ (xs : List ℕ). slice_index xs j) (t.fronts d low) ∙ in_front F (vf ∷ []) j 0 (omega arith) in let b = ap (λ (xs : List ℕ). slice_index xs j) (t.rears d low) ∙ in_front R (vr ∷ []) j 0 (omega arith) in let o = l.ordered j d inside low in (omega (arith, o.0), omega (arith, o.1)))
+        let a = ap (λ (xs : List ℕ). slice_index xs j) (t.fronts d low) ∙ in_front F (vf ∷ []) j 0 (omega arith) in let b =
+        ap (λ (xs : List ℕ). slice_index xs j) (t.rears d low) ∙ in_front R (vr ∷ []) j 0 (omega arith) in let o = l.ordered j d inside low in
+        (omega (arith, o.0), omega (arith, o.1)))
 
     rg : (d : ℕ) → d < 64 → Gains (rears_in d) (fs ++ f ∷ []) (rears_loads new d)
-    rg d low = subst (Gains (rears_in d) (fs ++ f ∷ [])) (sym (t.rears d low)) (gains_more (rears_in d) fs (rears_loads old d) f (rears_read new d) (rears_gains old fs d low l) (t.gains d low).1)
+    rg d low = subst (Gains (rears_in d) (fs ++ f ∷ [])) (sym (t.rears d low))
+        (gains_more (rears_in d) fs (rears_loads old d) f (rears_read new d) (rears_gains old fs d low l) (t.gains d low).1)
 
 -- a frame just taken makes a next second
 pub takes_next : (old new : Ticking) (fs : List Counts) (f : Counts) → Loaded old fs → TickTakes 64 old new f → length fs < 604801 → Takes fs f

@@ -76,7 +76,8 @@ pub running_takes : (k : ℕ) (tick tick' : Ticking) (start now : Controller) (o
     (r : Running k tick start now old new first later) → TickTakes 64 tick tick' f → k < 604801 →
     (past : Past) → past.frames ≡ [] → Takes (past_of (logic_of start) (site_of start) past r.made).frames f
 running_takes k tick tick' start now old new first later f r t few past none =
-    subst (λ fs. Takes fs f) (sym (frames_are (logic_of start) (site_of start) past r.made none)) (takes_next tick tick' r.made f r.loaded t (omega (arith, r.count, few)))
+    subst (λ fs. Takes fs f) (sym (frames_are (logic_of start) (site_of start) past r.made none))
+    (takes_next tick tick' r.made f r.loaded t (omega (arith, r.count, few)))
 
 -- what `second` promises, said of the start's logic and site
 pub record Made (now after : Controller) (f : Counts) : Type 0 where
@@ -86,40 +87,49 @@ pub record Made (now after : Controller) (f : Counts) : Type 0 where
   pub logic_is : logic_of after ≡ logic_of now
 
 -- the text that a second's record has
-pub text_is : (start now after : Controller) (f : Counts) (past : Past) (rec : Record) (names : List (List ℕ)) → Made now after f → site_of now ≡ site_of start → logic_of now ≡ logic_of start → StandsFor now past →
-    rec ≡ last_record after → names ≡ (plan_of after).names → record_text names rec ≡ record_text (site_of start).plan.names (record_of (logic_of start) (site_of start) past f)
+pub text_is : (start now after : Controller) (f : Counts) (past : Past) (rec : Record) (names : List (List ℕ)) → Made now after f →
+    site_of now ≡ site_of start → logic_of now ≡ logic_of start → StandsFor now past →
+    rec ≡ last_record after → names ≡ (plan_of after).names →
+    record_text names rec ≡ record_text (site_of start).plan.names (record_of (logic_of start) (site_of start) past f)
 text_is start now after f past rec names m site logic s is named =
     let names_are : names ≡ (site_of start).plan.names = named ∙ ap (λ p. p.names) (plan_is after) ∙ ap (λ (x : Site). x.plan.names) (m.site ∙ site) in
     let rec_is : rec ≡ record_of (logic_of start) (site_of start) past f = is ∙ m.record_is past s ∙ (λ i. record_of (logic i) (site i) past f) in
     λ i. record_text (names_are i) (rec_is i)
 
 -- one record more is written
-pub written_more : (start now after : Controller) (past : Past) (made : List Counts) (f : Counts) (rec : Record) (names : List (List ℕ)) (old mid new : Option (List ℕ)) → Made now after f →
-    site_of now ≡ site_of start → logic_of now ≡ logic_of start → StandsFor now (past_of (logic_of start) (site_of start) past made) → rec ≡ last_record after → names ≡ (plan_of after).names →
+pub written_more : (start now after : Controller) (past : Past) (made : List Counts) (f : Counts) (rec : Record) (names : List (List ℕ))
+    (old mid new : Option (List ℕ)) → Made now after f →
+    site_of now ≡ site_of start → logic_of now ≡ logic_of start → StandsFor now (past_of (logic_of start) (site_of start) past made) →
+    rec ≡ last_record after → names ≡ (plan_of after).names →
     mid ≡ append_known old (log_of (logic_of start) (site_of start) past made) → new ≡ append_known mid (record_text names rec) →
     new ≡ append_known old (log_of (logic_of start) (site_of start) past (made ++ f ∷ []))
 written_more start now after past made f rec names old mid new m site logic s is named so_far text =
     let p = past_of (logic_of start) (site_of start) past made in
     let piece = text_is start now after f p rec names m site logic s is named in
     text ∙ (λ i. append_known (so_far i) (piece i))
-    ∙ append_known-twice old (log_of (logic_of start) (site_of start) past made) (record_text (site_of start).plan.names (record_of (logic_of start) (site_of start) p f))
+    ∙ append_known-twice old (log_of (logic_of start) (site_of start) past made)
+    (record_text (site_of start).plan.names (record_of (logic_of start) (site_of start) p f))
     ∙ ap (append_known old) (sym (log_more (logic_of start) (site_of start) past made f))
 
 -- or cut
-pub cut_more : (start now after : Controller) (past : Past) (made : List Counts) (f : Counts) (rec : Record) (names : List (List ℕ)) (old mid new : Option (List ℕ)) (n : ℕ) → Made now after f →
-    site_of now ≡ site_of start → logic_of now ≡ logic_of start → StandsFor now (past_of (logic_of start) (site_of start) past made) → rec ≡ last_record after → names ≡ (plan_of after).names →
+pub cut_more : (start now after : Controller) (past : Past) (made : List Counts) (f : Counts) (rec : Record) (names : List (List ℕ))
+    (old mid new : Option (List ℕ)) (n : ℕ) → Made now after f →
+    site_of now ≡ site_of start → logic_of now ≡ logic_of start → StandsFor now (past_of (logic_of start) (site_of start) past made) →
+    rec ≡ last_record after → names ≡ (plan_of after).names →
     mid ≡ append_known old (log_of (logic_of start) (site_of start) past made) → IsCut mid new n (record_text names rec) →
     (n : ℕ) × IsCut old new n (log_of (logic_of start) (site_of start) past (made ++ f ∷ []))
 cut_more start now after past made f rec names old mid new n m site logic s is named so_far cut =
     let p = past_of (logic_of start) (site_of start) past made in
     let piece = text_is start now after f p rec names m site logic s is named in (
       length (log_of (logic_of start) (site_of start) past made) + n,
-      cut_later old mid new n (log_of (logic_of start) (site_of start) past made) (record_text (site_of start).plan.names (record_of (logic_of start) (site_of start) p f)) _
+      cut_later old mid new n (log_of (logic_of start) (site_of start) past made)
+          (record_text (site_of start).plan.names (record_of (logic_of start) (site_of start) p f)) _
           so_far (log_more (logic_of start) (site_of start) past made f) (subst (λ bs. IsCut mid new n bs) piece cut),
     )
 
 -- one second more
-unfoldable pub running_more : (k : ℕ) (tick tick' : Ticking) (start now after : Controller) (old new new' : Option (List ℕ)) (first held later : Held) (f : Counts) (rec : Record) (names : List (List ℕ)) →
+unfoldable pub running_more : (k : ℕ) (tick tick' : Ticking) (start now after : Controller) (old new new' : Option (List ℕ))
+    (first held later : Held) (f : Counts) (rec : Record) (names : List (List ℕ)) →
     Running k tick start now old new first held → TickTakes 64 tick tick' f → Made now after f → rec ≡ last_record after → names ≡ (plan_of after).names →
     ((begin : Option (List ℕ)) (text : List ℕ) → IsDraft begin new held text → IsDraft begin new' later (text ++ record_text names rec)) →
     Running (k + 1) tick' start after old new' first later

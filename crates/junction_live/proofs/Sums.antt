@@ -23,7 +23,8 @@ few h fs (suc n) le each =
 abbrev Front : ℕ → List Counts → ℕ → Type 0
 Front d fs i = (m : ℕ) × (m ≤ length fs) × (busy_counts d (take m fs) ≡ take i (busy_counts d fs))
 
-busy_next : (d : ℕ) (f : Counts) (fs : List Counts) (i : ℕ) → is_busy (slice_index_or f d (0, 0)) ≡ true → ((k : ℕ) → k ≤ length (busy_counts d fs) → Front d fs k) →
+busy_next : (d : ℕ) (f : Counts) (fs : List Counts) (i : ℕ) → is_busy (slice_index_or f d (0, 0)) ≡ true →
+    ((k : ℕ) → k ≤ length (busy_counts d fs) → Front d fs k) →
     i ≤ length (busy_counts d fs) + 1 → Front d (f ∷ fs) i
 busy_next d f fs zero e rest le = (0, omega arith, refl)
 busy_next d f fs (suc i) e rest le =
@@ -70,7 +71,8 @@ pub record Next (i : ℕ) (cs : List (ℕ × ℕ)) (c : ℕ × ℕ) : Type 0 whe
   pub bounded : sum_by (count_of fronts) (take i cs) + c.0 ≤ 59875200
   pub bounded_rears : sum_by (count_of rears) (take i cs) + c.1 ≤ 59875200
 
-pub next : {B : Type 0} (bs : List B) (b : B) (h : B → ℕ × ℕ) (d i : ℕ) (fs : List Counts) → AreFrames fs → d < 64 → map h bs ≡ busy_counts d fs → i < length bs →
+pub next : {B : Type 0} (bs : List B) (b : B) (h : B → ℕ × ℕ) (d i : ℕ) (fs : List Counts) → AreFrames fs → d < 64 → map h bs ≡ busy_counts d fs →
+    i < length bs →
     Next i (map h bs) (h (slice_index_or bs i b))
 next bs b h d i fs given low are short =
     let cs = map h bs in
@@ -114,7 +116,8 @@ one_more old now new i cs c n was is =
     is ∙ ap (λ (f : Feeding). record { table = f.table; place = f.place; fronts = f.fronts + c.0; rears = f.rears + c.1 }) was
     ∙ (λ j. record { table = old.table; place = old.place; fronts = sym n.fronts_are j; rears = sym n.rears_are j })
 
-pub all_played : (old new : Feeding) (i : ℕ) (fs : List Counts) (cs : List (ℕ × ℕ)) → cs ≡ busy_counts old.place fs → length cs ≤ i → HasPlayed cs i old new → Played fs old new
+pub all_played : (old new : Feeding) (i : ℕ) (fs : List Counts) (cs : List (ℕ × ℕ)) → cs ≡ busy_counts old.place fs → length cs ≤ i →
+    HasPlayed cs i old new → Played fs old new
 all_played old new i fs cs are all was =
     let whole : take i cs ≡ busy_counts old.place fs = take_all i cs all ∙ are in
     let f : sum_by (count_of fronts) (take i cs) ≡ all_fronts old.place fs = ap (sum_by (count_of fronts)) whole ∙ busy_fronts old.place fs in

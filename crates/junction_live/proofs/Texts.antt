@@ -50,7 +50,8 @@ whole_alone playing frames text is =
     subst (λ t. IsWholeLog playing frames t) (sym same) is.whole
 
 pub text_alone : (playing : Playing) (frames : List Counts) (text : List ℕ) → IsWholeLog playing frames text → IsWholeText 0 playing frames text
-text_alone playing frames text is = record { log = text; whole = is; sights = []; seen = record { count = refl; each = λ k d lt. absurd (omega (arith, lt)) }; text_is = sym (append-nil text) }
+text_alone playing frames text is = record
+    { log = text; whole = is; sights = []; seen = record { count = refl; each = λ k d lt. absurd (omega (arith, lt)) }; text_is = sym (append-nil text) }
 
 begun_whole : (playing : Playing) (frames : List Counts) (text : List ℕ) → IsWholeLog playing frames text → IsBegunLog playing frames text
 begun_whole playing frames text is = record {
@@ -76,17 +77,20 @@ pub text_is_log : TextIsLog
 text_is_log = record { whole = whole_alone; log = text_alone; begun = begun_alone; guarded = guarded_alone }
 
 -- a front of a log that was begun
-pub begun_text : (n : ℕ) (playing : Playing) (frames : List Counts) (old new : Option (List ℕ)) → GainedFront playing frames old new → GainedBegun n playing frames old new
+pub begun_text : (n : ℕ) (playing : Playing) (frames : List Counts) (old new : Option (List ℕ)) → GainedFront playing frames old new →
+    GainedBegun n playing frames old new
 begun_text n playing frames old new is = (is.0, seconds_begun is.1, is.2, is.3)
 
-pub wrote_alone : {A E : Type 0} (r : Result A E) (frames : List Counts) (playing : Playing) (old new : Option (List ℕ)) → WroteLog r frames playing old new → Wrote 0 r frames playing old new
+pub wrote_alone : {A E : Type 0} (r : Result A E) (frames : List Counts) (playing : Playing) (old new : Option (List ℕ)) →
+    WroteLog r frames playing old new → Wrote 0 r frames playing old new
 wrote_alone (Ok x) frames playing old new is = (is.0, text_alone playing frames is.0 is.1, is.2)
 wrote_alone (Err fault) frames playing old new is = begun_text 0 playing frames old new is
 
 -- ---- with watchers
 
 -- the publisher's list is the history of the run
-entries_are : (c : Controller) (store : Store) (made : List Counts) (before after : Publishing) → before.entries ≡ replicate (groups_in (site_of c).plan) Red ∷ [] →
+entries_are : (c : Controller) (store : Store) (made : List Counts) (before after : Publishing) →
+    before.entries ≡ replicate (groups_in (site_of c).plan) Red ∷ [] →
     after ≡ record before { entries = before.entries ++ pictures_of (logic_of c) (site_of c) (opening (site_of c) store) made } →
     after.entries ≡ pictures_in (site_of c) (records_of (playing_of c store) made)
 unfolding records_of
@@ -94,7 +98,8 @@ entries_are c store made before after first is =
     ap (λ (p : Publishing). p.entries) is ∙ ap (λ (h : History). h ++ pictures_of (logic_of c) (site_of c) (opening (site_of c) store) made) first
 
 -- the header, then a live run of a controller beside a publisher, and then the lines of its watchers
-pub wrote_lines : {A E : Type 0} (r : Result A E) (n : ℕ) (frames : List Counts) (c : Controller) (store : Store) (before after : Publishing) (sights : List Sight)
+pub wrote_lines : {A E : Type 0} (r : Result A E) (n : ℕ) (frames : List Counts) (c : Controller) (store : Store) (before after : Publishing)
+    (sights : List Sight)
     (old mid last new : Option (List ℕ)) → are_names (site_of c).plan.names ≡ true → IsTwoWay (site_of c).rules →
     (site_of c).rules.count ≡ groups_in (site_of c).plan → before.entries ≡ replicate (groups_in (site_of c).plan) Red ∷ [] →
     mid ≡ append_known old (header_text (site_of c).plan.names) →
@@ -135,8 +140,10 @@ wrote_lines {A} {E} r n frames c store before after sights old mid last new name
 
 -- the records of a controller with this code are the program's
 pub records_same : (code : CodeOf) (program : Program) → Runs code program → Valid code → (controller : Controller) (site : Site) (made : List Counts) →
-    logic_of controller ≡ machine code → site_of controller ≡ site → records_of (playing_of controller (first_store code)) made ≡ records_of (program_at site program) made
-records_same code program runs valid controller site made logic is = records_are code controller site made logic is ∙ same_records code program runs valid site made
+    logic_of controller ≡ machine code → site_of controller ≡ site →
+    records_of (playing_of controller (first_store code)) made ≡ records_of (program_at site program) made
+records_same code program runs valid controller site made logic is = records_are code controller site made logic is ∙
+    same_records code program runs valid site made
 
 module _ (p q : Playing) (same : (made : List Counts) → records_of p made ≡ records_of q made) (site : p.site ≡ q.site)
     (guarded : (made : List Counts) → IsGuardedRun q.logic q.site q.store made) where

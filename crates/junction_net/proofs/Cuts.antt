@@ -125,7 +125,8 @@ no_third l p r q s e f g =
     ap names_in (split_cut 32 l p r e ∙ ap (λ (ps : List (List ℕ)). p ∷ ps) (split_cut 32 r q s f)
     ∙ ap (λ (ps : List (List ℕ)). p ∷ q ∷ ps) (split_whole 32 s g))
 
-pub no_fourth : (l p r q s t u : List ℕ) → cut_at 32 l ≡ Some (p, r) → cut_at 32 r ≡ Some (q, s) → cut_at 32 s ≡ Some (t, u) → cut_at 32 u ≡ None → names_of l ≡ None
+pub no_fourth : (l p r q s t u : List ℕ) → cut_at 32 l ≡ Some (p, r) → cut_at 32 r ≡ Some (q, s) → cut_at 32 s ≡ Some (t, u) → cut_at 32 u ≡ None →
+    names_of l ≡ None
 unfolding names_of
 no_fourth l p r q s t u e f g h =
     ap names_in (split_cut 32 l p r e ∙ ap (λ (ps : List (List ℕ)). p ∷ ps) (split_cut 32 r q s f)

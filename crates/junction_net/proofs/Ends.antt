@@ -53,7 +53,8 @@ refuses_none word WriteFault never = tt
 -- ---- over files that tell
 
 -- a stop before out gained anything, or by a fault of it
-pub stop_meets : (word : List ℕ) (file : Contents) (stop : NetStop) (old new : Option (List ℕ)) → IsStop (λ u. jobs_at file word ≡ Err u) (Reached word file) stop →
+pub stop_meets : (word : List ℕ) (file : Contents) (stop : NetStop) (old new : Option (List ℕ)) →
+    IsStop (λ u. jobs_at file word ≡ Err u) (Reached word file) stop →
     (may_write false (stop_status stop) ≡ false → new ≡ old) → (stop_status stop ≡ status.WriteFault → IsCutRun file (jobs_at file word) old new) →
     Meets word file (stop_status stop) old new × NoteMeets word file (stop_status stop) (stop_note stop)
 stop_meets word file (Unread unread.Memory) old new is unwritten cut = (unwritten refl, tt)
@@ -89,7 +90,8 @@ files_stop word file list (Refused name line why) taken is = jobs_are word file 
 files_stop word file list WriteFault taken is = tt
 
 -- all was done
-pub done_gives : (word : List ℕ) (file : Contents) (list : List JobWords) (rs : List JobResult) → list_at file word ≡ Ok list → ResultsOf file (measured file list) (Ok rs) →
+pub done_gives : (word : List ℕ) (file : Contents) (list : List JobWords) (rs : List JobResult) → list_at file word ≡ Ok list →
+    ResultsOf file (measured file list) (Ok rs) →
     GivesResults word file (Ok rs)
 done_gives word file list rs taken are = subst (λ r. ResultsOf file r (Ok rs)) (sym (jobs_are word file list taken)) are
 

@@ -68,7 +68,8 @@ ok_or_err a u r p q = (let same : Ok a ≡ Err u = sym p ∙ q in cc)
 err_is : (u v : Unloaded) (r : Result (List JobWords) Unloaded) → r ≡ Err u → r ≡ Err v → u ≡ v
 err_is u v r p q = (let same : Err u ≡ Err v = sym p ∙ q in cc)
 
-of_once : LoadsOnce → (file : Contents) (loaded : Result (List JobWords) Unloaded) (r s : Result (List JobResult) Unloaded) → ResultsOf file loaded r → ResultsOf file loaded s → r ≡ s
+of_once : LoadsOnce → (file : Contents) (loaded : Result (List JobWords) Unloaded) (r s : Result (List JobResult) Unloaded) → ResultsOf file loaded r
+    → ResultsOf file loaded s → r ≡ s
 of_once once file loaded (Ok rs) (Ok ss) is also =
     let same = ok_is is.0 also.0 loaded is.1 also.1 in
     ap Ok (results_once once file also.0 rs ss (subst (λ jobs. AreResults file jobs rs) same is.2) also.2)
@@ -86,7 +87,8 @@ given_status : (word : List ℕ) (file : Contents) (r : Result (List JobResult) 
 given_status word file (Ok rs) gives = ap loaded_status (sym gives.1)
 given_status word file (Err u) gives = ap loaded_status (sym gives)
 
-answered_status : (word : List ℕ) (file : Contents) (s : Status) (old new : Option (List ℕ)) → IsAnswered (GivesResults word file) (answered net_answer) s old new →
+answered_status : (word : List ℕ) (file : Contents) (s : Status) (old new : Option (List ℕ)) →
+    IsAnswered (GivesResults word file) (answered net_answer) s old new →
     s ≡ loaded_status (jobs_at file word)
 answered_status word file s old new is = sym is.2 ∙ given_status word file is.0 is.1
 
@@ -98,24 +100,28 @@ complete word file files out notes ReadFault told reads writes answer = absurd (
 complete word file files out notes WriteFault told reads writes answer = absurd (writes (answer.write_fault refl))
 complete word file files out notes RefusedFile told reads writes answer = inl (answered_status word file RefusedFile out.old out.new (answer.answer file told))
 complete word file files out notes RefusedLine told reads writes answer = absurd (answer.not_line refl)
-complete word file files out notes status.TooLong told reads writes answer = inl (answered_status word file status.TooLong out.old out.new (answer.answer file told))
+complete word file files out notes status.TooLong told reads writes answer =
+    inl (answered_status word file status.TooLong out.old out.new (answer.answer file told))
 
 -- ---- no file is too long
 
-fits : {A : Type 0} (word bytes : List ℕ) (refusal : Option Refusal) (value : A) → length bytes ≤ text_limit → judged word bytes refusal value ≡ unless_refused word refusal value
+fits : {A : Type 0} (word bytes : List ℕ) (refusal : Option Refusal) (value : A) → length bytes ≤ text_limit →
+    judged word bytes refusal value ≡ unless_refused word refusal value
 fits word bytes refusal value short = rw (le-ltb text_limit (length bytes) short) refl
 
 unless_never : {A : Type 0} (word w : List ℕ) (refusal : Option Refusal) (value : A) → unless_refused word refusal value ≡ Err (TooLong w) → ⊥
 unless_never word w None value e = absurd (cc)
 unless_never word w (Some at) value e = absurd (cc)
 
-judged_short : {A : Type 0} (word bytes w : List ℕ) (refusal : Option Refusal) (value : A) → length bytes ≤ text_limit → judged word bytes refusal value ≡ Err (TooLong w) → ⊥
+judged_short : {A : Type 0} (word bytes w : List ℕ) (refusal : Option Refusal) (value : A) → length bytes ≤ text_limit →
+    judged word bytes refusal value ≡ Err (TooLong w) → ⊥
 judged_short word bytes w refusal value short e = unless_never word w refusal value (sym (fits word bytes refusal value short) ∙ e)
 
 unloaded_is : {A : Type 0} (u v : Unloaded) → ◌≡◌ {A = Result A Unloaded} (Err u) (Err v) → u ≡ v
 unloaded_is u v e = cc
 
-bind_short : {A B : Type 0} (r : Result A Unloaded) (f : A → Result B Unloaded) (w : List ℕ) → (r ≡ Err (TooLong w) → ⊥) → ((x : A) → f x ≡ Err (TooLong w) → ⊥) →
+bind_short : {A B : Type 0} (r : Result A Unloaded) (f : A → Result B Unloaded) (w : List ℕ) → (r ≡ Err (TooLong w) → ⊥) →
+    ((x : A) → f x ≡ Err (TooLong w) → ⊥) →
     (r >>= f) ≡ Err (TooLong w) → ⊥
 bind_short (Ok x) f w never later e = later x e
 bind_short (Err u) f w never later e = never (ap Err (unloaded_is u (TooLong w) e))
@@ -126,11 +132,13 @@ never_long site w e = absurd (cc)
 site_short : (words : SiteWords) (file : Contents) (w : List ℕ) → length (file words.plan) ≤ text_limit → length (file words.times) ≤ text_limit →
     length (file words.intergreens) ≤ text_limit → site_of words file ≡ Err (TooLong w) → ⊥
 site_short words file w p t g =
-    bind_short (plan_at file words.plan) _ w (judged_short words.plan (file words.plan) w (plan_refusal (refusal_of (file words.plan))) (plan_of_text (file words.plan)) p)
+    bind_short (plan_at file words.plan) _ w
+    (judged_short words.plan (file words.plan) w (plan_refusal (refusal_of (file words.plan))) (plan_of_text (file words.plan)) p)
     (λ plan. bind_short (times_at file words.times plan) _ w
     (judged_short words.times (file words.times) w (table_refusal plan (times_refusal plan (file words.times))) (times_of plan (file words.times)) t)
     (λ times. bind_short (intergreens_at file words.intergreens plan) _ w
-    (judged_short words.intergreens (file words.intergreens) w (table_refusal plan (intergreens_refusal plan (file words.intergreens))) (intergreen_of plan (file words.intergreens)) g)
+    (judged_short words.intergreens (file words.intergreens) w (table_refusal plan (intergreens_refusal plan (file words.intergreens)))
+    (intergreen_of plan (file words.intergreens)) g)
     (λ between e. never_long (record { plan = plan; rules = rules_by times between }) w e)))
 
 judged_no_long : (program bytes w : List ℕ) (v : Result Program Unloaded) → v ≡ Err (TooLong w) → length bytes ≤ text_limit →
@@ -175,18 +183,21 @@ record IsShort (file : Contents) (job : JobWords) (rest : List Wanted) : Type 0 
 
 short_job : (file : Contents) (job : JobWords) (rest : List Wanted) → first_long file (files_of_job job ++ rest) ≡ None → IsShort file job rest
 short_job file job rest e =
-    let p = short_first file job.plan text_limit ((job.times, text_limit) ∷ (job.intergreens, text_limit) ∷ (job.program, text_limit) ∷ (job.detectors, detectors_limit) ∷ rest) e in
+    let p = short_first file job.plan text_limit
+    ((job.times, text_limit) ∷ (job.intergreens, text_limit) ∷ (job.program, text_limit) ∷ (job.detectors, detectors_limit) ∷ rest) e in
     let t = short_first file job.times text_limit ((job.intergreens, text_limit) ∷ (job.program, text_limit) ∷ (job.detectors, detectors_limit) ∷ rest) p.1 in
     let i = short_first file job.intergreens text_limit ((job.program, text_limit) ∷ (job.detectors, detectors_limit) ∷ rest) t.1 in
     let g = short_first file job.program text_limit ((job.detectors, detectors_limit) ∷ rest) i.1 in
     let d = short_first file job.detectors detectors_limit rest g.1 in
     record { plan = p.0; times = t.0; intergreens = i.0; program = g.0; others = d.1 }
 
-given_ends : (file : Contents) (job : JobWords) (rest : List Wanted) (given : Result Playing Unloaded) (s : Status) → IsShort file job rest → Loads (run_of job) file given →
+given_ends : (file : Contents) (job : JobWords) (rest : List Wanted) (given : Result Playing Unloaded) (s : Status) → IsShort file job rest →
+    Loads (run_of job) file given →
     (answer_to (run_of job) file given).status ≡ s → IsEnd s
 given_ends file job rest (Ok playing) s short gives e = stream_ends (stream_of (file job.detectors)).refusal s e
 given_ends file job rest (Err (TooLong w)) s short gives e =
-    absurd (after_short job.program (file job.program) (site_of (site_words job) file) w (site_short (site_words job) file w short.plan short.times short.intergreens) short.program gives)
+    absurd (after_short job.program (file job.program) (site_of (site_words job) file) w
+    (site_short (site_words job) file w short.plan short.times short.intergreens) short.program gives)
 given_ends file job rest (Err (Refused w line reason)) s short gives e = subst IsEnd e tt
 
 all_end : (file : Contents) (jobs : List JobWords) (rs : List JobResult) → first_long file (files_of_jobs jobs) ≡ None → AreResults file jobs rs →
@@ -202,7 +213,8 @@ long_none : (list jobs : List JobWords) (o : Option (List ℕ)) → unless_long 
 long_none list jobs None e = (cc, refl)
 long_none list jobs (Some w) e = absurd (cc)
 
-bind_ok : (file : Contents) (r : Result (List JobWords) Unloaded) (jobs : List JobWords) → (r >>= measured file) ≡ Ok jobs → first_long file (files_of_jobs jobs) ≡ None
+bind_ok : (file : Contents) (r : Result (List JobWords) Unloaded) (jobs : List JobWords) → (r >>= measured file) ≡ Ok jobs →
+    first_long file (files_of_jobs jobs) ≡ None
 bind_ok file (Ok list) jobs e =
     let both = long_none list jobs (first_long file (files_of_jobs list)) e in subst (λ l. first_long file (files_of_jobs l) ≡ None) both.0 both.1
 bind_ok file (Err u) jobs e = absurd (cc)
@@ -230,7 +242,8 @@ loads_some answers job file (Ok site) =
     (map_ok (played_at (ProgramFile job.program) site) v.0, (v.0, v.1, refl))
 
 -- what is given has an answer
-result_of_given : (job : JobWords) (file : Contents) (given : Result Playing Unloaded) → Loads (run_of job) file given → (r : JobResult) × IsResult (run_of job) file r
+result_of_given : (job : JobWords) (file : Contents) (given : Result Playing Unloaded) → Loads (run_of job) file given → (r : JobResult)
+    × IsResult (run_of job) file r
 result_of_given job file (Ok playing) gives =
     let stream = stream_of (file job.detectors) in (
       record {
@@ -257,7 +270,8 @@ some_results answers file (job ∷ jobs) =
     let rest = some_results answers file jobs in
     (first.0 ∷ rest.0, (first.1, rest.1))
 
-of_always : ProgramsHaveOneAnswer → (file : Contents) (loaded : Result (List JobWords) Unloaded) → (r : Result (List JobResult) Unloaded) × ResultsOf file loaded r
+of_always : ProgramsHaveOneAnswer → (file : Contents) (loaded : Result (List JobWords) Unloaded) → (r : Result (List JobResult) Unloaded)
+    × ResultsOf file loaded r
 of_always answers file (Ok jobs) = let is = some_results answers file jobs in (Ok is.0, (jobs, refl, is.1))
 of_always answers file (Err u) = (Err u, refl)
 

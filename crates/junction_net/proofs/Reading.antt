@@ -84,7 +84,8 @@ reads_more lines left jobs line more job read next lt named =
     let count : length (jobs ++ job ∷ []) ≡ length jobs + 1 = length-append jobs (job ∷ []) in
     let one : suc (length jobs) ≡ length (jobs ++ job ∷ []) = omega (arith, count) in
     let size : length (take (length jobs) lines) ≡ length jobs = length-take-le (length jobs) lines read.inside in
-    let here : judge (take (length jobs) lines) (get_or lines (length jobs) []) ≡ None = rw head.here (judge_none (take (length jobs) lines) line job (omega (arith, size)) named) in
+    let here : judge (take (length jobs) lines) (get_or lines (length jobs) []) ≡ None =
+    rw head.here (judge_none (take (length jobs) lines) line job (omega (arith, size)) named) in
     record {
       rest = sym (ap (λ (k : ℕ). drop k lines) count ∙ head.after);
       inside = omega (arith, count, head.inside);
@@ -103,7 +104,8 @@ unfolding refused_to
 refused_by_lines [] found e = absurd cc
 refused_by_lines (l ∷ ls) found e = e
 
-refused_at : (text left : List ℕ) (jobs : List JobWords) (line : List ℕ) (more : List (List ℕ)) (why : ListWhy) → HasRead (fed_lines text) (fed_lines left) jobs →
+refused_at : (text left : List ℕ) (jobs : List JobWords) (line : List ℕ) (more : List (List ℕ)) (why : ListWhy) →
+    HasRead (fed_lines text) (fed_lines left) jobs →
     fed_lines left ≡ line ∷ more → ((before : List (List ℕ)) → length before ≡ length jobs → judge before line ≡ Some (length before + 1, why)) →
     list_refusal text ≡ Some (length jobs + 1, why)
 unfolding list_refusal
@@ -112,7 +114,8 @@ refused_at text left jobs line more why read next judged =
     let size : length (take (length jobs) (fed_lines text)) ≡ length jobs = length-take-le (length jobs) (fed_lines text) read.inside in
     let here : judge (take (length jobs) (fed_lines text)) (get_or (fed_lines text) (length jobs) []) ≡ Some (length jobs + 1, why) =
     rw head.here (judged (take (length jobs) (fed_lines text)) size ∙ ap (λ (k : ℕ). Some (k + 1, why)) size) in
-    refused_by_lines (fed_lines text) (length jobs + 1, why) (refused_here judge (fed_lines text) [] (length jobs + 1, why) (length jobs) read.none head.inside here)
+    refused_by_lines (fed_lines text) (length jobs + 1, why)
+    (refused_here judge (fed_lines text) [] (length jobs + 1, why) (length jobs) read.none head.inside here)
 
 pub limit_at : (text left : List ℕ) (jobs : List JobWords) (line : List ℕ) (more : List (List ℕ)) → HasRead (fed_lines text) (fed_lines left) jobs →
     fed_lines left ≡ line ∷ more → length jobs ≡ 16 → list_refusal text ≡ Some (length jobs + 1, Limit)

@@ -179,7 +179,8 @@ named_all (j ∷ js) (suc k) all lt = named_all js k all.1 (omega arith)
 words_again : (jobs : List JobWords) → AllByRecursion (λ job. are_file_names job ≡ true) jobs → map words_of (map line_of jobs) ≡ jobs
 words_again [] all = refl
 words_again (j ∷ js) all =
-    ap (λ (x : JobWords). x ∷ map words_of (map line_of js)) (words_are (line_of j) j (names_written j all.0)) ∙ ap (λ (xs : List JobWords). j ∷ xs) (words_again js all.1)
+    ap (λ (x : JobWords). x ∷ map words_of (map line_of js)) (words_are (line_of j) j (names_written j all.0)) ∙
+    ap (λ (xs : List JobWords). j ∷ xs) (words_again js all.1)
 
 none_to : (lines : List (List ℕ)) (n : ℕ) → n ≤ length lines → n ≤ 16 → ((k : ℕ) → k < n → (job : JobWords) × (names_of (get_or lines k []) ≡ Some job)) →
     refused_to judge lines [] n ≡ None

@@ -35,7 +35,8 @@ no_stream_note : (word : List ℕ) (o : Option (ℕ × StreamWhy)) → stream_st
 no_stream_note word None e = refl
 no_stream_note word (Some at) e = absurd (cc)
 
-done_no_note : (job : JobWords) (file : Contents) (r : Result Playing Unloaded) → (answer_to (run_of job) file r).status ≡ Done → (answer_to (run_of job) file r).note ≡ []
+done_no_note : (job : JobWords) (file : Contents) (r : Result Playing Unloaded) → (answer_to (run_of job) file r).status ≡ Done →
+    (answer_to (run_of job) file r).note ≡ []
 done_no_note job file (Ok playing) e = no_stream_note job.detectors (stream_of (file job.detectors)).refusal e
 done_no_note job file (Err (loading.TooLong word)) e = absurd (cc)
 done_no_note job file (Err (loading.Refused word line reason)) e = absurd (cc)
@@ -49,7 +50,8 @@ is_result once job file Done log note ends is named told =
       given = is.0;
       gives = is.1;
       status = is.2;
-      log = subst (λ t. GainedBy (answer_to (run_of job) file is.0).Gained (answer_to (run_of job) file is.0).pieces t) (sym (taken_is log text.0 text.2)) text.1;
+      log = subst (λ t. GainedBy (answer_to (run_of job) file is.0).Gained (answer_to (run_of job) file is.0).pieces t)
+          (sym (taken_is log text.0 text.2)) text.1;
       note = named ∙ sym (done_no_note job file is.0 is.2);
     }
 is_result once job file Memory log note ends is named told = absurd ends
@@ -63,7 +65,8 @@ is_result once job file RefusedFile log note ends is named told =
       given = is.0;
       gives = is.1;
       status = is.2;
-      log = subst (λ t. GainedBy (answer_to (run_of job) file is.0).Gained (answer_to (run_of job) file is.0).pieces t) (sym (taken_is log text.0 text.2)) text.1;
+      log = subst (λ t. GainedBy (answer_to (run_of job) file is.0).Gained (answer_to (run_of job) file is.0).pieces t)
+          (sym (taken_is log text.0 text.2)) text.1;
       note = told.3 ∙ ap (λ r. (answer_to (run_of job) file r).note) same;
     }
 is_result once job file RefusedLine log note ends is named told =
@@ -73,7 +76,8 @@ is_result once job file RefusedLine log note ends is named told =
       given = is.0;
       gives = is.1;
       status = is.2;
-      log = subst (λ t. GainedBy (answer_to (run_of job) file is.0).Gained (answer_to (run_of job) file is.0).pieces t) (sym (taken_is log text.0 text.2)) text.1;
+      log = subst (λ t. GainedBy (answer_to (run_of job) file is.0).Gained (answer_to (run_of job) file is.0).pieces t)
+          (sym (taken_is log text.0 text.2)) text.1;
       note = told.3 ∙ ap (λ r. (answer_to (run_of job) file r).note) same;
     }
 is_result once job file status.TooLong log note ends is named told = absurd ends
@@ -86,7 +90,8 @@ site_alike words f g p t i = rw (p, t, i) refl
 
 loads_alike : (job : JobWords) (f g : Contents) (r : Result Playing Unloaded) → IsHeld g job f → Loads (run_of job) f r → Loads (run_of job) g r
 loads_alike job f g r held is =
-    subst (λ s. AfterSite (played_at (ProgramFile job.program)) s (IsSource (ProgramFile job.program) (g job.program)) r) (site_alike (site_words job) f g held.plan held.times held.intergreens)
+    subst (λ s. AfterSite (played_at (ProgramFile job.program)) s (IsSource (ProgramFile job.program) (g job.program)) r)
+    (site_alike (site_words job) f g held.plan held.times held.intergreens)
     (subst (λ b. AfterSite (played_at (ProgramFile job.program)) (site_of (site_words job) f) (IsSource (ProgramFile job.program) b) r) held.program is)
 
 -- a result over files that hold the same is one
@@ -109,7 +114,8 @@ never_rose : (a b : ℕ) → a ≡ 0 → b ≡ 0 → Rose a b → ⊥
 never_rose a b p q rose = never_zero (subst (λ n. Rose 0 n) q (subst (λ n. Rose n b) p rose))
 
 -- its run answers what that of the junction answers over the files
-job_result : LoadsOnce → (file : Contents) (words : JobWords) (old new : Job) → IsReady words old → IsHeld file words (contents_of old.files.files.items) → Ran old new → HasAnswered new →
+job_result : LoadsOnce → (file : Contents) (words : JobWords) (old new : Job) → IsReady words old →
+    IsHeld file words (contents_of old.files.files.items) → Ran old new → HasAnswered new →
     IsResult (run_of words) file (result_of new)
 job_result once file words old new ready held ran ended =
     let own : Contents = contents_of old.files.files.items in

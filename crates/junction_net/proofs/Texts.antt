@@ -63,7 +63,8 @@ text_more start now next jobs k job low here taken step =
     ∙ ap (λ l. append_known start l) (sym text)
 
 -- all were written
-pub text_all : (start now : Option (List ℕ)) (jobs : List Job) (k : ℕ) → length jobs ≤ k → now ≡ append_known start (text_from 1 (map result_of (take k jobs))) →
+pub text_all : (start now : Option (List ℕ)) (jobs : List Job) (k : ℕ) → length jobs ≤ k →
+    now ≡ append_known start (text_from 1 (map result_of (take k jobs))) →
     now ≡ append_known start (net_text (map result_of jobs))
 unfolding net_text
 text_all start now jobs k all taken = taken ∙ ap (λ (l : List Job). append_known start (text_from 1 (map result_of l))) (take_all k jobs all)
@@ -77,9 +78,11 @@ text_cut start now next jobs k n job low here taken cut =
     let front : List ℕ = text_from 1 (map result_of (take k jobs)) in
     let piece : List ℕ = job_text (k + 1) (result_of job) in
     let rest : List ℕ = text_from (k + 2) (map result_of (drop (suc k) jobs)) in
-    let here_cut = cut_off start now next (length front) piece n (front ++ piece) (record { front = front; whole = refl; count = refl; taken = taken }) cut.some cut.taken in (
+    let here_cut = cut_off start now next (length front) piece n (front ++ piece)
+    (record { front = front; whole = refl; count = refl; taken = taken }) cut.some cut.taken in (
       length front + n,
-      subst (λ text. IsCut start next (length front + n) text) (sym (split_text jobs k job low here)) (cut_more start next (length front + n) (front ++ piece) rest here_cut),
+      subst (λ text. IsCut start next (length front + n) text) (sym (split_text jobs k job low here))
+          (cut_more start next (length front + n) (front ++ piece) rest here_cut),
     )
 
 -- the notes of jobs

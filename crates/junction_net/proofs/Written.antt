@@ -43,7 +43,8 @@ pub record Five (job : JobWords) : Type 0 where
 
 five_names : (job : JobWords) → are_file_names job ≡ true → Five job
 five_names job h =
-    let d = and_parts (is_file_name job.program && is_file_name job.plan && is_file_name job.times && is_file_name job.intergreens) (is_file_name job.detectors) h in
+    let d = and_parts (is_file_name job.program && is_file_name job.plan && is_file_name job.times && is_file_name job.intergreens)
+    (is_file_name job.detectors) h in
     let c = and_parts (is_file_name job.program && is_file_name job.plan && is_file_name job.times) (is_file_name job.intergreens) d.0 in
     let b = and_parts (is_file_name job.program && is_file_name job.plan) (is_file_name job.times) c.0 in
     let a = and_parts (is_file_name job.program) (is_file_name job.plan) b.0 in
@@ -106,7 +107,8 @@ line_is_text job h =
     let free : (name : List ℕ) → is_file_name name ≡ true → Free 10 name = λ name is. name_free 10 name (omega arith) is in
     record {
       free = then_space job.program _ (free job.program five.program) (then_space job.plan _ (free job.plan five.plan)
-          (then_space job.times _ (free job.times five.times) (then_space job.intergreens _ (free job.intergreens five.intergreens) (free job.detectors five.detectors))));
+          (then_space job.times _ (free job.times five.times)
+          (then_space job.intergreens _ (free job.intergreens five.intergreens) (free job.detectors five.detectors))));
       some = omega (arith, length-append job.program (32 ∷ (job.plan ++ 32 ∷ (job.times ++ 32 ∷ (job.intergreens ++ 32 ∷ job.detectors)))));
     }
 

@@ -119,16 +119,19 @@ module _ (code : CodeOf) (program : Program) (runs : Runs code program) where
   same_log valid site frames = ap (λ rs. log_text site.plan.names rs) (same_records valid site frames)
 
 -- its text, which spells it, is one that compiling may give
-pub compiled_text : (code : CodeOf) (program : Program) → Valid code → code_of (code_text code) ≡ Ok code → Runs code program → IsCompiled program (code_text code)
+pub compiled_text : (code : CodeOf) (program : Program) → Valid code → code_of (code_text code) ≡ Ok code → Runs code program →
+    IsCompiled program (code_text code)
 compiled_text code program valid spells runs = record { code = code; valid = valid; is_text = refl; spells = spells; runs = runs }
 
 -- the log of a controller with this code is the code's
-pub log_is : (code : CodeOf) (controller : Controller) (site : Site) (frames : List Counts) → controller_logic controller ≡ machine code → site_of controller ≡ site →
+pub log_is : (code : CodeOf) (controller : Controller) (site : Site) (frames : List Counts) → controller_logic controller ≡ machine code →
+    site_of controller ≡ site →
     log_of (playing_of controller (first_store code)) frames ≡ log_of (code_at site code) frames
 log_is code controller site frames logic is = λ j. log_of (record { logic = logic j; store = first_store code; site = is j }) frames
 
 -- and so are its records
-pub records_are : (code : CodeOf) (controller : Controller) (site : Site) (frames : List Counts) → controller_logic controller ≡ machine code → site_of controller ≡ site →
+pub records_are : (code : CodeOf) (controller : Controller) (site : Site) (frames : List Counts) → controller_logic controller ≡ machine code →
+    site_of controller ≡ site →
     records_of (playing_of controller (first_store code)) frames ≡ records_of (code_at site code) frames
 records_are code controller site frames logic is = λ j. records_of (record { logic = logic j; store = first_store code; site = is j }) frames
 

@@ -64,7 +64,8 @@ judged_at plan times times' pairs pairs' name read file r same both named is =
     (subst (λ rules. IsJudgedLog (record { plan = plan; rules = rules }) name (file read) r) (λ j. rules_of (same j) (both j)) is)
 
 -- what is judged has its text
-pub audit_is : (site : Site) (pictures : List Picture) (verdict : Verdict) (ends : List InterEnd) → IsVerdict site.rules (replicate (groups_in site.plan) Red ∷ pictures) verdict →
+pub audit_is : (site : Site) (pictures : List Picture) (verdict : Verdict) (ends : List InterEnd) →
+    IsVerdict site.rules (replicate (groups_in site.plan) Red ∷ pictures) verdict →
     AreEnds site.plan site.rules (length site.plan.interstages) ends → IsAudit site pictures (judged_text site.plan verdict ends)
 audit_is site pictures verdict ends is are = record { judged = record { verdict = verdict; verdict_is = is; ends = ends; ends_are = are }; text_is = refl }
 
@@ -83,11 +84,13 @@ no_log log words file stop is =
     unloaded_later (λ r. site_of words file ≡ r) (Loads (Audit log words) file) (λ w. ReachedInSite words file w) (Reached (Audit log words) file)
     (λ u at. subst (λ r. LogAfterSite r (file log) (Err u)) (sym at) refl) (λ w reached. ReachedAfterSite.at_site w reached) stop is
 
-loads_log : (log : List ℕ) (words : SiteWords) (file : Contents) (site : Site) (logged : Logged) → site_of words file ≡ Ok site → IsLogged site (file log) logged →
+loads_log : (log : List ℕ) (words : SiteWords) (file : Contents) (site : Site) (logged : Logged) → site_of words file ≡ Ok site →
+    IsLogged site (file log) logged →
     Loads (Audit log words) file (Ok logged)
 loads_log log words file site logged at is = subst (λ r. LogAfterSite r (file log) (Ok logged)) (sym at) (logged, is, refl)
 
-pub audit_ended : {A : Type 0} (log : List ℕ) (words : SiteWords) (file : Contents) (site : Site) (r : Result A Stop) (old new : Option (List ℕ)) → site_of words file ≡ Ok site →
+pub audit_ended : {A : Type 0} (log : List ℕ) (words : SiteWords) (file : Contents) (site : Site) (r : Result A Stop) (old new : Option (List ℕ)) →
+    site_of words file ≡ Ok site →
     IsAudited site log (file log) r old new → IsEnded (Audit log words) file r old new
 audit_ended log words file site (Ok x) old new at is =
     let logged : Logged = record { site = site; pictures = is.0; refusal = None } in

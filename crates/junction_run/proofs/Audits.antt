@@ -48,7 +48,8 @@ logs_have_one_answer site bytes =
 -- ---- what becomes of the interstages
 
 -- an interstage ends in one way
-one_end_by : (settled : Bool) (refused : ℕ → List TurnRefusal) (first : Option ℕ) (a b : InterEnd) → EndsAs settled refused first a → EndsAs settled refused first b → a ≡ b
+one_end_by : (settled : Bool) (refused : ℕ → List TurnRefusal) (first : Option ℕ) (a b : InterEnd) → EndsAs settled refused first a →
+    EndsAs settled refused first b → a ≡ b
 one_end_by false refused first a b p q = p ∙ sym q
 one_end_by true refused None a b p q = p ∙ sym q
 one_end_by true refused (Some t) a b p q =
@@ -109,7 +110,8 @@ some_ends plan r (suc n) =
 one_list : (plan : PlanOf) (r : Rules) (n : ℕ) (xs ys : List InterEnd) → AreEnds plan r n xs → AreEnds plan r n ys → xs ≡ ys
 one_list plan r n xs ys a b =
     ext_get_or inter.Clean xs ys (a.count ∙ sym b.count)
-    (λ i lt. one_end_by (is_settled plan r i) (refused_in plan r i) _ _ _ (a.each i (omega (arith, lt, a.count)) inter.Clean) (b.each i (omega (arith, lt, a.count)) inter.Clean))
+    (λ i lt. one_end_by (is_settled plan r i) (refused_in plan r i) _ _ _ (a.each i (omega (arith, lt, a.count)) inter.Clean)
+    (b.each i (omega (arith, lt, a.count)) inter.Clean))
 
 -- their lines, one interstage more
 pub inters_text-more : (plan : PlanOf) (i : ℕ) (ends : List InterEnd) (end : InterEnd) →
@@ -134,7 +136,8 @@ more_lines plan n ends end text count =
 
 -- the line of an interstage, in its pieces
 pub inter_is : (plan : PlanOf) (i : ℕ) (end : InterEnd) (text : List ℕ) (from to : ℕ) → from ≡ (interstage_at plan i).from → to ≡ (interstage_at plan i).to →
-    ((text ++ (codes "INTER " ++ decimal from ++ codes "-" ++ decimal to ++ codes " ")) ++ end_text plan.names end) ++ codes "\n" ≡ text ++ inter_text plan i end
+    ((text ++ (codes "INTER " ++ decimal from ++ codes "-" ++ decimal to ++ codes " ")) ++ end_text plan.names end) ++ codes "\n" ≡ text ++
+    inter_text plan i end
 inter_is plan i end text from to first last =
     let stages : List ℕ = codes "INTER " ++ decimal from ++ codes "-" ++ decimal to ++ codes " " in
     ap (λ t. t ++ codes "\n") (append_assoc text stages (end_text plan.names end)) ∙ append_assoc text (stages ++ end_text plan.names end) (codes "\n")
@@ -167,7 +170,8 @@ log_history n pictures all = record {
 -- ---- the audit
 
 -- what is judged is judged once
-judged_once : (site : Site) (pictures : List Picture) (a b : Judged site pictures) → judged_text site.plan a.verdict a.ends ≡ judged_text site.plan b.verdict b.ends
+judged_once : (site : Site) (pictures : List Picture) (a b : Judged site pictures) →
+    judged_text site.plan a.verdict a.ends ≡ judged_text site.plan b.verdict b.ends
 judged_once site pictures a b =
     let verdicts = one_verdict site.rules (replicate (groups_in site.plan) Red ∷ pictures) a.verdict b.verdict a.verdict_is b.verdict_is in
     let ends = one_list site.plan site.rules (length site.plan.interstages) a.ends b.ends a.ends_are b.ends_are in
@@ -176,18 +180,21 @@ judged_once site pictures a b =
 one_audit : (site : Site) (pictures : List Picture) (a b : List ℕ) → IsAudit site pictures a → IsAudit site pictures b → a ≡ b
 one_audit site pictures a b p q = p.text_is ∙ judged_once site pictures p.judged q.judged ∙ sym q.text_is
 
-some_audit : (site : Site) (bytes : List ℕ) (pictures : List Picture) (refusal : Option (ℕ × LogWhy)) → IsSound site → IsLog site.plan.names bytes pictures refusal →
+some_audit : (site : Site) (bytes : List ℕ) (pictures : List Picture) (refusal : Option (ℕ × LogWhy)) → IsSound site →
+    IsLog site.plan.names bytes pictures refusal →
     (text : List ℕ) × IsAudit site pictures text
 some_audit site bytes pictures refusal sound is =
     let history = log_history (groups_in site.plan) pictures (log_sized site.plan.names bytes pictures refusal is) in
-    let verdict = each_has_verdict site.rules (replicate (groups_in site.plan) Red ∷ pictures) (subst (λ n. IsHistory n (replicate (groups_in site.plan) Red ∷ pictures)) (sym sound.count) history) in
+    let verdict = each_has_verdict site.rules (replicate (groups_in site.plan) Red ∷ pictures)
+    (subst (λ n. IsHistory n (replicate (groups_in site.plan) Red ∷ pictures)) (sym sound.count) history) in
     let ends = some_ends site.plan site.rules (length site.plan.interstages) in (
       judged_text site.plan verdict.0 ends.0,
       record { judged = record { verdict = verdict.0; verdict_is = verdict.1; ends = ends.0; ends_are = ends.1 }; text_is = refl },
     )
 
 -- the log that files give is one at the site that they give
-log_at : (r : Result Site Unloaded) (bytes : List ℕ) (logged : Logged) → LogAfterSite r bytes (Ok logged) → (site : Site) × (r ≡ Ok site) × IsLogged site bytes logged
+log_at : (r : Result Site Unloaded) (bytes : List ℕ) (logged : Logged) → LogAfterSite r bytes (Ok logged) → (site : Site) × (r ≡ Ok site)
+    × IsLogged site bytes logged
 log_at (Err u) bytes logged is = absurd (let e : Ok logged ≡ Err u = is in cc)
 log_at (Ok site) bytes logged is = (site, refl, subst (λ l. IsLogged site bytes l) (sym same) is.1)
   where

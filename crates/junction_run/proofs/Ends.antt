@@ -170,13 +170,16 @@ site_note name words file (load.TooLong w) is = (loading.TooLong w.now, is, refl
 -- ---- a command
 
 -- it stopped while it loaded
-pub stopped_loading : {A : Type 0} (Gives : Result A Unloaded → Type 0) (loaded_to : A → Answer) (Reached : List ℕ → Type 0) (stop : LoadStop) (old new : Option (List ℕ)) →
+pub stopped_loading : {A : Type 0} (Gives : Result A Unloaded → Type 0) (loaded_to : A → Answer) (Reached : List ℕ → Type 0) (stop : LoadStop)
+    (old new : Option (List ℕ)) →
     IsUnloadedBy Gives Reached stop → new ≡ old →
     MeetsBy Gives (answered loaded_to) (load_status stop) old new × NoteMeetsBy Gives (answered loaded_to) Reached (load_status stop) (load_note stop)
 stopped_loading Gives loaded_to Reached load.Memory old new is same = (same, tt)
 stopped_loading Gives loaded_to Reached (load.ReadFault w) old new is same = (inl same, (w.now, is, refl))
-stopped_loading Gives loaded_to Reached (load.Refused w line reason) old new is same =
-    ((Err (loading.Refused w.now line (reason_text reason)), is, refl, ([], refl, nothing_gained old new same)), (Err (loading.Refused w.now line (reason_text reason)), is, refl, refl))
+stopped_loading Gives loaded_to Reached (load.Refused w line reason) old new is same = (
+  (Err (loading.Refused w.now line (reason_text reason)), is, refl, ([], refl, nothing_gained old new same)),
+  (Err (loading.Refused w.now line (reason_text reason)), is, refl, refl),
+)
 stopped_loading Gives loaded_to Reached (load.TooLong w) old new is same =
     ((Err (loading.TooLong w.now), is, refl, ([], refl, nothing_gained old new same)), (Err (loading.TooLong w.now), is, refl, refl))
 
@@ -185,22 +188,26 @@ pub stopped_before : (name : List ℕ) (words : SiteWords) (detectors : List ℕ
     IsUnloadedBy Gives (λ w. ReachedAfterSite name words file w) stop →
     IsUnloadedBy Gives (λ w. ReachedInPlay name words detectors file (λ playing. Gives (Ok playing)) w) stop
 stopped_before name words detectors file Gives stop is =
-    unloaded_later Gives Gives (λ w. ReachedAfterSite name words file w) (λ w. ReachedInPlay name words detectors file (λ playing. Gives (Ok playing)) w) (λ u h. h)
+    unloaded_later Gives Gives (λ w. ReachedAfterSite name words file w)
+    (λ w. ReachedInPlay name words detectors file (λ playing. Gives (Ok playing)) w) (λ u h. h)
     (λ w reached. ReachedInPlay.at_load w reached) stop is
 
 -- what a stream begins with
-pub played_begins : {A : Type 0} (name : List ℕ) (r : Result A PlayStop) (stream : Stream) (frames : List Counts) → IsPlayed name r stream frames → BeginsWith stream frames
+pub played_begins : {A : Type 0} (name : List ℕ) (r : Result A PlayStop) (stream : Stream) (frames : List Counts) → IsPlayed name r stream frames →
+    BeginsWith stream frames
 played_begins name (Ok x) stream frames is = ([], is.0 ∙ sym (append-nil frames))
 played_begins name (Err (play.ReadFault w)) stream frames is = is.1
 played_begins name (Err play.WriteFault) stream frames is = is
 played_begins name (Err (play.RefusedLine w line reason)) stream frames is = ([], is.1 ∙ sym (append-nil frames))
 
 -- the log of all frames of a stream
-whole_log : (playing : Playing) (stream : Stream) (frames : List Counts) → stream.frames ≡ frames → log_of playing frames ≡ log_of playing (take (length stream.frames) stream.frames)
+whole_log : (playing : Playing) (stream : Stream) (frames : List Counts) → stream.frames ≡ frames →
+    log_of playing frames ≡ log_of playing (take (length stream.frames) stream.frames)
 whole_log playing stream frames is = ap (λ fs. log_of playing fs) (sym (taken_whole stream.frames ∙ is))
 
 -- and of its first frames
-front_log : (playing : Playing) (stream : Stream) (frames : List Counts) → BeginsWith stream frames → log_of playing frames ≡ log_of playing (take (length frames) stream.frames)
+front_log : (playing : Playing) (stream : Stream) (frames : List Counts) → BeginsWith stream frames →
+    log_of playing frames ≡ log_of playing (take (length frames) stream.frames)
 front_log playing stream frames is =
     ap (λ fs. log_of playing fs) (sym (ap (λ fs. take (length frames) fs) is.1 ∙ taken_front frames is.0))
 
@@ -214,13 +221,20 @@ cut_whole playing stream frames old new n is cut =
     subst (λ t. IsCut old new n t) (sym whole) (cut_more old new n (log_of playing frames) more.0 cut)
 
 -- it stopped so while it played these frames
-stopped_playing : (A : Type 0) (Gives : Result Playing Unloaded → Type 0) (Reached : List ℕ → Type 0) (detectors : List ℕ) (stream : Stream) (playing : Playing) (frames : List Counts)
+stopped_playing : (A : Type 0) (Gives : Result Playing Unloaded → Type 0) (Reached : List ℕ → Type 0) (detectors : List ℕ) (stream : Stream)
+    (playing : Playing) (frames : List Counts)
     (stop : PlayStop) (old new : Option (List ℕ)) → Gives (Ok playing) → Reached detectors → IsWritten {A = A} (Err stop) (log_of playing frames) old new →
     IsPlayed {A = A} detectors (Err stop) stream frames →
     MeetsBy Gives (answered (λ p. log_answer detectors p stream)) (play_status stop) old new
     × NoteMeetsBy Gives (answered (λ p. log_answer detectors p stream)) Reached (play_status stop) (play_note stop)
 stopped_playing A Gives Reached detectors stream playing frames (play.ReadFault w) old new loads reached written is = (
-  inr (Ok playing, loads, suc (length frames), omega (arith, ap length is.1.1, length-append frames is.1.0), (log_of playing frames, front_log playing stream frames is.1, written)),
+  inr (
+    Ok playing,
+    loads,
+    suc (length frames),
+    omega (arith, ap length is.1.1, length-append frames is.1.0),
+    (log_of playing frames, front_log playing stream frames is.1, written),
+  ),
   (w.now, subst Reached (sym is.0) reached, refl),
 )
 stopped_playing A Gives Reached detectors stream playing frames play.WriteFault old new loads reached written is =
@@ -246,7 +260,8 @@ ended_at {A} Gives Reached detectors stream playing (Err (Play stop)) old new lo
     stopped_playing A Gives Reached detectors stream playing is.frames stop old new loads reached is.written is.given
 
 -- what a controller played with this log
-pub was_played : {A : Type 0} (p q : Playing) (name read : List ℕ) (file : Contents) (r : Result A PlayStop) (frames : List Counts) (old new : Option (List ℕ)) →
+pub was_played : {A : Type 0} (p q : Playing) (name read : List ℕ) (file : Contents) (r : Result A PlayStop) (frames : List Counts)
+    (old new : Option (List ℕ)) →
     log_of p frames ≡ log_of q frames → read ≡ name → IsWritten r (log_of p frames) old new → IsPlayed name r (stream_of (file read)) frames →
     WasPlayed q name (stream_of (file name)) r old new
 was_played p q name read file r frames old new same named written is = record {
@@ -258,7 +273,8 @@ was_played p q name read file r frames old new same named written is = record {
 -- what makes the same log was played alike
 was_alike : {A : Type 0} (p q : Playing) (name : List ℕ) (stream : Stream) (r : Result A PlayStop) (old new : Option (List ℕ)) →
     ((frames : List Counts) → log_of p frames ≡ log_of q frames) → WasPlayed p name stream r old new → WasPlayed q name stream r old new
-was_alike p q name stream r old new same is = record { frames = is.frames; written = subst (λ t. IsWritten r t old new) (same is.frames) is.written; given = is.given }
+was_alike p q name stream r old new same is =
+    record { frames = is.frames; written = subst (λ t. IsWritten r t old new) (same is.frames) is.written; given = is.given }
 
 -- and is played alike
 pub played_alike : {A : Type 0} (p q : Playing) (name : List ℕ) (stream : Stream) (r : Result A Stop) (old new : Option (List ℕ)) →
@@ -283,7 +299,8 @@ written_so (Err play.WriteFault) name failed log old new stops whole is = absurd
 written_so (Err (play.RefusedLine w line reason)) name failed log old new stops whole is = is
 
 -- the stops of playing
-pub play_stops : {A : Type 0} (name : List ℕ) (failed : Bool) (r : Result A PlayStop) → IfErr r (λ stop. IsPlayStop name failed stop) → IfErr r (λ stop. PlaysAt name stop)
+pub play_stops : {A : Type 0} (name : List ℕ) (failed : Bool) (r : Result A PlayStop) → IfErr r (λ stop. IsPlayStop name failed stop) →
+    IfErr r (λ stop. PlaysAt name stop)
 play_stops name failed (Ok x) is = tt
 play_stops name failed (Err (play.ReadFault w)) is = is
 play_stops name failed (Err play.WriteFault) is = tt

@@ -26,12 +26,15 @@ front : (p : Playing) (frames : List Counts) (n : ℕ) (old new : Option (List �
     new ≡ append_known old (take n (log_of p frames)) → IsGuardedLog old new
 front p frames n old new is gained = written p frames n is gained
 
-whole : (p : Playing) (frames : List Counts) (old new : Option (List ℕ)) → IsGuardedRun p.logic p.site p.store frames → new ≡ append_known old (log_of p frames) →
+whole : (p : Playing) (frames : List Counts) (old new : Option (List ℕ)) → IsGuardedRun p.logic p.site p.store frames →
+    new ≡ append_known old (log_of p frames) →
     IsGuardedLog old new
 whole p frames old new is gained =
-    front p frames (length (log_of p frames)) old new is (gained ∙ ap (λ t. append_known old t) (sym (take_all (length (log_of p frames)) (log_of p frames) (omega arith))))
+    front p frames (length (log_of p frames)) old new is
+    (gained ∙ ap (λ t. append_known old t) (sym (take_all (length (log_of p frames)) (log_of p frames) (omega arith))))
 
-written_guarded : {A : Type 0} (r : Result A PlayStop) (p : Playing) (frames : List Counts) (old new : Option (List ℕ)) → IsGuardedRun p.logic p.site p.store frames →
+written_guarded : {A : Type 0} (r : Result A PlayStop) (p : Playing) (frames : List Counts) (old new : Option (List ℕ)) →
+    IsGuardedRun p.logic p.site p.store frames →
     IsWritten r (log_of p frames) old new → IsGuardedLog old new
 written_guarded (Ok x) p frames old new is gained = whole p frames old new is gained
 written_guarded (Err (ReadFault w)) p frames old new is gained = whole p frames old new is gained
@@ -39,6 +42,7 @@ written_guarded (Err WriteFault) p frames old new is gained = front p frames gai
 written_guarded (Err (RefusedLine w line reason)) p frames old new is gained = whole p frames old new is gained
 
 -- what was written of a log is guarded
-pub log_guarded : {A : Type 0} (r : Result A PlayStop) (p : Playing) (frames : List Counts) (old new : Option (List ℕ)) → IsTwoWay p.site.rules → p.site.rules.count ≡ groups_in p.site.plan →
+pub log_guarded : {A : Type 0} (r : Result A PlayStop) (p : Playing) (frames : List Counts) (old new : Option (List ℕ)) → IsTwoWay p.site.rules →
+    p.site.rules.count ≡ groups_in p.site.plan →
     IsWritten r (log_of p frames) old new → IsGuardedLog old new
 log_guarded r p frames old new two count gained = written_guarded r p frames old new (runs_are_guarded p.logic p.site p.store frames two count) gained

@@ -67,7 +67,8 @@ judged_case word true refusal value x is = cc
 judged_case word false None value x is = (refl, cc)
 judged_case word false (Some at) value x is = cc
 
-pub judged_right : {A : Type 0} (word bytes : List ℕ) (refusal : Option Refusal) (value x : A) → judged word bytes refusal value ≡ Ok x → (refusal ≡ None) × (value ≡ x)
+pub judged_right : {A : Type 0} (word bytes : List ℕ) (refusal : Option Refusal) (value x : A) → judged word bytes refusal value ≡ Ok x →
+    (refusal ≡ None) × (value ≡ x)
 judged_right word bytes refusal value x is = judged_case word _ refusal value x is
 
 not_refused : (plan : PlanOf) (o : Option (ℕ × TableWhy)) → table_refusal plan o ≡ None → o ≡ None
@@ -94,8 +95,10 @@ sound_by plan times intergreens right =
     record { two = record { both = λ i g z lt lt' is. well.both i g z is; other = λ g lt. well.other g }; count = counted plan times }
 
 -- the site that was read from them
-sound_at : (plan : PlanOf) (times intergreens : List ℕ) (rows : List TimesRow) (between : ℕ → ℕ → Option ℕ) (site : Site) → intergreens_refusal plan intergreens ≡ None →
-    times_of plan times ≡ rows → intergreen_of plan intergreens ≡ between → ok_site (record { plan = plan; rules = rules_by rows between }) ≡ ok_site site → IsSound site
+sound_at : (plan : PlanOf) (times intergreens : List ℕ) (rows : List TimesRow) (between : ℕ → ℕ → Option ℕ) (site : Site) →
+    intergreens_refusal plan intergreens ≡ None →
+    times_of plan times ≡ rows → intergreen_of plan intergreens ≡ between →
+    ok_site (record { plan = plan; rules = rules_by rows between }) ≡ ok_site site → IsSound site
 sound_at plan times intergreens rows between site right rows_are between_is is =
     let read : IsSound (record { plan = plan; rules = rules_by rows between }) =
     subst (λ f. IsSound (record { plan = plan; rules = rules_by rows f })) between_is
@@ -108,16 +111,21 @@ sound_at plan times intergreens rows between site right rows_are between_is is =
 
 pub site_sound : (words : SiteWords) (file : Contents) (site : Site) → site_of words file ≡ Ok site → IsSound site
 site_sound words file site is =
-    let one = steps (plan_at file words.plan) (λ plan. times_at file words.times plan >>= λ times. intergreens_at file words.intergreens plan >>= λ between. Ok (record { plan = plan; rules = rules_by times between })) site is in
+    let one = steps (plan_at file words.plan)
+    (λ plan. times_at file words.times plan >>= λ times. intergreens_at file words.intergreens plan >>= λ between. Ok
+    (record { plan = plan; rules = rules_by times between })) site is in
     let plan : PlanOf = one.value in
-    let two = steps (times_at file words.times plan) (λ times. intergreens_at file words.intergreens plan >>= λ between. Ok (record { plan = plan; rules = rules_by times between })) site one.rest in
+    let two = steps (times_at file words.times plan)
+    (λ times. intergreens_at file words.intergreens plan >>= λ between. Ok (record { plan = plan; rules = rules_by times between })) site one.rest in
     let three = steps (intergreens_at file words.intergreens plan) (λ between. Ok (record { plan = plan; rules = rules_by two.value between })) site two.rest in
     let times = judged_right words.times (file words.times) _ (times_of plan (file words.times)) two.value two.first in
     let between = judged_right words.intergreens (file words.intergreens) _ (intergreen_of plan (file words.intergreens)) three.value three.first in
-    sound_at plan (file words.times) (file words.intergreens) two.value three.value site (not_refused plan (intergreens_refusal plan (file words.intergreens)) between.0) times.1 between.1 three.rest
+    sound_at plan (file words.times) (file words.intergreens) two.value three.value site
+    (not_refused plan (intergreens_refusal plan (file words.intergreens)) between.0) times.1 between.1 three.rest
 
 -- what is loaded after a site plays there
-pub at_site : {V : Type 0} (at : Site → V → Playing) → ((site : Site) (v : V) → (at site v).site ≡ site) → (site : Site) (v : Result V Unloaded) (playing : Playing) →
+pub at_site : {V : Type 0} (at : Site → V → Playing) → ((site : Site) (v : V) → (at site v).site ≡ site) →
+    (site : Site) (v : Result V Unloaded) (playing : Playing) →
     Ok playing ≡ map_ok (at site) v → site ≡ playing.site
 at_site at there site (Ok v) playing is =
     let same : playing.site ≡ (at site v).site = ap site_in is in
@@ -128,7 +136,8 @@ at_site at there site (Ok v) playing is =
     site_in (Err u) = site
 at_site at there site (Err u) playing is = cc
 
-loaded_sound : {V : Type 0} (at : Site → V → Playing) → ((site : Site) (v : V) → (at site v).site ≡ site) → (r : Result Site Unloaded) (Judged : Result V Unloaded → Type 0)
+loaded_sound : {V : Type 0} (at : Site → V → Playing) → ((site : Site) (v : V) → (at site v).site ≡ site) →
+    (r : Result Site Unloaded) (Judged : Result V Unloaded → Type 0)
     (playing : Playing) → ((site : Site) → r ≡ Ok site → IsSound site) → AfterSite at r Judged (Ok playing) → IsSound playing.site
 loaded_sound at there (Err u) Judged playing sound loads = absurd (let e : Ok playing ≡ Err u = loads in cc)
 loaded_sound at there (Ok site) Judged playing sound loads = subst IsSound (at_site at there site loads.0 playing loads.2) (sound site refl)
@@ -141,7 +150,8 @@ pub there : (source : Source) (site : Site) (value : Value source) → (played_a
 there (ProgramFile word) site program = refl
 there (CodeFile word) site code = refl
 
-pub source_guarded : (source : Source) (words : SiteWords) (file : Contents) (playing : Playing) (frames : List Counts) → LoadsSource source words file (Ok playing) →
+pub source_guarded : (source : Source) (words : SiteWords) (file : Contents) (playing : Playing) (frames : List Counts) →
+    LoadsSource source words file (Ok playing) →
     IsGuardedRun playing.logic playing.site playing.store frames
 source_guarded source words file playing frames loads =
     guarded playing frames
@@ -197,7 +207,8 @@ module _ (source : Source) (words : SiteWords) (detectors : List ℕ) (file : Co
   cut_by : (r : Result Playing Unloaded) (text : List ℕ) (n : ℕ) → LoadsSource source words file r → (answer_to (Play source words detectors) file r).Cut text →
       IsCut old new n text → Safe
   cut_by (Ok playing) text n loads is cut =
-      gained_front playing (take (length (stream_of (file detectors)).frames) (stream_of (file detectors)).frames) n loads (cut.taken ∙ ap (λ t. append_known old (take n t)) is)
+      gained_front playing (take (length (stream_of (file detectors)).frames) (stream_of (file detectors)).frames) n loads
+      (cut.taken ∙ ap (λ t. append_known old (take n t)) is)
   cut_by (Err (TooLong w)) text n loads is cut = gained_none (take n text) (take_nil n text is) cut.taken
   cut_by (Err (Refused w line reason)) text n loads is cut = gained_none (take n text) (take_nil n text is) cut.taken
 

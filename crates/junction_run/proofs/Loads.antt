@@ -36,16 +36,19 @@ judged_unread (Refused w line reason) word bytes refusal value is at = absurd is
 judged_unread (TooLong w) word bytes refusal value is at = rw (lt-ltb text_limit (length bytes) is, at) refl
 
 -- a text that was judged so
-pub judged_so : {A B : Type 0} (view : A → B) (r : Result A LoadStop) (word bytes text : List ℕ) (refusal : List ℕ → Option Refusal) (value : List ℕ → B) → text ≡ bytes →
+pub judged_so : {A B : Type 0} (view : A → B) (r : Result A LoadStop) (word bytes text : List ℕ) (refusal : List ℕ → Option Refusal)
+    (value : List ℕ → B) → text ≡ bytes →
     length text ≤ text_limit → IfOk r (λ x. refusal text ≡ None) → IfOk r (λ x. view x ≡ value text) → IfErr r (λ stop. IsRefusedText stop (refusal text)) →
     IfErr r (λ stop. IsAt word stop) → IsLoading (λ w. w ≡ word) view r (judged word bytes (refusal bytes) (value bytes))
 judged_so view (Ok x) word bytes text refusal value same short accepted is wrong at =
     subst (λ t. judged word t (refusal t) (value t) ≡ Ok (view x)) same (judged_accepts word text (refusal text) (value text) short accepted ∙ ap Ok (sym is))
 judged_so view (Err stop) word bytes text refusal value same short accepted is wrong at =
-    subst (λ t. IsLoadStop (λ w. w ≡ word) stop (judged word t (refusal t) (value t))) same (judged_refuses stop word text (refusal text) (value text) short wrong at)
+    subst (λ t. IsLoadStop (λ w. w ≡ word) stop (judged word t (refusal t) (value t))) same
+    (judged_refuses stop word text (refusal text) (value text) short wrong at)
 
 -- seconds that are the same for each pair are the same
-pub seconds_are : {A : Type 0} (r : Result A LoadStop) (of : A → ℕ → ℕ → Option ℕ) (seconds : ℕ → ℕ → Option ℕ) → IfOk r (λ x. (i g : ℕ) → of x i g ≡ seconds i g) →
+pub seconds_are : {A : Type 0} (r : Result A LoadStop) (of : A → ℕ → ℕ → Option ℕ) (seconds : ℕ → ℕ → Option ℕ) →
+    IfOk r (λ x. (i g : ℕ) → of x i g ≡ seconds i g) →
     IfOk r (λ x. of x ≡ seconds)
 seconds_are (Ok x) of seconds all = fun_ext (λ i. fun_ext (λ g. all i g))
 seconds_are (Err stop) of seconds all = tt
@@ -74,13 +77,16 @@ module _ (words : SiteWords) (file : Contents) where
   -- the plan isn't taken
   pub no_plan : (stop : LoadStop) → IsLoadStop (λ w. w ≡ words.plan) stop (plan_at file words.plan) →
       IsLoadStop (λ w. ReachedInSite words file w) stop (site_of words file)
-  no_plan stop is = stops_at (λ w. w ≡ words.plan) (λ w. ReachedInSite words file w) stop (plan_at file words.plan) _ (λ w at. subst (λ w. ReachedInSite words file w) (sym at) ReachedInSite.at_plan) is
+  no_plan stop is = stops_at (λ w. w ≡ words.plan) (λ w. ReachedInSite words file w) stop (plan_at file words.plan) _
+      (λ w at. subst (λ w. ReachedInSite words file w) (sym at) ReachedInSite.at_plan) is
 
   -- the times aren't
-  pub no_times : (plan : PlanOf) (stop : LoadStop) → plan_at file words.plan ≡ Ok plan → IsLoadStop (λ w. w ≡ words.times) stop (times_at file words.times plan) →
+  pub no_times : (plan : PlanOf) (stop : LoadStop) → plan_at file words.plan ≡ Ok plan →
+      IsLoadStop (λ w. w ≡ words.times) stop (times_at file words.times plan) →
       IsLoadStop (λ w. ReachedInSite words file w) stop (site_of words file)
   no_times plan stop first is =
-      stop_along (λ w. ReachedInSite words file w) (λ w. ReachedInSite words file w) stop _ (site_of words file) (goes_on (plan_at file words.plan) plan _ first) (λ w h. h)
+      stop_along (λ w. ReachedInSite words file w) (λ w. ReachedInSite words file w) stop _ (site_of words file)
+      (goes_on (plan_at file words.plan) plan _ first) (λ w h. h)
       (stops_at (λ w. w ≡ words.times) (λ w. ReachedInSite words file w) stop (times_at file words.times plan) _
       (λ w at. subst (λ w. ReachedInSite words file w) (sym at) (ReachedInSite.at_times plan first)) is)
 
@@ -90,14 +96,18 @@ module _ (words : SiteWords) (file : Contents) where
   tables_next plan times first second = goes_on (plan_at file words.plan) plan _ first ∙ goes_on (times_at file words.times plan) times _ second
 
   -- the intergreens aren't
-  pub no_intergreens : (plan : PlanOf) (times : List TimesRow) (stop : LoadStop) → plan_at file words.plan ≡ Ok plan → times_at file words.times plan ≡ Ok times →
-      IsLoadStop (λ w. w ≡ words.intergreens) stop (intergreens_at file words.intergreens plan) → IsLoadStop (λ w. ReachedInSite words file w) stop (site_of words file)
+  pub no_intergreens : (plan : PlanOf) (times : List TimesRow) (stop : LoadStop) → plan_at file words.plan ≡ Ok plan →
+      times_at file words.times plan ≡ Ok times →
+      IsLoadStop (λ w. w ≡ words.intergreens) stop (intergreens_at file words.intergreens plan) →
+      IsLoadStop (λ w. ReachedInSite words file w) stop (site_of words file)
   no_intergreens plan times stop first second is =
-      stop_along (λ w. ReachedInSite words file w) (λ w. ReachedInSite words file w) stop _ (site_of words file) (tables_next plan times first second) (λ w h. h)
+      stop_along (λ w. ReachedInSite words file w) (λ w. ReachedInSite words file w) stop _ (site_of words file)
+      (tables_next plan times first second) (λ w h. h)
       (stops_at (λ w. w ≡ words.intergreens) (λ w. ReachedInSite words file w) stop (intergreens_at file words.intergreens plan) _
       (λ w at. subst (λ w. ReachedInSite words file w) (sym at) (ReachedInSite.at_intergreens plan times first second)) is)
 
   -- all are taken
   pub site_taken : (plan : PlanOf) (times : List TimesRow) (pairs : Pairs) → plan_at file words.plan ≡ Ok plan → times_at file words.times plan ≡ Ok times →
       intergreens_at file words.intergreens plan ≡ Ok (between pairs) → site_of words file ≡ Ok (record { plan = plan; rules = rules_of times pairs })
-  site_taken plan times pairs first second third = tables_next plan times first second ∙ goes_on (intergreens_at file words.intergreens plan) (between pairs) _ third
+  site_taken plan times pairs first second third = tables_next plan times first second ∙
+      goes_on (intergreens_at file words.intergreens plan) (between pairs) _ third

@@ -22,7 +22,8 @@ pub records_text-append : (names : List (List ℕ)) (rs qs : List Record) → re
 unfolding records_text
 records_text-append names [] qs = refl
 records_text-append names (r ∷ rs) qs =
-    ap (λ l. record_text names r ++ l) (records_text-append names rs qs) ∙ sym (append_assoc (record_text names r) (records_text names rs) (records_text names qs))
+    ap (λ l. record_text names r ++ l) (records_text-append names rs qs) ∙
+    sym (append_assoc (record_text names r) (records_text names rs) (records_text names qs))
 
 pub records_text-one : (names : List (List ℕ)) (r : Record) → records_text names (r ∷ []) ≡ record_text names r
 unfolding records_text

@@ -147,7 +147,8 @@ told_code : Result CodeOf (ℕ × CodeWhy) → Result CodeOf Refusal
 told_code (Ok code) = Ok code
 told_code (Err at) = Err (at.0, code_reason at.1)
 
-one_line : (bytes : List ℕ) (l m : ℕ) (v w : CodeWhy) → code_of bytes ≡ Err (l, v) → code_of bytes ≡ Err (m, w) → refused_code (l, code_reason v) ≡ refused_code (m, code_reason w)
+one_line : (bytes : List ℕ) (l m : ℕ) (v w : CodeWhy) → code_of bytes ≡ Err (l, v) → code_of bytes ≡ Err (m, w) →
+    refused_code (l, code_reason v) ≡ refused_code (m, code_reason w)
 unfolding told_code
 one_line bytes l m v w a b = ap told_code (sym a ∙ b)
 
@@ -161,7 +162,8 @@ code_once one none bytes r s (unsound c v p a broken) (unsound d w q b is) =
     let code = one_code bytes c d a b in
     let same = one d v w p q (subst (λ c. FirstBroken c v p) code broken) is in
     (λ j. Err (instr_line (code j) (same.1 j), verify_reason (same.0 j)))
-code_once one none bytes r s (unsound c v p a broken) (is_code d b valid) = absurd (none d v p valid (subst (λ c. FirstBroken c v p) (one_code bytes c d a b) broken))
+code_once one none bytes r s (unsound c v p a broken) (is_code d b valid) =
+    absurd (none d v p valid (subst (λ c. FirstBroken c v p) (one_code bytes c d a b) broken))
 code_once one none bytes r s (is_code c a valid) (no_code l w b) = absurd (never_read bytes c (l, w) a b)
 code_once one none bytes r s (is_code c a valid) (unsound d w q b broken) = absurd (none d w q (subst Valid (one_code bytes c d a b) valid) broken)
 code_once one none bytes r s (is_code c a valid) (is_code d b is) = ap Ok (one_code bytes c d a b)
@@ -175,19 +177,22 @@ told word (Err at) = Err (loading.Refused word at.0 at.1)
 
 -- a file that is judged by what has one value has one value
 judged_once : {V : Type 0} (Is : List ℕ → Result V Refusal → Type 0) (limit : ℕ) (word bytes : List ℕ) →
-    ((a b : Result V Refusal) → Is bytes a → Is bytes b → a ≡ b) → (r s : Result V Unloaded) → IsJudged Is limit word bytes r → IsJudged Is limit word bytes s → r ≡ s
+    ((a b : Result V Refusal) → Is bytes a → Is bytes b → a ≡ b) → (r s : Result V Unloaded) → IsJudged Is limit word bytes r →
+    IsJudged Is limit word bytes s → r ≡ s
 judged_once Is limit word bytes once r s (long a) (long b) = refl
 judged_once Is limit word bytes once r s (long a) (refused line reason b is) = absurd (omega (arith, a, b))
 judged_once Is limit word bytes once r s (long a) (accepted value b is) = absurd (omega (arith, a, b))
 judged_once Is limit word bytes once r s (refused line reason a is) (long b) = absurd (omega (arith, a, b))
-judged_once Is limit word bytes once r s (refused line reason a is) (refused line' reason' b is') = ap (told word) (once (Err (line, reason)) (Err (line', reason')) is is')
+judged_once Is limit word bytes once r s (refused line reason a is) (refused line' reason' b is') =
+    ap (told word) (once (Err (line, reason)) (Err (line', reason')) is is')
 judged_once Is limit word bytes once r s (refused line reason a is) (accepted value b is') = ap (told word) (once (Err (line, reason)) (Ok value) is is')
 judged_once Is limit word bytes once r s (accepted value a is) (long b) = absurd (omega (arith, a, b))
 judged_once Is limit word bytes once r s (accepted value a is) (refused line reason b is') = ap (told word) (once (Ok value) (Err (line, reason)) is is')
 judged_once Is limit word bytes once r s (accepted value a is) (accepted value' b is') = ap (told word) (once (Ok value) (Ok value') is is')
 
 after_once : {V : Type 0} (at : Site → V → Playing) (site : Result Site Unloaded) (Judged : Result V Unloaded → Type 0) →
-    ((a b : Result V Unloaded) → Judged a → Judged b → a ≡ b) → (r s : Result Playing Unloaded) → AfterSite at site Judged r → AfterSite at site Judged s → r ≡ s
+    ((a b : Result V Unloaded) → Judged a → Judged b → a ≡ b) → (r s : Result Playing Unloaded) → AfterSite at site Judged r →
+    AfterSite at site Judged s → r ≡ s
 after_once at (Err u) Judged once r s a b = a ∙ sym b
 after_once at (Ok site) Judged once r s a b = a.2 ∙ ap (λ v. map_ok (at site) v) (once a.0 b.0 a.1 b.1) ∙ sym b.2
 
@@ -205,7 +210,8 @@ source_once stages (CodeFile word) bytes a b = code_once stages.first stages.non
 file_once : StagesOnce → (source : Source) (bytes : List ℕ) (r s : Result (Value source) Unloaded) → IsSource source bytes r → IsSource source bytes s → r ≡ s
 file_once stages source bytes = judged_once (SourceIs source) (limit_of source) (word_of source) bytes (source_once stages source bytes)
 
-site_once : StagesOnce → (source : Source) (words : SiteWords) (file : Contents) (r s : Result Playing Unloaded) → LoadsSource source words file r → LoadsSource source words file s → r ≡ s
+site_once : StagesOnce → (source : Source) (words : SiteWords) (file : Contents) (r s : Result Playing Unloaded) → LoadsSource source words file r →
+    LoadsSource source words file s → r ≡ s
 site_once stages source words file =
     after_once (played_at source) (site_of words file) (IsSource source (file (word_of source))) (file_once stages source (file (word_of source)))
 

@@ -22,7 +22,8 @@ use Rattle.junction_run.specs.Records.{log_of}
 use Rattle.junction_run.proofs.Logs.{past_at, next_text, log_of-more, plan_is, frames_at}
 
 -- these frames were given and made into seconds, and their records were put
-pub record Underway (start now : Controller) (lines : Lines) (told : Option Contents) (name : List ℕ) (old new : Option (List ℕ)) (first later : Held) : Type 0 where
+pub record Underway (start now : Controller) (lines : Lines) (told : Option Contents) (name : List ℕ) (old new : Option (List ℕ))
+    (first later : Held) : Type 0 where
   pub frames : List Counts
   pub gave : Gave lines frames
   pub reads : ForSome told (λ file. Reads lines (file name) frames)
@@ -58,7 +59,8 @@ takes_next p frames f takes = subst (λ fs. Takes fs f) (sym (frames_at p.logic 
 
 -- what was held has gone, and no second was made
 pub sent : {start now : Controller} {lines : Lines} {told : Option Contents} {name : List ℕ} {old mid new : Option (List ℕ)} {first held later : Held} →
-    Underway start now lines told name old mid first held → ((begin : Option (List ℕ)) (text : List ℕ) → IsDraft begin mid held text → IsDraft begin new later text) →
+    Underway start now lines told name old mid first held →
+    ((begin : Option (List ℕ)) (text : List ℕ) → IsDraft begin mid held text → IsDraft begin new later text) →
     Underway start now lines told name old new first later
 sent {start} u goes = record {
   frames = u.frames;
@@ -72,7 +74,8 @@ sent {start} u goes = record {
 }
 
 -- one second more
-pub one_more : (start now next : Controller) (lines lines' : Lines) (told : Option Contents) (name : List ℕ) (old mid new : Option (List ℕ)) (first held later : Held)
+pub one_more : (start now next : Controller) (lines lines' : Lines) (told : Option Contents) (name : List ℕ) (old mid new : Option (List ℕ))
+    (first held later : Held)
     (f : Counts) (r : Record) (names : List (List ℕ)) (u : Underway start now lines told name old mid first held) →
     Gave lines' (u.frames ++ f ∷ []) → ForSome told (λ file. Reads lines' (file name) (u.frames ++ f ∷ [])) →
     ((past : Past) → StandsFor now past → StandsFor next (past_after_second (logic_of now) (site_of now) past f)) →
@@ -98,5 +101,6 @@ one_more start now next lines lines' told name old mid new first held later f r 
       let what : r ≡ record_of p.logic p.site (past_at p u.frames) f
       = tells (past_at p u.frames) (u.stands store s) ∙ (λ j. record_of (u.logic_is j) (u.site j) (past_at p u.frames) f) in
       let text : record_text names r ≡ next_text p u.frames f = λ j. record_text (whose j) (what j) in
-      subst (λ t. IsDraft begin new later t) (ap (λ t. log_of p u.frames ++ t) text ∙ sym (log_of-more p u.frames f)) (put begin (log_of p u.frames) (u.put store begin s d));
+      subst (λ t. IsDraft begin new later t) (ap (λ t. log_of p u.frames ++ t) text ∙ sym (log_of-more p u.frames f))
+      (put begin (log_of p u.frames) (u.put store begin s d));
 }

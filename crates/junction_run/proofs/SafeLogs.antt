@@ -73,9 +73,12 @@ same_site a b is = cc
 -- the plan of a site is a plan
 site_plan : (words : SiteWords) (file : Contents) (site : Site) → site_of words file ≡ Ok site → IsPlan site.plan
 site_plan words file site is =
-    let one = steps (plan_at file words.plan) (λ plan. times_at file words.times plan >>= λ times. intergreens_at file words.intergreens plan >>= λ between. Ok (record { plan = plan; rules = rules_by times between })) site is in
+    let one = steps (plan_at file words.plan)
+    (λ plan. times_at file words.times plan >>= λ times. intergreens_at file words.intergreens plan >>= λ between. Ok
+    (record { plan = plan; rules = rules_by times between })) site is in
     let plan : PlanOf = one.value in
-    let two = steps (times_at file words.times plan) (λ times. intergreens_at file words.intergreens plan >>= λ between. Ok (record { plan = plan; rules = rules_by times between })) site one.rest in
+    let two = steps (times_at file words.times plan)
+    (λ times. intergreens_at file words.intergreens plan >>= λ between. Ok (record { plan = plan; rules = rules_by times between })) site one.rest in
     let three = steps (intergreens_at file words.intergreens plan) (λ between. Ok (record { plan = plan; rules = rules_by two.value between })) site two.rest in
     let text = judged_right words.plan (file words.plan) (plan_refusal (refusal_of (file words.plan))) (plan_of_text (file words.plan)) plan one.first in
     let whole : IsPlan plan = subst IsPlan text.1 (plans_are_whole (file words.plan) (no_refusal (refusal_of (file words.plan)) text.0)) in
@@ -104,7 +107,8 @@ program_few program = record {
   of_the_world = λ w s none. programs_give_the_worlds (source_of program (names_of program)) w s none;
 }
 
-code_after : (code : CodeOf) (s : Store) (e : End) → StoreFits code s → IfDone e (λ after. StoreFits code (without_commands after)) → StoreFits code (store_after s e)
+code_after : (code : CodeOf) (s : Store) (e : End) → StoreFits code s → IfDone e (λ after. StoreFits code (without_commands after)) →
+    StoreFits code (store_after s e)
 code_after code s (Done after) fits done = done
 code_after code s (Faulted kind line) fits done = fits
 code_after code s Stuck fits done = fits
@@ -136,14 +140,16 @@ code_valid bytes r (unsound code why place is broken) = tt
 code_valid bytes r (is_code code is valid) = valid
 
 -- a value of a source is played within its limits
-value_bounded : (source : Source) (bytes : List ℕ) (value : Value source) (site : Site) (frames : List Counts) → SourceIs source bytes (Ok value) → IsSound site →
+value_bounded : (source : Source) (bytes : List ℕ) (value : Value source) (site : Site) (frames : List Counts) → SourceIs source bytes (Ok value) →
+    IsSound site →
     AreBoundedFrom site 1 frames (records_of (played_at source site value) frames)
 unfolding records_of
 value_bounded (ProgramFile word) bytes program site frames is sound =
     runs_are_bounded HasNone (logic_of program) site (store_of program) frames (program_keeps program) (program_few program) refl sound.two sound.count
 value_bounded (CodeFile word) bytes code site frames is sound =
     let valid : Valid code = code_valid bytes (Ok code) is in
-    runs_are_bounded (StoreFits code) (machine code) site (first_store code) frames (code_keeps code valid) (code_few code valid) (code_begins code) sound.two sound.count
+    runs_are_bounded (StoreFits code) (machine code) site (first_store code) frames (code_keeps code valid) (code_few code valid) (code_begins code)
+    sound.two sound.count
 
 -- a value that was judged is that of its bytes
 abbrev OfBytes : (source : Source) → List ℕ → Result (Value source) Unloaded → Type 0
@@ -158,7 +164,8 @@ source_accepted source bytes r (accepted value short is) = is
 same_playing : (a b : Playing) → ok_of a ≡ ok_of b → a ≡ b
 same_playing a b is = cc
 
-within_by : (source : Source) (bytes : List ℕ) (playing : Playing) (frames : List Counts) (o : Result Site Unloaded) → ((site : Site) → o ≡ Ok site → IsSound site × IsPlan site.plan) →
+within_by : (source : Source) (bytes : List ℕ) (playing : Playing) (frames : List Counts) (o : Result Site Unloaded) →
+    ((site : Site) → o ≡ Ok site → IsSound site × IsPlan site.plan) →
     AfterSite (played_at source) o (IsSource source bytes) (Ok playing) → IsWithinLimits playing frames
 within_by source bytes playing frames (Err u) sound loads = absurd (let e : Ok playing ≡ Err u = loads in cc)
 within_by source bytes playing frames (Ok site) sound (Err u, is, same) = absurd (let e : Ok playing ≡ Err u = same in cc)
@@ -172,14 +179,17 @@ within_by source bytes playing frames (Ok site) sound (Ok value, is, same) =
           (value_bounded source bytes value site frames (source_accepted source bytes (Ok value) is) here.0);
     }
 
-source_within : (source : Source) (words : SiteWords) (file : Contents) (playing : Playing) (frames : List Counts) → LoadsSource source words file (Ok playing) → IsWithinLimits playing frames
+source_within : (source : Source) (words : SiteWords) (file : Contents) (playing : Playing) (frames : List Counts) →
+    LoadsSource source words file (Ok playing) → IsWithinLimits playing frames
 source_within source words file playing frames loads =
-    within_by source (file (word_of source)) playing frames (site_of words file) (λ site is. (site_sound words file site is, site_plan words file site is)) loads
+    within_by source (file (word_of source)) playing frames (site_of words file)
+    (λ site is. (site_sound words file site is, site_plan words file site is)) loads
 
 pub loaded_runs_are_within_limits : LoadedRunsAreWithinLimits
 loaded_runs_are_within_limits (Play source words detectors) file playing frames loads = source_within source words file playing frames loads
 loaded_runs_are_within_limits (Compile program) file tree frames loads = tt
-loaded_runs_are_within_limits (Sample program words seed seconds) file playing frames loads = source_within (ProgramFile program) words file playing frames loads
+loaded_runs_are_within_limits (Sample program words seed seconds) file playing frames loads =
+    source_within (ProgramFile program) words file playing frames loads
 loaded_runs_are_within_limits (Audit log words) file logged frames loads = tt
 
 -- ---- what is written is read back
@@ -261,7 +271,8 @@ module _ (site : Site) (plan : IsPlan site.plan) where
 records_count : (playing : Playing) (frames : List Counts) → IsWithinLimits playing frames → length (records_of playing frames) ≡ length frames
 records_count playing frames limits = counts_are playing.site limits.plan 1 frames (records_of playing frames) limits.records
 
-judged_safe : (source : Source) (words : SiteWords) (file : Contents) (playing : Playing) (frames : List Counts) → AreFrames frames → LoadsSource source words file (Ok playing) →
+judged_safe : (source : Source) (words : SiteWords) (file : Contents) (playing : Playing) (frames : List Counts) → AreFrames frames →
+    LoadsSource source words file (Ok playing) →
     IsJudgedSafe playing frames (log_of playing frames)
 unfolding log_of records_of
 judged_safe source words file playing frames are loads =
@@ -305,14 +316,16 @@ module _ (source : Source) (words : SiteWords) (detectors : List ℕ) (file : Co
   written_by (Err (Refused w line reason)) loads (inl is) gains = cc
   written_by (Err (Refused w line reason)) loads (inr is) gains = cc
 
-  answered_written : (end : Status) → CameToAnEnd end → IsAnswered (Loads form file) (answer_to form file) end old new → WritesSafely source words detectors file old new
+  answered_written : (end : Status) → CameToAnEnd end → IsAnswered (Loads form file) (answer_to form file) end old new →
+      WritesSafely source words detectors file old new
   answered_written end came is = written_by is.0 is.1 (subst CameToAnEnd (sym is.2) came) is.3
 
 pub written_logs_are_judged_safe : WrittenLogsAreJudgedSafe
 written_logs_are_judged_safe source words detectors file end old new (inl is) meets =
     answered_written source words detectors file old new status.Done (inl refl) (subst (λ s. Meets (Play source words detectors) file s old new) is meets)
 written_logs_are_judged_safe source words detectors file end old new (inr is) meets =
-    answered_written source words detectors file old new status.RefusedLine (inr refl) (subst (λ s. Meets (Play source words detectors) file s old new) is meets)
+    answered_written source words detectors file old new status.RefusedLine (inr refl)
+    (subst (λ s. Meets (Play source words detectors) file s old new) is meets)
 
 -- ---- what is judged of it
 
@@ -320,7 +333,8 @@ site_alike : (words : SiteWords) (f g : Contents) → f words.plan ≡ g words.p
     site_of words f ≡ site_of words g
 site_alike words f g p t i = rw (p, t, i) refl
 
-loaded_site : (source : Source) (bytes : List ℕ) (playing : Playing) (o : Result Site Unloaded) → AfterSite (played_at source) o (IsSource source bytes) (Ok playing) → o ≡ Ok playing.site
+loaded_site : (source : Source) (bytes : List ℕ) (playing : Playing) (o : Result Site Unloaded) →
+    AfterSite (played_at source) o (IsSource source bytes) (Ok playing) → o ≡ Ok playing.site
 loaded_site source bytes playing (Err u) loads = absurd (let e : Ok playing ≡ Err u = loads in cc)
 loaded_site source bytes playing (Ok site) (v, is, same) = ap Ok (at_site (played_at source) (there source) site v playing same)
 
@@ -328,37 +342,45 @@ known_text : (log text : List ℕ) → Some log ≡ append_known (Some []) text 
 known_text log text is = cc
 
 -- the first line of what is judged of safe pictures
-safe_line : (site : Site) (pictures : List Picture) (n : ℕ) → IsVerdict site.rules (replicate (groups_in site.plan) Red ∷ pictures) (verdict.Safe n) → (text : List ℕ) → IsAudit site pictures text →
+safe_line : (site : Site) (pictures : List Picture) (n : ℕ) → IsVerdict site.rules (replicate (groups_in site.plan) Red ∷ pictures) (verdict.Safe n)
+    → (text : List ℕ) → IsAudit site pictures text →
     (rest : List ℕ) × (text ≡ codes "SAFE " ++ decimal n ++ codes "\n" ++ rest)
 unfolding judged_text
 safe_line site pictures n safe text is =
-    let same : is.judged.verdict ≡ verdict.Safe n = one_verdict site.rules (replicate (groups_in site.plan) Red ∷ pictures) is.judged.verdict (verdict.Safe n) is.judged.verdict_is safe in
+    let same : is.judged.verdict ≡ verdict.Safe n =
+    one_verdict site.rules (replicate (groups_in site.plan) Red ∷ pictures) is.judged.verdict (verdict.Safe n) is.judged.verdict_is safe in
     let rest : List ℕ = inters_text site.plan 0 is.judged.ends in
     (rest, is.text_is ∙ ap (λ v. verdict_text site.plan.names v ++ codes "\n" ++ rest) same)
 
 says_by : (log : List ℕ) (site s : Site) (pictures ps : List Picture) (o : Option (ℕ × LogWhy)) (n : ℕ) →
-    IsVerdict site.rules (replicate (groups_in site.plan) Red ∷ pictures) (verdict.Safe n) → s ≡ site → ps ≡ pictures → o ≡ None → SaysSafe (audit_answer log s ps o) n
+    IsVerdict site.rules (replicate (groups_in site.plan) Red ∷ pictures) (verdict.Safe n) → s ≡ site → ps ≡ pictures → o ≡ None →
+    SaysSafe (audit_answer log s ps o) n
 says_by log site s pictures ps None n safe here are none = record {
   done = refl;
   line = λ text is. safe_line site pictures n safe text (subst (λ x. IsAudit site x text) are (subst (λ x. IsAudit x ps text) here is));
 }
 says_by log site s pictures ps (Some at) n safe here are none = cc
 
-audit_by : (log : List ℕ) (words : SiteWords) (audited : Contents) (playing : Playing) (frames : List Counts) (o : Result Site Unloaded) (r : Result Logged Unloaded) →
-    IsJudgedSafe playing frames (audited log) → o ≡ Ok playing.site → LogAfterSite o (audited log) r → SaysSafe (answer_to (Audit log words) audited r) (length frames)
+audit_by : (log : List ℕ) (words : SiteWords) (audited : Contents) (playing : Playing) (frames : List Counts) (o : Result Site Unloaded)
+    (r : Result Logged Unloaded) →
+    IsJudgedSafe playing frames (audited log) → o ≡ Ok playing.site → LogAfterSite o (audited log) r →
+    SaysSafe (answer_to (Audit log words) audited r) (length frames)
 audit_by log words audited playing frames o r judged site is =
     let loads : LogAfterSite (Ok playing.site) (audited log) r = subst (λ x. LogAfterSite x (audited log) r) site is in
     let logged : Logged = loads.0 in
-    let one = one_answer playing.site.plan.names (audited log) logged.pictures (record_pictures (records_of playing frames)) logged.refusal None loads.1.1 judged.is_log in
+    let one = one_answer playing.site.plan.names (audited log) logged.pictures (record_pictures (records_of playing frames)) logged.refusal None
+    loads.1.1 judged.is_log in
     subst (λ x. SaysSafe (answer_to (Audit log words) audited x) (length frames)) (sym loads.2)
-    (says_by log playing.site logged.site (record_pictures (records_of playing frames)) logged.pictures logged.refusal (length frames) judged.is_safe loads.1.0 one.0 one.1)
+    (says_by log playing.site logged.site (record_pictures (records_of playing frames)) logged.pictures logged.refusal (length frames) judged.is_safe
+    loads.1.0 one.0 one.1)
 
 pub audits_say_safe : AuditsSaySafe
 audits_say_safe source words detectors log file audited end came meets p t i r loads =
     let written = written_logs_are_judged_safe source words detectors file end (Some []) (Some (audited log)) came meets in
     let playing : Playing = written.0 in
     let frames : List Counts = (stream_of (file detectors)).frames in
-    let judged : IsJudgedSafe playing frames (audited log) = subst (IsJudgedSafe playing frames) (sym (known_text (audited log) written.2.0 written.2.1)) written.2.2 in
+    let judged : IsJudgedSafe playing frames (audited log) =
+    subst (IsJudgedSafe playing frames) (sym (known_text (audited log) written.2.0 written.2.1)) written.2.2 in
     let site : site_of words audited ≡ Ok playing.site =
     site_alike words audited file p t i ∙ loaded_site source (file (word_of source)) playing (site_of words file) written.1 in
     audit_by log words audited playing frames (site_of words audited) r judged site loads

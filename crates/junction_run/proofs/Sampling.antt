@@ -80,7 +80,8 @@ even_sums (suc n) g d =
       omega (arith, sum_by-cons (count_in fronts d) (frame_from g) fs, here.1, rest.1),
     )
 
-sums_of_drawn : (seed n d : ℕ) → (sum_by (count_in rears d) (drawn seed n) ≡ sum_by (count_in fronts d) (drawn seed n)) × (sum_by (count_in fronts d) (drawn seed n) ≤ n)
+sums_of_drawn : (seed n d : ℕ) → (sum_by (count_in rears d) (drawn seed n) ≡ sum_by (count_in fronts d) (drawn seed n))
+    × (sum_by (count_in fronts d) (drawn seed n) ≤ n)
 unfolding drawn
 sums_of_drawn seed n d = even_sums n (generator_of seed) d
 
@@ -131,7 +132,8 @@ pub record Sampled (start now : Controller) (summary : Summary) (seed n : ℕ) :
       SummaryStands summary (groups_in (plan_of start)) (records_of (playing_of start store) (drawn seed n))
 
 -- none yet
-pub none_sampled : (start : Controller) (summary : Summary) (seed : ℕ) → SummaryStands summary (groups_in (plan_of start)) [] → Sampled start start summary seed 0
+pub none_sampled : (start : Controller) (summary : Summary) (seed : ℕ) → SummaryStands summary (groups_in (plan_of start)) [] →
+    Sampled start start summary seed 0
 none_sampled start summary seed empty = record {
   site = refl;
   logic_is = refl;
@@ -188,15 +190,21 @@ pub next_adds : (start now : Controller) (summary : Summary) (seed n : ℕ) (r :
     length r.picture ≡ groups_in (plan_of start) → (store : Store) → StandsFor start (opening (site_of start) store) →
     (groups : ℕ) × (rs : List Record) × SummaryStands summary groups rs × (length r.picture ≡ groups) × (length rs < 604801)
 next_adds start now summary seed n r so few width store s =
-    let p : Playing = playing_of start store in
-    (groups_in (plan_of start), records_of p (drawn seed n), so.summed store s, width, omega (arith, length_of_records p (drawn seed n), length_of_drawn seed n))
+    let p : Playing = playing_of start store in (
+      groups_in (plan_of start),
+      records_of p (drawn seed n),
+      so.summed store s,
+      width,
+      omega (arith, length_of_records p (drawn seed n), length_of_drawn seed n),
+    )
 
 -- ---- the text
 
 -- the summary of a controller with a program's code is the program's sample
 pub sample_is : (code : CodeOf) (program : Program) → Runs code program → Valid code → (start : Controller) (plan : PlanOf) (site : Site) (seed seconds : ℕ) →
     logic_of start ≡ machine code → site_of start ≡ site → plan ≡ plan_of start →
-    summary_text plan.names seed seconds (records_of (playing_of start (first_store code)) (drawn seed seconds)) ≡ sample_text seed seconds (program_at site program)
+    summary_text plan.names seed seconds (records_of (playing_of start (first_store code)) (drawn seed seconds)) ≡ sample_text seed seconds
+    (program_at site program)
 unfolding sample_text
 sample_is code program runs valid start plan site seed seconds logic there planned =
     let names : plan.names ≡ site.plan.names = ap (λ p. p.names) (planned ∙ plan_is start ∙ ap (λ s. s.plan) there) in

@@ -118,7 +118,8 @@ other_way plan rows before row i g named is =
 same_refused : (plan : PlanOf) (before : List Row) (row : Row) (g : ℕ) → pair_in plan row ≡ Some (g, g) → intergreen_reason plan before row ≡ None → ⊥
 unfolding intergreen_reason
 same_refused plan before row g named is =
-    let form = or_none (intergreen_form plan row) (or_next (when (has_pair plan before (pair_in plan row)) why.Twice) (or_next (when (is_self (pair_in plan row)) why.SelfConflict) None)) is in
+    let form = or_none (intergreen_form plan row)
+    (or_next (when (has_pair plan before (pair_in plan row)) why.Twice) (or_next (when (is_self (pair_in plan row)) why.SelfConflict) None)) is in
     let twice = or_none (when (has_pair plan before (pair_in plan row)) why.Twice) (or_next (when (is_self (pair_in plan row)) why.SelfConflict) None) form.1 in
     let self = or_none (when (is_self (pair_in plan row)) why.SelfConflict) None twice.1 in
     let two : is_self (Some (g, g)) ≡ false = ap is_self (sym named) ∙ when_none (is_self (pair_in plan row)) why.SelfConflict self.0 in
@@ -148,7 +149,9 @@ pub accepted_lists_well : (plan : PlanOf) (text : List ℕ) → intergreens_refu
 unfolding intergreens_refused intergreen_of
 accepted_lists_well plan text is =
     let rows : List Row = drop 1 (table_rows text) in
-    let head = or_none _ (or_next (first_refused (numbered (intergreen_reason plan)) rows []) (or_next (first_refused (numbered (one_way_reason plan rows)) rows []) None)) is in
-    let right = or_none (first_refused (numbered (intergreen_reason plan)) rows []) (or_next (first_refused (numbered (one_way_reason plan rows)) rows []) None) head.1 in
+    let head = or_none _ (or_next (first_refused (numbered (intergreen_reason plan)) rows [])
+    (or_next (first_refused (numbered (one_way_reason plan rows)) rows []) None)) is in
+    let right = or_none (first_refused (numbered (intergreen_reason plan)) rows [])
+    (or_next (first_refused (numbered (one_way_reason plan rows)) rows []) None) head.1 in
     let both = or_none (first_refused (numbered (one_way_reason plan rows)) rows []) None right.1 in
     listed_well plan rows right.0 both.0

@@ -70,14 +70,16 @@ verified_text (Ok v) text code read is wrong = subst (λ v. CodeIs text (Ok v)) 
 verified_text (Err stop) text code read is wrong = wrong
 
 -- one that breaks a check
-pub unsound_text : (text : List ℕ) (code : CodeOf) (why : VerifyWhy) (place line : ℕ) → code_of text ≡ Ok code → FirstBroken code why place → line ≡ instr_line code place →
+pub unsound_text : (text : List ℕ) (code : CodeOf) (why : VerifyWhy) (place line : ℕ) → code_of text ≡ Ok code → FirstBroken code why place →
+    line ≡ instr_line code place →
     CodeIs text (Err (line, verify_reason why))
 unsound_text text code why place line read is at = subst (λ n. CodeIs text (Err (n, verify_reason why))) (sym at) (unsound code why place read is)
 
 -- ---- a file
 
 -- a file that was not read
-pub unread_file : {V : Type 0} (Is : List ℕ → Result V Refusal → Type 0) (limit : ℕ) (name bytes : List ℕ) (stop : LoadStop) → IsUnread limit bytes stop → IsAt name stop →
+pub unread_file : {V : Type 0} (Is : List ℕ → Result V Refusal → Type 0) (limit : ℕ) (name bytes : List ℕ) (stop : LoadStop) →
+    IsUnread limit bytes stop → IsAt name stop →
     IsUnloadedBy (IsJudged Is limit name bytes) (λ w. w ≡ name) stop
 unread_file Is limit name bytes Memory is at = tt
 unread_file Is limit name bytes (ReadFault w) is at = at
@@ -85,7 +87,8 @@ unread_file Is limit name bytes (Refused w line reason) is at = absurd is
 unread_file Is limit name bytes (TooLong w) is at = subst (λ n. IsJudged Is limit name bytes (Err (loading.TooLong n))) (sym at) (loading.long is)
 
 -- one that is refused
-refused_file : {V : Type 0} (Is : List ℕ → Result V Refusal → Type 0) (limit : ℕ) (name bytes : List ℕ) (stop : LoadStop) → length bytes ≤ limit → IsRefusedBy Is bytes stop → IsAt name stop →
+refused_file : {V : Type 0} (Is : List ℕ → Result V Refusal → Type 0) (limit : ℕ) (name bytes : List ℕ) (stop : LoadStop) → length bytes ≤ limit →
+    IsRefusedBy Is bytes stop → IsAt name stop →
     IsUnloadedBy (IsJudged Is limit name bytes) (λ w. w ≡ name) stop
 refused_file Is limit name bytes Memory short is at = tt
 refused_file Is limit name bytes (ReadFault w) short is at = absurd is
@@ -99,16 +102,19 @@ judged_program name bytes (Ok code) short is at = (is.0, loading.accepted is.0 s
 judged_program name bytes (Err stop) short is at = refused_file ProgramIs text_limit name bytes stop short is at
 
 -- a program file that was judged so
-pub program_file : (name bytes text : List ℕ) (r : Result CodeOf LoadStop) → text ≡ bytes → length text ≤ text_limit → IsProgramText text r → IfErr r (λ stop. IsAt name stop) →
+pub program_file : (name bytes text : List ℕ) (r : Result CodeOf LoadStop) → text ≡ bytes → length text ≤ text_limit → IsProgramText text r →
+    IfErr r (λ stop. IsAt name stop) →
     IsSourceFile (ProgramFile name) bytes r
 program_file name bytes text r same short is at = subst (λ b. IsSourceFile (ProgramFile name) b r) same (judged_program name text r short is at)
 
-judged_code : (name bytes : List ℕ) (r : Result CodeOf LoadStop) → length bytes ≤ code_limit → IsCodeText bytes r → IfErr r (λ stop. IsAt name stop) → IsSourceFile (CodeFile name) bytes r
+judged_code : (name bytes : List ℕ) (r : Result CodeOf LoadStop) → length bytes ≤ code_limit → IsCodeText bytes r → IfErr r (λ stop. IsAt name stop)
+    → IsSourceFile (CodeFile name) bytes r
 judged_code name bytes (Ok code) short is at = (code, loading.accepted code short is, refl)
 judged_code name bytes (Err stop) short is at = refused_file CodeIs code_limit name bytes stop short is at
 
 -- a code file that was judged so
-pub code_file : (name bytes text : List ℕ) (r : Result CodeOf LoadStop) → text ≡ bytes → length text ≤ code_limit → IsCodeText text r → IfErr r (λ stop. IsAt name stop) →
+pub code_file : (name bytes text : List ℕ) (r : Result CodeOf LoadStop) → text ≡ bytes → length text ≤ code_limit → IsCodeText text r →
+    IfErr r (λ stop. IsAt name stop) →
     IsSourceFile (CodeFile name) bytes r
 code_file name bytes text r same short is at = subst (λ b. IsSourceFile (CodeFile name) b r) same (judged_code name text r short is at)
 
@@ -116,7 +122,8 @@ code_file name bytes text r same short is at = subst (λ b. IsSourceFile (CodeFi
 
 -- what stops one loading stops another that goes on from it
 pub unloaded_later : {A B : Type 0} (Gives : Result A Unloaded → Type 0) (Later : Result B Unloaded → Type 0) (Early Late : List ℕ → Type 0) →
-    ((u : Unloaded) → Gives (Err u) → Later (Err u)) → ((w : List ℕ) → Early w → Late w) → (stop : LoadStop) → IsUnloadedBy Gives Early stop → IsUnloadedBy Later Late stop
+    ((u : Unloaded) → Gives (Err u) → Later (Err u)) → ((w : List ℕ) → Early w → Late w) → (stop : LoadStop) → IsUnloadedBy Gives Early stop →
+    IsUnloadedBy Later Late stop
 unloaded_later Gives Later Early Late refused reached Memory is = tt
 unloaded_later Gives Later Early Late refused reached (ReadFault w) is = reached w.now is
 unloaded_later Gives Later Early Late refused reached (Refused w line reason) is = refused (loading.Refused w.now line (reason_text reason)) is
@@ -130,10 +137,12 @@ module _ {V : Type 0} (at : Site → V → Playing) (Judged : Result V Unloaded 
   pub no_site : (stop : LoadStop) → IsLoadStop (λ w. ReachedInSite words file w) stop (site_of words file) →
       IsUnloadedBy (λ r. AfterSite at (site_of words file) Judged r) (λ w. ReachedAfterSite name words file w) stop
   no_site stop is =
-      unloaded_later (λ r. site_of words file ≡ r) (λ r. AfterSite at (site_of words file) Judged r) (λ w. ReachedInSite words file w) (λ w. ReachedAfterSite name words file w)
+      unloaded_later (λ r. site_of words file ≡ r) (λ r. AfterSite at (site_of words file) Judged r) (λ w. ReachedInSite words file w)
+      (λ w. ReachedAfterSite name words file w)
       after_no_site (λ w reached. ReachedAfterSite.at_site w reached) stop is
 
-  after_site : (site : Site) (v : Result V Unloaded) → site_of words file ≡ Ok site → Judged v → AfterSite at (site_of words file) Judged (loading.map_ok (at site) v)
+  after_site : (site : Site) (v : Result V Unloaded) → site_of words file ≡ Ok site → Judged v →
+      AfterSite at (site_of words file) Judged (loading.map_ok (at site) v)
   after_site site v is judged = rw is (v, judged, refl)
 
   -- the file isn't

@@ -30,7 +30,8 @@ spelled_by (b ∷ bs) (x ∷ p) d size each =
     rw (first, more) refl
 
 -- one aspect more
-pub one_more : (letters : List ℕ) (p : Picture) (place : ℕ) (x : Aspect) → place < length p → ((k : ℕ) → k < place → aspect_of (get_or letters k 0) ≡ Some (get_or p k Red)) →
+pub one_more : (letters : List ℕ) (p : Picture) (place : ℕ) (x : Aspect) → place < length p →
+    ((k : ℕ) → k < place → aspect_of (get_or letters k 0) ≡ Some (get_or p k Red)) →
     aspect_of (get_or letters place 0) ≡ Some x → (k : ℕ) → k < place + 1 → aspect_of (get_or letters k 0) ≡ Some (get_or (set p place x) k Red)
 one_more letters p place x inside each here k lt = elim (cases_eq k place) [
   | inl same ↦ rw (get_or-set_at p place k x Red same inside, same) here
@@ -95,7 +96,8 @@ is_empty_is (b ∷ bs) = sym (ne_eqb (length (b ∷ bs)) 0 (λ e. omega (arith, 
 pub header_is : (names : List (List ℕ)) (line rest : List ℕ) → strip (codes "VAPLOG 1") line ≡ Some rest →
     is_header names line ≡ all_stripped (strip (flat_map spaced names) rest)
 unfolding header_line
-header_is names line rest some = same_by_strip (header_line names) line ∙ ap all_stripped (stripped_some (codes "VAPLOG 1") (flat_map spaced names) line rest some)
+header_is names line rest some = same_by_strip (header_line names) line ∙
+    ap all_stripped (stripped_some (codes "VAPLOG 1") (flat_map spaced names) line rest some)
 
 pub no_kind : (names : List (List ℕ)) (line : List ℕ) → strip (codes "VAPLOG 1") line ≡ None → is_header names line ≡ false
 unfolding header_line
@@ -113,7 +115,8 @@ no_name names g rest lt none =
     rw (drop-cons names g [] lt) (stripped_none (spaced (get_or names g [])) (flat_map spaced (drop (suc g) names)) rest none)
 
 -- all names were found
-pub all_names : (names : List (List ℕ)) (g : ℕ) (rest : List ℕ) → length names ≤ g → all_stripped (strip (flat_map spaced (drop g names)) rest) ≡ (length rest == 0)
+pub all_names : (names : List (List ℕ)) (g : ℕ) (rest : List ℕ) → length names ≤ g →
+    all_stripped (strip (flat_map spaced (drop g names)) rest) ≡ (length rest == 0)
 all_names names g rest le = rw (drop_all g names le) (is_empty_is rest)
 
 -- a record, cut part by part
@@ -130,7 +133,8 @@ pub no_letters : (groups k : ℕ) (line rest x after : List ℕ) → strip (deci
 unfolding picture_in
 no_letters groups k line rest x after some stage none = rw (some, stage, none) refl
 
-pub in_letters : (groups k : ℕ) (line rest x after letters more : List ℕ) → strip (decimal k ++ codes "|") line ≡ Some rest → cut_at 124 rest ≡ Some (x, after) →
+pub in_letters : (groups k : ℕ) (line rest x after letters more : List ℕ) → strip (decimal k ++ codes "|") line ≡ Some rest →
+    cut_at 124 rest ≡ Some (x, after) →
     cut_at 124 after ≡ Some (letters, more) → picture_in groups k line ≡ picture_of groups letters
 unfolding picture_in
 in_letters groups k line rest x after letters more some stage cut = rw (some, stage, cut) refl

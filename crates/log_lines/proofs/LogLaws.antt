@@ -25,7 +25,8 @@ stops_end names lines ps tell = record { read = tell.0; here = tell.1; at_end = 
 stops_at : (names lines : List (List ℕ)) (ps : List Picture) (a : ℕ × LogWhy) → LinesTell names lines ps (Some a) → Stops names lines ps (a.0 - 1) (Some a.1)
 stops_at names lines ps a tell = record { read = tell.0; here = tell.1; at_end = λ e. absurd (never a.1 e) }
 
-not_before : (names lines : List (List ℕ)) (ps qs : List Picture) (n m : ℕ) (a b : Option LogWhy) → Stops names lines ps n a → Stops names lines qs m b → n < m → ⊥
+not_before : (names lines : List (List ℕ)) (ps qs : List Picture) (n m : ℕ) (a b : Option LogWhy) → Stops names lines ps n a →
+    Stops names lines qs m b → n < m → ⊥
 not_before names lines ps qs n m a b s t lt =
     let inside : n < length lines = omega (arith, t.read.inside) in
     let none : reason_at names lines n ≡ None = rw (lt-ltb n (length lines) inside) (t.read.accepted n lt) in
@@ -49,13 +50,15 @@ same_pictures names lines ps qs n m same p q =
     ext_get_or [] ps qs (omega (arith, p.count, q.count, same)) (λ i lt. some_is (get_or ps i []) (get_or qs i [])
     (sym (p.pictures_are i lt) ∙ q.pictures_are i (omega (arith, p.count, q.count, same))))
 
-same_reason : (names lines : List (List ℕ)) (ps qs : List Picture) (n m : ℕ) (a b : Option LogWhy) → n ≡ m → Stops names lines ps n a → Stops names lines qs m b → a ≡ b
+same_reason : (names lines : List (List ℕ)) (ps qs : List Picture) (n m : ℕ) (a b : Option LogWhy) → n ≡ m → Stops names lines ps n a →
+    Stops names lines qs m b → a ≡ b
 same_reason names lines ps qs n m a b same s t = sym s.here ∙ ap (reason_at names lines) same ∙ t.here
 
 some_why : (v w : LogWhy) → Some v ≡ Some w → v ≡ w
 some_why v w e = cc
 
-tell_one : (names lines : List (List ℕ)) (ps qs : List Picture) (r s : Option (ℕ × LogWhy)) → LinesTell names lines ps r → LinesTell names lines qs s → (ps ≡ qs) × (r ≡ s)
+tell_one : (names lines : List (List ℕ)) (ps qs : List Picture) (r s : Option (ℕ × LogWhy)) → LinesTell names lines ps r → LinesTell names lines qs s
+    → (ps ≡ qs) × (r ≡ s)
 tell_one names lines ps qs None None p q = (same_pictures names lines ps qs _ _ refl p.0 q.0, refl)
 tell_one names lines ps qs None (Some b) p q =
     let s = stops_end names lines ps p in
@@ -73,11 +76,13 @@ tell_one names lines ps qs (Some a) (Some b) p q =
     let reason : a.1 ≡ b.1 = some_why a.1 b.1 (same_reason names lines ps qs _ _ _ _ place s t) in
     (same_pictures names lines ps qs _ _ place p.0 q.0, ap (λ (n : ℕ). Some (n, a.1)) number ∙ ap (λ (w : LogWhy). Some (b.0, w)) reason)
 
-pub one_answer : (names : List (List ℕ)) (bytes : List ℕ) (ps qs : List Picture) (r s : Option (ℕ × LogWhy)) → IsLog names bytes ps r → IsLog names bytes qs s → (ps ≡ qs) × (r ≡ s)
+pub one_answer : (names : List (List ℕ)) (bytes : List ℕ) (ps qs : List Picture) (r s : Option (ℕ × LogWhy)) → IsLog names bytes ps r →
+    IsLog names bytes qs s → (ps ≡ qs) × (r ≡ s)
 one_answer names bytes ps qs r s p q = tell_one names (fed_lines bytes) ps qs r s p q
 
 -- an accepted record has a picture
-has_picture : (names : List (List ℕ)) (k : ℕ) (line : List ℕ) → 1 ≤ k → line_reason names k line ≡ None → (p : Picture) × (picture_in (length names) k line ≡ Some p)
+has_picture : (names : List (List ℕ)) (k : ℕ) (line : List ℕ) → 1 ≤ k → line_reason names k line ≡ None → (p : Picture)
+    × (picture_in (length names) k line ≡ Some p)
 has_picture names k line some none = elim (cases_lt k 604802) [
   | inr many ↦ absurd (never why.TooManySeconds (sym (too_many names k line many) ∙ none))
   | inl few ↦ elim (cases_lt 262144 (length line)) [
@@ -86,7 +91,8 @@ has_picture names k line some none = elim (cases_lt k 604802) [
   ]
 ]
   where
-    by_picture : (o : Option Picture) → picture_in (length names) k line ≡ o → form_reason names k line ≡ None → (p : Picture) × (picture_in (length names) k line ≡ Some p)
+    by_picture : (o : Option Picture) → picture_in (length names) k line ≡ o → form_reason names k line ≡ None → (p : Picture)
+        × (picture_in (length names) k line ≡ Some p)
     by_picture None is form = absurd (never why.Line (sym (record_form names k line None some is) ∙ form))
     by_picture (Some p) is form = (p, is)
 
@@ -94,7 +100,8 @@ has_picture names k line some none = elim (cases_lt k 604802) [
 abbrev SoFar : List (List ℕ) → List (List ℕ) → ℕ → Type 0
 SoFar names lines n = ((p : List Picture) × HasPictures names lines n p) ⊎ ((p : List Picture) × ((r : Option (ℕ × LogWhy)) × LinesTell names lines p r))
 
-step_more : (names lines : List (List ℕ)) (n : ℕ) (ps : List Picture) → n < length lines → HasPictures names lines n ps → (o : Option LogWhy) → line_reason names n (line_at lines n) ≡ o →
+step_more : (names lines : List (List ℕ)) (n : ℕ) (ps : List Picture) → n < length lines → HasPictures names lines n ps → (o : Option LogWhy) →
+    line_reason names n (line_at lines n) ≡ o →
     SoFar names lines (n + 1)
 step_more names lines n ps inside read (Some w) is = inr (ps, (Some (n + 1, w), refused_line names lines n ps w read inside is))
 step_more names lines zero ps inside read None is = inl (ps, header_read names lines ps read inside is)
@@ -105,7 +112,8 @@ step_more names lines (suc n) ps inside read None is =
 so_far : (names lines : List (List ℕ)) (n : ℕ) → n ≤ length lines → SoFar names lines n
 so_far names lines zero le = inl ([], none_read names lines)
 so_far names lines (suc n) le = elim (so_far names lines n (omega arith)) [
-  | inl read ↦ (let more : n + 1 ≡ suc n = omega arith in rw more at (step_more names lines n read.0 (omega arith) read.1 (line_reason names n (line_at lines n)) refl))
+  | inl read ↦ (let more : n + 1 ≡ suc n = omega arith in
+      rw more at (step_more names lines n read.0 (omega arith) read.1 (line_reason names n (line_at lines n)) refl))
   | inr told ↦ inr told
 ]
 

@@ -98,7 +98,8 @@ none_read names lines = record {
   pictures_are = λ k lt. absurd (omega arith);
 }
 
-one_accepted : (names lines : List (List ℕ)) (n : ℕ) → ((k : ℕ) → k < n → line_reason names k (line_at lines k) ≡ None) → line_reason names n (line_at lines n) ≡ None →
+one_accepted : (names lines : List (List ℕ)) (n : ℕ) → ((k : ℕ) → k < n → line_reason names k (line_at lines k) ≡ None) →
+    line_reason names n (line_at lines n) ≡ None →
     (k : ℕ) → k < n + 1 → line_reason names k (line_at lines k) ≡ None
 one_accepted names lines n before here k lt = elim (cases_eq k n) [
   | inl same ↦ rw same here
@@ -106,7 +107,8 @@ one_accepted names lines n before here k lt = elim (cases_eq k n) [
 ]
 
 -- the header is accepted
-pub header_read : (names lines : List (List ℕ)) (pictures : List Picture) → HasPictures names lines 0 pictures → 0 < length lines → line_reason names 0 (line_at lines 0) ≡ None →
+pub header_read : (names lines : List (List ℕ)) (pictures : List Picture) → HasPictures names lines 0 pictures → 0 < length lines →
+    line_reason names 0 (line_at lines 0) ≡ None →
     HasPictures names lines 1 pictures
 header_read names lines pictures read some right = record {
   inside = omega arith;
@@ -116,7 +118,8 @@ header_read names lines pictures read some right = record {
 }
 
 -- one record more is accepted
-pub record_read : (names lines : List (List ℕ)) (n : ℕ) (pictures : List Picture) (p : Picture) → HasPictures names lines n pictures → 1 ≤ n → n < length lines →
+pub record_read : (names lines : List (List ℕ)) (n : ℕ) (pictures : List Picture) (p : Picture) → HasPictures names lines n pictures → 1 ≤ n →
+    n < length lines →
     line_reason names n (line_at lines n) ≡ None → picture_in (length names) n (line_at lines n) ≡ Some p → HasPictures names lines (n + 1) (pictures ++ p ∷ [])
 record_read names lines n pictures p read some inside right is = record {
   inside = omega arith;
@@ -139,11 +142,13 @@ refused_line names lines n pictures why read inside wrong =
     (rw back read, rw (back, lt-ltb n (length lines) inside) wrong, omega arith)
 
 -- no line is left after the header
-pub ended : (names lines : List (List ℕ)) (n : ℕ) (pictures : List Picture) → HasPictures names lines n pictures → length lines ≤ n → 1 ≤ n → LinesTell names lines pictures None
+pub ended : (names lines : List (List ℕ)) (n : ℕ) (pictures : List Picture) → HasPictures names lines n pictures → length lines ≤ n → 1 ≤ n →
+    LinesTell names lines pictures None
 ended names lines n pictures read all some =
     let whole : n ≡ length lines = omega (arith, read.inside) in
     (rw whole at read, rw (le-ltb (length lines) (length lines) (omega arith), ne_eqb (length lines) 0 (λ e. omega (arith, e))) refl)
 
 -- there is no line
-pub no_header : (names lines : List (List ℕ)) (pictures : List Picture) → HasPictures names lines 0 pictures → length lines ≤ 0 → LinesTell names lines pictures (Some (1, why.Header))
+pub no_header : (names lines : List (List ℕ)) (pictures : List Picture) → HasPictures names lines 0 pictures → length lines ≤ 0 →
+    LinesTell names lines pictures (Some (1, why.Header))
 no_header names lines pictures read none = (read, rw (le-ltb 0 (length lines) none) refl, omega arith)

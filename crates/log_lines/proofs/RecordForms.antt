@@ -46,7 +46,8 @@ cut_is stop (b ∷ bs) front rest e = cut_step stop b bs front rest (nat_eq b st
         IsCutAt stop (b ∷ bs) front rest
     cut_step stop b bs front rest true same o inner is =
         let parts = some_cut ([], bs) (front, rest) is in
-        rw (← ap (λ (p : List ℕ × List ℕ). p.0) parts, ← ap (λ (p : List ℕ × List ℕ). p.1) parts, eqb-true b stop same) record { whole = refl; none = all_none stop }
+        rw (← ap (λ (p : List ℕ × List ℕ). p.0) parts, ← ap (λ (p : List ℕ × List ℕ). p.1) parts, eqb-true b stop same) record
+        { whole = refl; none = all_none stop }
     cut_step stop b bs front rest false other None inner is = absurd cc
     cut_step stop b bs front rest false other (Some p) inner is =
         let parts = some_cut (b ∷ p.0, p.1) (front, rest) is in
@@ -89,12 +90,14 @@ letter_is b x e = first (b == 82) refl e
     third true is e = rw (← some_aspect Green x e) (eqb-true b 71 is)
     third false is e = last (b == 65) refl e
 
-    second : (t : Bool) → (b == 85) ≡ t → (if t then Some RedAmber else if b == 71 then Some Green else if b == 65 then Some Amber else None) ≡ Some x → b ≡ letter x
+    second : (t : Bool) → (b == 85) ≡ t → (if t then Some RedAmber else if b == 71 then Some Green else if b == 65 then Some Amber else None) ≡ Some
+        x → b ≡ letter x
     second true is e = rw (← some_aspect RedAmber x e) (eqb-true b 85 is)
     second false is e = third (b == 71) refl e
 
     first : (t : Bool) → (b == 82) ≡ t →
-        (if t then Some Red else if b == 85 then Some RedAmber else if b == 71 then Some Green else if b == 65 then Some Amber else None) ≡ Some x → b ≡ letter x
+        (if t then Some Red else if b == 85 then Some RedAmber else if b == 71 then Some Green else if b == 65 then Some Amber else None) ≡ Some x →
+        b ≡ letter x
     first true is e = rw (← some_aspect Red x e) (eqb-true b 82 is)
     first false is e = second (b == 85) refl e
 
@@ -105,7 +108,8 @@ pub spelled_is : (letters : List ℕ) (p : Picture) → spelled letters ≡ Some
 spelled_is [] p e = rw (← some_picture [] p e) refl
 spelled_is (b ∷ bs) p e = spell_step b bs p (aspect_of b) refl (spelled bs) (λ q more. spelled_is bs q more) e
   where
-    spell_step : (b : ℕ) (bs : List ℕ) (p : Picture) (a : Option Aspect) → aspect_of b ≡ a → (o : Option Picture) → ((q : Picture) → o ≡ Some q → bs ≡ map letter q) →
+    spell_step : (b : ℕ) (bs : List ℕ) (p : Picture) (a : Option Aspect) → aspect_of b ≡ a → (o : Option Picture) →
+        ((q : Picture) → o ≡ Some q → bs ≡ map letter q) →
         shown_first (option_zip a o) ≡ Some p → b ∷ bs ≡ map letter p
     spell_step b bs p None is o inner e = absurd cc
     spell_step b bs p (Some x) is None inner e = absurd cc
@@ -131,7 +135,8 @@ regrouped a x m more =
     ∙ append_assoc (a ++ x) (codes "|") (m ++ (codes "|" ++ more))
     ∙ append_assoc a x (codes "|" ++ (m ++ (codes "|" ++ more)))
 
-joined : (k : ℕ) (line rest x after letters more : List ℕ) (p : Picture) → line ≡ (decimal k ++ codes "|") ++ rest → rest ≡ x ++ 124 ∷ after → after ≡ letters ++ 124 ∷ more →
+joined : (k : ℕ) (line rest x after letters more : List ℕ) (p : Picture) → line ≡ (decimal k ++ codes "|") ++ rest → rest ≡ x ++ 124 ∷ after →
+    after ≡ letters ++ 124 ∷ more →
     letters ≡ map letter p → line ≡ decimal k ++ codes "|" ++ x ++ codes "|" ++ map letter p ++ codes "|" ++ more
 joined k line rest x after letters more p one two three four = rw (one, two, three, four) (sym (regrouped (decimal k ++ codes "|") x (map letter p) more))
 
@@ -140,7 +145,8 @@ pub record_parts : (groups k : ℕ) (line : List ℕ) (p : Picture) → picture_
 unfolding picture_in
 record_parts groups k line p e = from_number (strip (decimal k ++ codes "|") line) refl e
   where
-    from_letters : (rest x after : List ℕ) → strip (decimal k ++ codes "|") line ≡ Some rest → cut_at 124 rest ≡ Some (x, after) → (o : Option (List ℕ × List ℕ)) → cut_at 124 after ≡ o →
+    from_letters : (rest x after : List ℕ) → strip (decimal k ++ codes "|") line ≡ Some rest → cut_at 124 rest ≡ Some (x, after) →
+        (o : Option (List ℕ × List ℕ)) → cut_at 124 after ≡ o →
         option_and_then (picture_of groups) (option_map (λ q. q.0) o) ≡ Some p → BeginsRecord groups k line p
     from_letters rest x after number stage None cut e = absurd cc
     from_letters rest x after number stage (Some q) cut e =
@@ -169,7 +175,8 @@ record_parts groups k line p e = from_number (strip (decimal k ++ codes "|") lin
 pub record_again : (groups k : ℕ) (line : List ℕ) (p : Picture) → BeginsRecord groups k line p → picture_in groups k line ≡ Some p
 record_again groups k line p begins =
     let after : List ℕ = map letter p ++ 124 ∷ begins.rest in
-    let whole : line ≡ (decimal k ++ codes "|") ++ (begins.x ++ 124 ∷ after) = begins.text ∙ regrouped (decimal k ++ codes "|") begins.x (map letter p) begins.rest in
+    let whole : line ≡ (decimal k ++ codes "|") ++ (begins.x ++ 124 ∷ after) = begins.text ∙
+    regrouped (decimal k ++ codes "|") begins.x (map letter p) begins.rest in
     let number : strip (decimal k ++ codes "|") line ≡ Some (begins.x ++ 124 ∷ after) =
     ap (strip (decimal k ++ codes "|")) whole ∙ strip_again (decimal k ++ codes "|") (begins.x ++ 124 ∷ after) in
     in_letters groups k line (begins.x ++ 124 ∷ after) begins.x after (map letter p) begins.rest number (cut_again 124 begins.x after begins.no_bar)

@@ -25,14 +25,16 @@ picture_behind : (k : ℕ) (line : List ℕ) → k < 10 → picture_in 2 k line 
 unfolding picture_in
 picture_behind k line few = rw (decimal_digit k few) refl
 
-right_behind : (k : ℕ) (line : List ℕ) (p : Picture) → 1 ≤ k → k < 10 → length line ≤ 262144 → behind ((48 + k) ∷ []) line ≡ Some p → line_reason names k line ≡ None
+right_behind : (k : ℕ) (line : List ℕ) (p : Picture) → 1 ≤ k → k < 10 → length line ≤ 262144 → behind ((48 + k) ∷ []) line ≡ Some p →
+    line_reason names k line ≡ None
 right_behind k line p some few short is = record_right names k line p some (omega arith) short (picture_behind k line few ∙ is)
 
 wrong_behind : (k : ℕ) (line : List ℕ) → 1 ≤ k → k < 10 → length line ≤ 262144 → behind ((48 + k) ∷ []) line ≡ None → line_reason names k line ≡ Some Line
 wrong_behind k line some few short is = record_wrong names k line some (omega arith) short (picture_behind k line few ∙ is)
 
 -- a log whose first, second or third line is refused, and one that ends after its first record
-refused_first : (lines : List (List ℕ)) (w : LogWhy) → 0 < length lines → line_reason names 0 (line_at lines 0) ≡ Some w → LinesTell names lines [] (Some (1, w))
+refused_first : (lines : List (List ℕ)) (w : LogWhy) → 0 < length lines → line_reason names 0 (line_at lines 0) ≡ Some w →
+    LinesTell names lines [] (Some (1, w))
 refused_first lines w some wrong = refused_line names lines 0 [] w (none_read names lines) some wrong
 
 refused_second : (lines : List (List ℕ)) → 1 < length lines → line_reason names 0 (line_at lines 0) ≡ None → length (line_at lines 1) ≤ 262144 →
@@ -48,9 +50,11 @@ first_read lines p some right short is =
     (right_behind 1 (line_at lines 1) p (omega arith) (omega arith) short is) (picture_behind 1 (line_at lines 1) (omega arith) ∙ is)
 
 after_one : (lines : List (List ℕ)) (p : Picture) → 2 < length lines → line_reason names 0 (line_at lines 0) ≡ None → length (line_at lines 1) ≤ 262144 →
-    behind (codes "1") (line_at lines 1) ≡ Some p → length (line_at lines 2) ≤ 262144 → behind (codes "2") (line_at lines 2) ≡ None → LinesTell names lines (p ∷ []) (Some (3, Line))
+    behind (codes "1") (line_at lines 1) ≡ Some p → length (line_at lines 2) ≤ 262144 → behind (codes "2") (line_at lines 2) ≡ None →
+    LinesTell names lines (p ∷ []) (Some (3, Line))
 after_one lines p some right short is short' wrong =
-    refused_line names lines 2 (p ∷ []) Line (first_read lines p (omega arith) right short is) some (wrong_behind 2 (line_at lines 2) (omega arith) (omega arith) short' wrong)
+    refused_line names lines 2 (p ∷ []) Line (first_read lines p (omega arith) right short is) some
+    (wrong_behind 2 (line_at lines 2) (omega arith) (omega arith) short' wrong)
 
 one_record : (lines : List (List ℕ)) (p : Picture) → length lines ≡ 2 → line_reason names 0 (line_at lines 0) ≡ None → length (line_at lines 1) ≤ 262144 →
     behind (codes "1") (line_at lines 1) ≡ Some p → LinesTell names lines (p ∷ []) None

@@ -26,7 +26,8 @@ long_taken k text why long is = record {
 }
 
 -- a line after the most that a log has
-pub many_taken : (k : ℕ) (text bytes : List ℕ) (new : LineReader) → 604802 ≤ k → LineIsRead text new bytes true → FirstIsWrong k (fed_lines text) why.TooManySeconds
+pub many_taken : (k : ℕ) (text bytes : List ℕ) (new : LineReader) → 604802 ≤ k → LineIsRead text new bytes true →
+    FirstIsWrong k (fed_lines text) why.TooManySeconds
 many_taken k text bytes new many read = record {
   line = line_of new;
   rest = fed_lines (unread_bytes new bytes);
@@ -36,7 +37,8 @@ many_taken k text bytes new many read = record {
 
 -- the line that was taken is refused whatever the groups are
 pub step_wrong : (names : List (List ℕ)) (bytes : List ℕ) (n : ℕ) (pictures : List Picture) (text : List ℕ) (new : LineReader) (refusal : LogRefusal) →
-    fed_lines text ≡ drop n (fed_lines bytes) → HasPictures names (fed_lines bytes) n pictures → LineIsTaken n text new bytes (Err refusal) → Refuses names bytes pictures refusal
+    fed_lines text ≡ drop n (fed_lines bytes) → HasPictures names (fed_lines bytes) n pictures → LineIsTaken n text new bytes (Err refusal) →
+    Refuses names bytes pictures refusal
 step_wrong names bytes n pictures text new Fault rest read taken = tt
 step_wrong names bytes n pictures text new (At line why) rest read taken =
     let head = head_at (fed_lines bytes) n taken.1.line taken.1.rest (sym rest ∙ taken.1.first) in
@@ -50,7 +52,8 @@ step_refused names bytes n pictures text x more why rest read next wrong =
     let head = head_at (fed_lines bytes) n x more (sym rest ∙ next) in
     refused_line names (fed_lines bytes) n pictures why read head.inside (rw head.here wrong)
 
-pub bad_header : (names : List (List ℕ)) (n : ℕ) (line : List ℕ) → n ≤ 0 → length line ≤ 262144 → is_header names line ≡ false → line_reason names n line ≡ Some why.Header
+pub bad_header : (names : List (List ℕ)) (n : ℕ) (line : List ℕ) → n ≤ 0 → length line ≤ 262144 → is_header names line ≡ false →
+    line_reason names n line ≡ Some why.Header
 bad_header names n line zero short is = let none : n ≡ 0 = omega arith in rw none (header_wrong names line short is)
 
 all_left : (bytes text : List ℕ) (n : ℕ) → fed_lines text ≡ drop n (fed_lines bytes) → text ≡ [] → length (fed_lines bytes) ≤ n
@@ -59,7 +62,8 @@ all_left bytes text n rest none =
     omega (arith, length-drop n (fed_lines bytes), ap length gone)
 
 -- no line was left for the header
-pub step_no_header : (names : List (List ℕ)) (bytes : List ℕ) (n : ℕ) (pictures : List Picture) (text : List ℕ) → n ≤ 0 → fed_lines text ≡ drop n (fed_lines bytes) →
+pub step_no_header : (names : List (List ℕ)) (bytes : List ℕ) (n : ℕ) (pictures : List Picture) (text : List ℕ) → n ≤ 0 →
+    fed_lines text ≡ drop n (fed_lines bytes) →
     HasPictures names (fed_lines bytes) n pictures → text ≡ [] → IsLog names bytes pictures (Some (n + 1, why.Header))
 step_no_header names bytes n pictures text zero rest read gone =
     let none : n ≡ 0 = omega arith in
@@ -67,7 +71,8 @@ step_no_header names bytes n pictures text zero rest read gone =
     rw none (no_header names (fed_lines bytes) pictures (rw none at read) (omega (arith, left)))
 
 -- no line was left after the header
-pub step_ended : (names : List (List ℕ)) (bytes : List ℕ) (n : ℕ) (pictures : List Picture) (text : List ℕ) → 1 ≤ n → fed_lines text ≡ drop n (fed_lines bytes) →
+pub step_ended : (names : List (List ℕ)) (bytes : List ℕ) (n : ℕ) (pictures : List Picture) (text : List ℕ) → 1 ≤ n →
+    fed_lines text ≡ drop n (fed_lines bytes) →
     HasPictures names (fed_lines bytes) n pictures → text ≡ [] → IsLog names bytes pictures None
 step_ended names bytes n pictures text some rest read gone =
     ended names (fed_lines bytes) n pictures read (all_left bytes text n rest gone) some
@@ -78,7 +83,8 @@ pub record GoesOn (names : List (List ℕ)) (bytes : List ℕ) (n : ℕ) (pictur
   pub accepted : HasPictures names (fed_lines bytes) n pictures
 
 pub step_header : (names : List (List ℕ)) (bytes : List ℕ) (n : ℕ) (pictures : List Picture) (text x : List ℕ) (more : List (List ℕ)) → n ≤ 0 →
-    fed_lines text ≡ drop n (fed_lines bytes) → HasPictures names (fed_lines bytes) n pictures → fed_lines text ≡ x ∷ more → length x ≤ 262144 → is_header names x ≡ true →
+    fed_lines text ≡ drop n (fed_lines bytes) → HasPictures names (fed_lines bytes) n pictures → fed_lines text ≡ x ∷ more → length x ≤ 262144 →
+    is_header names x ≡ true →
     GoesOn names bytes 1 pictures more
 step_header names bytes n pictures text x more zero rest read next short is =
     let none : n ≡ 0 = omega arith in
@@ -88,14 +94,16 @@ step_header names bytes n pictures text x more zero rest read next short is =
       accepted = header_read names (fed_lines bytes) pictures (rw none at read) head.inside (rw head.here (header_right names x short is));
     }
 
-pub step_record : (names : List (List ℕ)) (bytes : List ℕ) (n : ℕ) (pictures : List Picture) (text x : List ℕ) (more : List (List ℕ)) (p : Picture) → 1 ≤ n → n < 604802 →
+pub step_record : (names : List (List ℕ)) (bytes : List ℕ) (n : ℕ) (pictures : List Picture) (text x : List ℕ) (more : List (List ℕ)) (p : Picture) →
+    1 ≤ n → n < 604802 →
     fed_lines text ≡ drop n (fed_lines bytes) → HasPictures names (fed_lines bytes) n pictures → fed_lines text ≡ x ∷ more → length x ≤ 262144 →
     picture_in (length names) n x ≡ Some p → GoesOn names bytes (n + 1) (pictures ++ p ∷ []) more
 step_record names bytes n pictures text x more p some few rest read next short is =
     let head = head_at (fed_lines bytes) n x more (sym rest ∙ next) in
     record {
       rest = sym head.after;
-      accepted = record_read names (fed_lines bytes) n pictures p read some head.inside (rw head.here (record_right names n x p some few short is)) (rw head.here is);
+      accepted = record_read names (fed_lines bytes) n pictures p read some head.inside (rw head.here (record_right names n x p some few short is))
+          (rw head.here is);
     }
 
 pub still : (names : List (List ℕ)) (bytes : List ℕ) (pictures : List Picture) (r s : LogLines) → s.reader ≡ r.reader → s.lines ≡ r.lines →
@@ -107,6 +115,7 @@ pub again : (names : List (List ℕ)) (bytes : List ℕ) (pictures : List Pictur
     s.reader ≡ r.reader → s.lines ≡ r.lines → s.picture ≡ r.picture → IsNext names bytes pictures r result → IsNext names bytes pictures s result
 unfolding Reads picture_shown
 again names bytes pictures r s (Ok true) same_reader same_lines same_picture next =
-    subst (λ (p : Picture). HasRead s names bytes (pictures ++ p ∷ [])) (sym same_picture) (still names bytes (pictures ++ r.picture ∷ []) r s same_reader same_lines next)
+    subst (λ (p : Picture). HasRead s names bytes (pictures ++ p ∷ [])) (sym same_picture)
+    (still names bytes (pictures ++ r.picture ∷ []) r s same_reader same_lines next)
 again names bytes pictures r s (Ok false) same_reader same_lines same_picture next = (next.0, still names bytes pictures r s same_reader same_lines next.1)
 again names bytes pictures r s (Err refusal) same_reader same_lines same_picture next = next

@@ -29,7 +29,8 @@ number_is ws false some is = tt
 stage_is : (ws : List Text) (f : Form) (w : Text) → FormIs f ws → FormIs (stage_form f w) ws
 stage_is ws f w p = pick ws (is_stage_word w) f form.NoForm p tt
 
-ends_is : (a b c : Text) (t : Bool) → (is_name a && is_some (signed_of b) && is_some (signed_of c)) ≡ t → FormIs (if t then form.Ends else form.NoForm) (a ∷ b ∷ c ∷ [])
+ends_is : (a b c : Text) (t : Bool) → (is_name a && is_some (signed_of b) && is_some (signed_of c)) ≡ t →
+    FormIs (if t then form.Ends else form.NoForm) (a ∷ b ∷ c ∷ [])
 ends_is a b c true is =
     let one = and_parts (is_name a && is_some (signed_of b)) (is_some (signed_of c)) is in
     let two = and_parts (is_name a) (is_some (signed_of b)) one.0 in
@@ -47,7 +48,8 @@ two_is a b =
 three_is : (a b c : Text) → FormIs (form_of_three a b c) (a ∷ b ∷ c ∷ [])
 unfolding form_of_three
 three_is a b c =
-    pick _ (same_name a (codes "length")) _ _ (pick _ (same_name b (codes "[s]")) _ form.NoForm (number_is (a ∷ b ∷ c ∷ []) (is_some (number_of c)) (omega arith) refl) tt)
+    pick _ (same_name a (codes "length")) _ _
+    (pick _ (same_name b (codes "[s]")) _ form.NoForm (number_is (a ∷ b ∷ c ∷ []) (is_some (number_of c)) (omega arith) refl) tt)
     (pick _ (same_name a (codes "from") && same_name b (codes "stage")) _ _ (stage_is (a ∷ b ∷ c ∷ []) form.From c (omega arith))
     (pick _ (same_name a (codes "to") && same_name b (codes "stage")) _ _ (stage_is (a ∷ b ∷ c ∷ []) form.To c (omega arith))
     (pick _ (same_name a (codes "interstage") && same_name b (codes "number")) form.Number _ tt (ends_is a b c _ refl))))

@@ -26,13 +26,16 @@ names_put g (h ∷ hs) is all = go (nat_lt g.number h.number) (names_put g hs is
     go true e = and_from (is_name g.name) (are_names (map (λ g. g.name) (h ∷ hs))) is all
     go false e = and_from (is_name h.name) (are_names (map (λ g. g.name) (put g hs))) (and_parts (is_name h.name) (are_names (map (λ g. g.name) hs)) all).0 e
 
-stands_put : (m : List ℕ) (g : Group) (gs : List Group) → same_name g.name m ≡ false → stands_in m (map (λ g. g.name) gs) ≡ false → stands_in m (map (λ g. g.name) (put g gs)) ≡ false
+stands_put : (m : List ℕ) (g : Group) (gs : List Group) → same_name g.name m ≡ false → stands_in m (map (λ g. g.name) gs) ≡ false →
+    stands_in m (map (λ g. g.name) (put g gs)) ≡ false
 stands_put m g [] ne free = or_from (same_name g.name m) false ne refl
-stands_put m g (h ∷ hs) ne free = go (nat_lt g.number h.number) (stands_put m g hs ne (or_parts (same_name h.name m) (stands_in m (map (λ g. g.name) hs)) free).1)
+stands_put m g (h ∷ hs) ne free = go (nat_lt g.number h.number)
+    (stands_put m g hs ne (or_parts (same_name h.name m) (stands_in m (map (λ g. g.name) hs)) free).1)
   where
     go : (b : Bool) → stands_in m (map (λ g. g.name) (put g hs)) ≡ false → stands_in m (map (λ g. g.name) (if b then g ∷ h ∷ hs else h ∷ put g hs)) ≡ false
     go true e = or_from (same_name g.name m) (stands_in m (map (λ g. g.name) (h ∷ hs))) ne free
-    go false e = or_from (same_name h.name m) (stands_in m (map (λ g. g.name) (put g hs))) (or_parts (same_name h.name m) (stands_in m (map (λ g. g.name) hs)) free).0 e
+    go false e = or_from (same_name h.name m) (stands_in m (map (λ g. g.name) (put g hs)))
+        (or_parts (same_name h.name m) (stands_in m (map (λ g. g.name) hs)) free).0 e
 
 name_is_free : (groups : List Group) (w : List ℕ) → has_name groups w ≡ false → stands_in w (map (λ g. g.name) groups) ≡ false
 name_is_free [] w h = refl
@@ -40,7 +43,8 @@ name_is_free (g ∷ gs) w h =
     let both = or_parts (same_name g.name w) (has_name gs w) h in
     or_from (same_name g.name w) (stands_in w (map (λ g. g.name) gs)) both.0 (name_is_free gs w both.1)
 
-apart_put : (g : Group) (gs : List Group) → has_name gs g.name ≡ false → are_apart (map (λ g. g.name) gs) ≡ true → are_apart (map (λ g. g.name) (put g gs)) ≡ true
+apart_put : (g : Group) (gs : List Group) → has_name gs g.name ≡ false → are_apart (map (λ g. g.name) gs) ≡ true →
+    are_apart (map (λ g. g.name) (put g gs)) ≡ true
 apart_put g [] free apart = refl
 apart_put g (h ∷ hs) free apart = go (nat_lt g.number h.number) (apart_put g hs other.1 both.1)
   where
@@ -51,7 +55,8 @@ apart_put g (h ∷ hs) free apart = go (nat_lt g.number h.number) (apart_put g h
     other = or_parts (same_name h.name g.name) (has_name hs g.name) free
 
     go : (b : Bool) → are_apart (map (λ g. g.name) (put g hs)) ≡ true → are_apart (map (λ g. g.name) (if b then g ∷ h ∷ hs else h ∷ put g hs)) ≡ true
-    go true e = and_from (not (stands_in g.name (map (λ g. g.name) (h ∷ hs)))) (are_apart (map (λ g. g.name) (h ∷ hs))) (ap not (name_is_free (h ∷ hs) g.name free)) apart
+    go true e = and_from (not (stands_in g.name (map (λ g. g.name) (h ∷ hs)))) (are_apart (map (λ g. g.name) (h ∷ hs)))
+        (ap not (name_is_free (h ∷ hs) g.name free)) apart
     go false e = and_from (not (stands_in h.name (map (λ g. g.name) (put g hs)))) (are_apart (map (λ g. g.name) (put g hs)))
         (ap not (stands_put h.name g hs (same_turned g.name h.name ∙ other.0) (not-true (stands_in h.name (map (λ g. g.name) hs)) both.0))) e
 
@@ -69,10 +74,13 @@ above_put least g (h ∷ hs) lo hi free up = go (nat_lt g.number h.number) refl 
     other : ((h.number == g.number) ≡ false) × (has_number hs g.number ≡ false)
     other = or_parts (h.number == g.number) (has_number hs g.number) free
 
-    go : (b : Bool) → nat_lt g.number h.number ≡ b → (h.number < g.number → is_above h.number (map (λ g. g.number) (put g hs)) ≡ true) → is_above least (map (λ g. g.number) (if b then g ∷ h ∷ hs else h ∷ put g hs)) ≡ true
-    go true less more = and_from (nat_lt least g.number && nat_le g.number 255) (nat_lt g.number h.number && nat_le h.number 255 && is_above h.number (map (λ g. g.number) hs))
+    go : (b : Bool) → nat_lt g.number h.number ≡ b → (h.number < g.number → is_above h.number (map (λ g. g.number) (put g hs)) ≡ true) →
+        is_above least (map (λ g. g.number) (if b then g ∷ h ∷ hs else h ∷ put g hs)) ≡ true
+    go true less more = and_from (nat_lt least g.number && nat_le g.number 255)
+        (nat_lt g.number h.number && nat_le h.number 255 && is_above h.number (map (λ g. g.number) hs))
         (and_from (nat_lt least g.number) (nat_le g.number 255) (lt-ltb least g.number lo) (le-leb g.number 255 hi))
-        (and_from (nat_lt g.number h.number && nat_le h.number 255) (is_above h.number (map (λ g. g.number) hs)) (and_from (nat_lt g.number h.number) (nat_le h.number 255) less two.1) one.1)
+        (and_from (nat_lt g.number h.number && nat_le h.number 255) (is_above h.number (map (λ g. g.number) hs))
+        (and_from (nat_lt g.number h.number) (nat_le h.number 255) less two.1) one.1)
     go false past more =
         let le : h.number ≤ g.number = ltb-false g.number h.number past in
         let lt : h.number < g.number = grind (arith, nat_tests, other.0, le) in
@@ -86,7 +94,8 @@ numbered_name : (n : Text) (o : Option ℕ) (g : Group) → numbered n o ≡ Som
 numbered_name n None g e = cc
 numbered_name n (Some k) g e = ap name_of e
 
-one_name : (b : Bool) (n : Text) (place : ℕ) (g : Group) → is_name n ≡ b → (if b then Some (record { name = n; number = place }) else None) ≡ Some g → is_name g.name ≡ true
+one_name : (b : Bool) (n : Text) (place : ℕ) (g : Group) → is_name n ≡ b → (if b then Some (record { name = n; number = place }) else None) ≡ Some g
+    → is_name g.name ≡ true
 one_name true n place g is e = let same : n ≡ g.name = ap name_of e in rw (← same) is
 one_name false n place g is e = cc
 
@@ -127,7 +136,8 @@ refuses_none : (groups : List Group) → group_reasons groups None ≡ None → 
 unfolding group_reasons
 refuses_none groups e = cc
 
-with_row : (groups : List Group) (o : Option Group) → ((g : Group) → o ≡ Some g → is_name g.name ≡ true) → AreGroups groups → group_reasons groups o ≡ None → AreGroups (put_row o groups)
+with_row : (groups : List Group) (o : Option Group) → ((g : Group) → o ≡ Some g → is_name g.name ≡ true) → AreGroups groups →
+    group_reasons groups o ≡ None → AreGroups (put_row o groups)
 with_row groups None named legal none = absurd (refuses_none groups none)
 with_row groups (Some g) named legal none =
     let fit = accepted groups g none in

@@ -104,7 +104,8 @@ whole_by n stages (Some k) (Some s) (Some t) rows w hl ha hb size each e =
     let same : record { from = s.0; to = t.0; length = k; rows = rows } ≡ w = ap (interstage_or w) e in
     subst (λ (v : InterstageOf). IsWhole n stages v) same (record { at_least = hl.0; at_most = hl.1; from = ha; to = hb; rows = size; ends = each })
 
-pub whole_interstage : (n : ℕ) (stages : List Stage) (now : OpenInterstageOf) (w : InterstageOf) → IsOpen n stages now → interstage_of now ≡ Some w → IsWhole n stages w
+pub whole_interstage : (n : ℕ) (stages : List Stage) (now : OpenInterstageOf) (w : InterstageOf) → IsOpen n stages now → interstage_of now ≡ Some w →
+    IsWhole n stages w
 whole_interstage n stages now w is e = whole_by n stages now.length now.from now.to now.rows w is.seconds is.from is.to is.rows is.ends e
 
 none_inconsistent : (number : ℕ) (groups : List Group) (o : Option ℕ) → inconsistent_why number groups o ≡ None → o ≡ None
@@ -120,12 +121,14 @@ pub record Joined (groups : List Group) (stages : List Stage) (interstages : Lis
   pub new : has_pair w.from w.to interstages ≡ false
   pub consistent : (g : ℕ) → g < length groups → leads (get_or w.rows g None) (greens_in stages w.from g) (greens_in stages w.to g) w.length ≡ true
 
-joined : (groups : List Group) (stages : List Stage) (interstages : List InterstageOf) (w : InterstageOf) → interstage_reasons groups stages interstages (Some w) ≡ None → Joined groups stages interstages w
+joined : (groups : List Group) (stages : List Stage) (interstages : List InterstageOf) (w : InterstageOf) →
+    interstage_reasons groups stages interstages (Some w) ≡ None → Joined groups stages interstages w
 unfolding interstage_reasons
 joined groups stages interstages w none =
     let one = none_first (w.from == w.to) _ _ none in
     let two = none_first (has_pair w.from w.to interstages) _ _ one.1 in
-    let all = none_inconsistent (length interstages + 1) groups (first_inconsistent (length groups) stages w) (last_none (inconsistent_why (length interstages + 1) groups (first_inconsistent (length groups) stages w)) two.1) in
+    let all = none_inconsistent (length interstages + 1) groups (first_inconsistent (length groups) stages w)
+    (last_none (inconsistent_why (length interstages + 1) groups (first_inconsistent (length groups) stages w)) two.1) in
     record {
       apart = one.0;
       new = two.0;
@@ -135,13 +138,15 @@ joined groups stages interstages w none =
 joins_turned : (v w : InterstageOf) → joins v.from v.to w ≡ joins w.from w.to v
 joins_turned v w = rw (nat_turned w.from v.from, nat_turned w.to v.to) refl
 
-pair_push : (a b : ℕ) (interstages : List InterstageOf) (w : InterstageOf) → has_pair a b interstages ≡ false → joins a b w ≡ false → has_pair a b (interstages ++ w ∷ []) ≡ false
+pair_push : (a b : ℕ) (interstages : List InterstageOf) (w : InterstageOf) → has_pair a b interstages ≡ false → joins a b w ≡ false →
+    has_pair a b (interstages ++ w ∷ []) ≡ false
 pair_push a b [] w h ne = or_from (joins a b w) false ne refl
 pair_push a b (v ∷ vs) w h ne =
     let both = or_parts (joins a b v) (has_pair a b vs) h in
     or_from (joins a b v) (has_pair a b (vs ++ w ∷ [])) both.0 (pair_push a b vs w both.1 ne)
 
-pairs_push : (interstages : List InterstageOf) (w : InterstageOf) → are_pairs_apart interstages ≡ true → has_pair w.from w.to interstages ≡ false → are_pairs_apart (interstages ++ w ∷ []) ≡ true
+pairs_push : (interstages : List InterstageOf) (w : InterstageOf) → are_pairs_apart interstages ≡ true → has_pair w.from w.to interstages ≡ false →
+    are_pairs_apart (interstages ++ w ∷ []) ≡ true
 pairs_push [] w h new = refl
 pairs_push (v ∷ vs) w h new =
     let both = and_parts (not (has_pair v.from v.to vs)) (are_pairs_apart vs) h in
@@ -149,8 +154,10 @@ pairs_push (v ∷ vs) w h new =
     and_from (not (has_pair v.from v.to (vs ++ w ∷ []))) (are_pairs_apart (vs ++ w ∷ []))
     (ap not (pair_push v.from v.to vs w (not-true _ both.0) (joins_turned v w ∙ other.0))) (pairs_push vs w both.1 other.1)
 
-pub one_interstage_more : (groups : List Group) (stages : List Stage) (interstages : List InterstageOf) (w : InterstageOf) → AreInterstages (length groups) stages interstages → length interstages < 256 →
-    IsWhole (length groups) stages w → interstage_reasons groups stages interstages (Some w) ≡ None → AreInterstages (length groups) stages (interstages ++ w ∷ [])
+pub one_interstage_more : (groups : List Group) (stages : List Stage) (interstages : List InterstageOf) (w : InterstageOf) →
+    AreInterstages (length groups) stages interstages → length interstages < 256 →
+    IsWhole (length groups) stages w → interstage_reasons groups stages interstages (Some w) ≡ None →
+    AreInterstages (length groups) stages (interstages ++ w ∷ [])
 one_interstage_more groups stages interstages w legal room whole none =
     let fits = joined groups stages interstages w none in
     let new : Leads (length groups) stages w = record {
@@ -168,6 +175,7 @@ one_interstage_more groups stages interstages w legal room whole none =
       apart = pairs_push interstages w legal.apart fits.new;
       each = λ i lt. elim (cases_lt i (length interstages)) [
         | inl old ↦ rw (get_or_append_left interstages (w ∷ []) no_interstage i old) (legal.each i old)
-        | inr last ↦ (let here : length interstages ≡ i = omega (arith, length_push interstages w, lt, last) in rw (get_or_push interstages w no_interstage i here) new)
+        | inr last ↦ (let here : length interstages ≡ i = omega (arith, length_push interstages w, lt, last) in
+            rw (get_or_push interstages w no_interstage i here) new)
       ];
     }

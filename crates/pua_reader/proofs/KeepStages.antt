@@ -30,7 +30,8 @@ record StageFits (stages : List Stage) (name : Text) : Type 0 where
   pub free : has_stage_name stages name ≡ false
   pub room : length stages < 32
 
-stage_fits : (groups : List Group) (stages : List Stage) (name : Text) (named : List Text) → stage_reasons groups stages name named ≡ None → StageFits stages name
+stage_fits : (groups : List Group) (stages : List Stage) (name : Text) (named : List Text) → stage_reasons groups stages name named ≡ None →
+    StageFits stages name
 unfolding stage_reasons
 stage_fits groups stages name named none =
     let one = none_first (not (is_name name && list_all is_name named)) _ _ none in
@@ -57,7 +58,8 @@ one_stage_more : (groups : List Group) (stages : List Stage) (name : Text) (name
     AreStages (length groups) (stages ++ record { name = name; greens = greens_of groups named } ∷ [])
 one_stage_more groups stages name named legal fits =
     let new : Stage = record { name = name; greens = greens_of groups named } in
-    let split : map (λ (s : Stage). s.name) (stages ++ new ∷ []) ≡ map (λ (s : Stage). s.name) stages ++ name ∷ [] = map-append (λ (s : Stage). s.name) stages (new ∷ []) in
+    let split : map (λ (s : Stage). s.name) (stages ++ new ∷ []) ≡ map (λ (s : Stage). s.name) stages ++ name ∷ [] =
+    map-append (λ (s : Stage). s.name) stages (new ∷ []) in
     record {
       at_most = omega (arith, length_push stages new, fits.room);
       names = rw split (names_push (map (λ s. s.name) stages) name legal.names fits.is);
@@ -90,17 +92,20 @@ pub stages_grow : (groups : List Group) (stages : List Stage) (ws : List Text) �
 stages_grow groups stages [] = omega arith
 stages_grow groups stages (w ∷ ws) = grown_choice (is_red_word w) groups stages w ws
 
-pub still_stage : (stages more : List Stage) (o : Option StageNo) → length stages ≤ length more → IfSome o (λ s. IsStage stages s.0) → IfSome o (λ s. IsStage more s.0)
+pub still_stage : (stages more : List Stage) (o : Option StageNo) → length stages ≤ length more → IfSome o (λ s. IsStage stages s.0) →
+    IfSome o (λ s. IsStage more s.0)
 still_stage stages more None le h = tt
 still_stage stages more (Some s) le h = (h.0, omega (arith, h.1))
 
-numbered_stage : (stages : List Stage) (n : ℕ) (b : Bool) → (nat_le 1 n && nat_le n (length stages)) ≡ b → IfSome (if b then Some (record { 0 = n }) else None) (λ (s : StageNo). IsStage stages s.0)
+numbered_stage : (stages : List Stage) (n : ℕ) (b : Bool) → (nat_le 1 n && nat_le n (length stages)) ≡ b →
+    IfSome (if b then Some (record { 0 = n }) else None) (λ (s : StageNo). IsStage stages s.0)
 numbered_stage stages n true is =
     let both = and_parts (nat_le 1 n) (nat_le n (length stages)) is in
     (leb-true 1 n both.0, leb-true n (length stages) both.1)
 numbered_stage stages n false is = tt
 
-placed_stage : (stages : List Stage) (w : Text) (o : Option ℕ) → position (λ s. same_name s.name w) stages ≡ o → IfSome (stage_placed o) (λ s. IsStage stages s.0)
+placed_stage : (stages : List Stage) (w : Text) (o : Option ℕ) → position (λ s. same_name s.name w) stages ≡ o →
+    IfSome (stage_placed o) (λ s. IsStage stages s.0)
 placed_stage stages w None is = tt
 placed_stage stages w (Some p) is =
     let found = position-Some (λ (s : Stage). same_name s.name w) stages p (record { name = []; greens = [] }) is in

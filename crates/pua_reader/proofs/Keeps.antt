@@ -59,7 +59,8 @@ next_line_legal g legal = record {
 }
 
 -- a row, by the section in which it stands
-group_row_legal : (g : PlanDraftOf) (ws : List Text) → g.section ≡ section.Groups → Legal g → group_why g.groups ws ≡ None → Legal (record g { groups = groups_with g.groups ws })
+group_row_legal : (g : PlanDraftOf) (ws : List Text) → g.section ≡ section.Groups → Legal g → group_why g.groups ws ≡ None →
+    Legal (record g { groups = groups_with g.groups ws })
 group_row_legal g ws here legal none =
     let early : place_in_order g.section ≡ 1 = ap place_in_order here in
     record {
@@ -100,7 +101,8 @@ start_row_legal g ws legal = record {
   room = legal.room;
 }
 
-interstage_row_legal : (g : PlanDraftOf) (ws : List Text) → g.section ≡ section.Interstage → Legal g → interstage_row_why g.groups g.stages g.current ws ≡ None →
+interstage_row_legal : (g : PlanDraftOf) (ws : List Text) → g.section ≡ section.Interstage → Legal g →
+    interstage_row_why g.groups g.stages g.current ws ≡ None →
     Legal (record g { current = open_after g.groups g.stages g.current ws })
 interstage_row_legal g ws here legal none =
     let fourth : place_in_order g.section ≡ 4 = ap place_in_order here in
@@ -138,11 +140,13 @@ record IsClosed (g h : PlanDraftOf) : Type 0 where
   pub interstages : AreInterstages (length h.groups) h.stages h.interstages
   pub same : place_in_order g.section ≤ 3 → h.interstages ≡ g.interstages
 
-whole_of : (g : PlanDraftOf) (o : Option InterstageOf) → interstage_of g.current ≡ o → Legal g → place_in_order g.section ≡ 4 → interstage_reasons g.groups g.stages g.interstages o ≡ None →
+whole_of : (g : PlanDraftOf) (o : Option InterstageOf) → interstage_of g.current ≡ o → Legal g → place_in_order g.section ≡ 4 →
+    interstage_reasons g.groups g.stages g.interstages o ≡ None →
     AreInterstages (length g.groups) g.stages (interstages_with g.interstages o)
 whole_of g None is legal fourth none = legal.interstages
 whole_of g (Some w) is legal fourth none =
-    one_interstage_more g.groups g.stages g.interstages w legal.interstages (legal.room fourth) (whole_interstage (length g.groups) g.stages g.current w (legal.current fourth) is) none
+    one_interstage_more g.groups g.stages g.interstages w legal.interstages (legal.room fourth)
+    (whole_interstage (length g.groups) g.stages g.current w (legal.current fourth) is) none
 
 is_fourth : (s : Section) → is_interstage s ≡ true → place_in_order s ≡ 4
 is_fourth section.Before e = cc
@@ -205,7 +209,8 @@ ended_no_interstages g h s legal is may le =
     is.same early ∙ legal.no_interstages early
 
 -- a section line that is not refused
-section_line_by : (b : Bool) (g h : PlanDraftOf) (s : Section) → is_interstage s ≡ b → Legal g → IsClosed g h → may_follow h.section s ≡ true → (b && nat_le 256 (length h.interstages)) ≡ false →
+section_line_by : (b : Bool) (g h : PlanDraftOf) (s : Section) → is_interstage s ≡ b → Legal g → IsClosed g h → may_follow h.section s ≡ true →
+    (b && nat_le 256 (length h.interstages)) ≡ false →
     Legal (if b then record h { section = s; current = open_at h.lines (length h.groups) } else record h { section = s })
 section_line_by true g h s here legal is may room =
     let fourth = is_fourth s here in
@@ -230,7 +235,8 @@ section_line_by false g h s here legal is may room = record {
   room = λ e. absurd (not_fourth s here e);
 }
 
-section_legal : (g : PlanDraftOf) (s : Section) (line : Text) → Legal g → interstage_end_why g ≡ None → section_why (after_section_end g) s line ≡ None → Legal (after_section_line (after_section_end g) s)
+section_legal : (g : PlanDraftOf) (s : Section) (line : Text) → Legal g → interstage_end_why g ≡ None →
+    section_why (after_section_end g) s line ≡ None → Legal (after_section_line (after_section_end g) s)
 unfolding section_why after_section_line
 section_legal g s line legal ended none =
     let one = none_first (not (is_text line)) _ _ none in
@@ -283,7 +289,8 @@ greens_there [] i = refl
 greens_there (s ∷ ss) zero = refl
 greens_there (s ∷ ss) (suc i) = greens_there ss i
 
-interstage_there : (groups : List Group) (stages : List Stage) (start : ℕ) (interstages : List InterstageOf) (w : InterstageOf) → Leads (length groups) stages w → IsInterstageOf (plan_of groups stages start interstages) w
+interstage_there : (groups : List Group) (stages : List Stage) (start : ℕ) (interstages : List InterstageOf) (w : InterstageOf) →
+    Leads (length groups) stages w → IsInterstageOf (plan_of groups stages start interstages) w
 interstage_there groups stages start interstages w is =
     let size : length (map (λ (g : Group). g.name) groups) ≡ length groups = length-map groups (λ (g : Group). g.name) in
     let count : length (map (λ (s : Stage). s.greens) stages) ≡ length stages = length-map stages (λ (s : Stage). s.greens) in
@@ -298,7 +305,8 @@ interstage_there groups stages start interstages w is =
       consistent = λ g lt. rw (greens_there stages (w.from - 1), greens_there stages (w.to - 1)) (is.consistent g (omega (arith, lt, size)));
     }
 
-pub plan_is : (g : PlanDraftOf) → AreGroups g.groups → AreStages (length g.groups) g.stages → IfSome g.start (λ s. IsStage g.stages s.0) → AreInterstages (length g.groups) g.stages g.interstages →
+pub plan_is : (g : PlanDraftOf) → AreGroups g.groups → AreStages (length g.groups) g.stages → IfSome g.start (λ s. IsStage g.stages s.0) →
+    AreInterstages (length g.groups) g.stages g.interstages →
     IsFull g → IsPlan (plan_in g)
 plan_is g groups stages start interstages full =
     let size : length (map (λ (g : Group). g.name) g.groups) ≡ length g.groups = length-map g.groups (λ (g : Group). g.name) in
@@ -321,12 +329,17 @@ plan_is g groups stages start interstages full =
       start = (first.0, omega (arith, first.1, count));
       interstages_at_most = interstages.at_most;
       pairs_apart = interstages.apart;
-      interstages = λ i lt. interstage_there g.groups g.stages (start_number g.start) g.interstages (get_or g.interstages i no_interstage) (interstages.each i lt);
+      interstages = λ i lt. interstage_there g.groups g.stages (start_number g.start) g.interstages (get_or g.interstages i no_interstage)
+          (interstages.each i lt);
     }
 
 -- the plan of a file whose last section ended well, and that lacks nothing
-pub ended_plan : (g h : PlanDraftOf) → Legal g → interstage_end_why g ≡ None → h ≡ after_section_end g → None ≡ missing_part h → IsPlan (plan_in h) × (is_some h.start ≡ true)
+pub ended_plan : (g h : PlanDraftOf) → Legal g → interstage_end_why g ≡ None → h ≡ after_section_end g → None ≡ missing_part h → IsPlan (plan_in h)
+    × (is_some h.start ≡ true)
 ended_plan g h legal ended is none =
     let well : IsClosed g h = subst (λ (x : PlanDraftOf). IsClosed g x) (sym is) (ended_well g legal ended) in
-    let full = is_full h none in
-    (plan_is h (rw well.groups legal.groups) (rw (well.groups, well.stages) legal.stages) (rw (well.start, well.stages) legal.start) well.interstages full, full.start)
+    let full = is_full h none in (
+      plan_is h (rw well.groups legal.groups) (rw (well.groups, well.stages) legal.stages) (rw (well.start, well.stages) legal.start) well.interstages
+          full,
+      full.start,
+    )

@@ -39,13 +39,15 @@ or_turned true true c = refl
 or_turned true false c = refl
 or_turned false b c = refl
 
-any_by : {K : Type 0} (p : K → Bool) (cmp : K → K → Ordering) (x : K) (xs : List K) (k : K) (o : Ordering) → is_eq o ≡ false → list_any p (insert_key cmp xs k) ≡ (p k || list_any p xs) →
+any_by : {K : Type 0} (p : K → Bool) (cmp : K → K → Ordering) (x : K) (xs : List K) (k : K) (o : Ordering) → is_eq o ≡ false →
+    list_any p (insert_key cmp xs k) ≡ (p k || list_any p xs) →
     list_any p (match_ordering o (k ∷ x ∷ xs) (x ∷ xs) (x ∷ insert_key cmp xs k)) ≡ (p k || list_any p (x ∷ xs))
 any_by p cmp x xs k Less ne more = refl
 any_by p cmp x xs k Equal ne more = cc
 any_by p cmp x xs k Greater ne more = ap (λ b. p x || b) more ∙ or_turned (p x) (p k) (list_any p xs)
 
-pub any_insert : {K : Type 0} (p : K → Bool) (cmp : K → K → Ordering) (ks : List K) (k : K) → list_any (is_at (cmp k)) ks ≡ false → list_any p (insert_key cmp ks k) ≡ (p k || list_any p ks)
+pub any_insert : {K : Type 0} (p : K → Bool) (cmp : K → K → Ordering) (ks : List K) (k : K) → list_any (is_at (cmp k)) ks ≡ false →
+    list_any p (insert_key cmp ks k) ≡ (p k || list_any p ks)
 any_insert p cmp [] k free = refl
 any_insert p cmp (x ∷ xs) k free =
     let both = or_parts (is_eq (cmp k x)) (list_any (is_at (cmp k)) xs) free in
@@ -67,7 +69,8 @@ there : (v w : Text) (us more : List Text) → same_name w v ≡ true → stands
 there v w [] more e = rw e refl
 there v w (u ∷ us) more e = or_true (same_name u v) (stands_in v (us ++ w ∷ more)) (there v w us more e)
 
-twice_by : (b : Bool) (v w : Text) (vs more : List Text) → same_name v w ≡ b → (b || stands_in w vs) ≡ true → (stands_in w vs ≡ true → are_apart (vs ++ w ∷ more) ≡ false) →
+twice_by : (b : Bool) (v w : Text) (vs more : List Text) → same_name v w ≡ b → (b || stands_in w vs) ≡ true →
+    (stands_in w vs ≡ true → are_apart (vs ++ w ∷ more) ≡ false) →
     (not (stands_in v (vs ++ w ∷ more)) && are_apart (vs ++ w ∷ more)) ≡ false
 twice_by true v w vs more same h rest = let e = there v w vs more (same_turned w v ∙ same) in rw e refl
 twice_by false v w vs more same h rest = and_false (not (stands_in v (vs ++ w ∷ more))) (are_apart (vs ++ w ∷ more)) (rest h)

@@ -21,7 +21,8 @@ nothing_green None = refl
 nothing_green (Some p) = refl
 
 -- where there is no stage, no group is green in the last one
-pub none_green : (groups : List Group) (stages : List Stage) (named : List (List ℕ)) → length stages ≡ 0 → false ≡ list_any (is_green_in groups (last_greens stages)) named
+pub none_green : (groups : List Group) (stages : List Stage) (named : List (List ℕ)) → length stages ≡ 0 →
+    false ≡ list_any (is_green_in groups (last_greens stages)) named
 none_green groups [] [] e = refl
 none_green groups [] (w ∷ ws) e = rw (nothing_green (place_of groups w)) (none_green groups [] ws e)
 none_green groups (s ∷ ss) named e = absurd (omega arith)
@@ -43,11 +44,13 @@ place_found p xs i e = sym (cond_some (nat_lt (position_or_len p xs) (length xs)
 
 pub place_missed : {A : Type 0} (p : A → Bool) (xs : List A) → None ≡ position p xs → length xs ≡ position_or_len p xs
 place_missed p xs e =
-    let past : length xs ≤ position_or_len p xs = ltb-false (position_or_len p xs) (length xs) (cond_none (nat_lt (position_or_len p xs) (length xs)) (position_or_len p xs) (sym e)) in
+    let past : length xs ≤ position_or_len p xs =
+    ltb-false (position_or_len p xs) (length xs) (cond_none (nat_lt (position_or_len p xs) (length xs)) (position_or_len p xs) (sym e)) in
     omega (arith, past, prefix_fits (λ x. not (p x)) xs)
 
 pub greens_are : (groups : List Group) (named : List (List ℕ)) (greens : List Bool) → length greens ≡ length groups →
-    ((j : ℕ) → j < length groups → get_or greens j false ≡ stands_in (get_or groups j (record { name = []; number = 0 })).name named) → greens ≡ greens_of groups named
+    ((j : ℕ) → j < length groups → get_or greens j false ≡ stands_in (get_or groups j (record { name = []; number = 0 })).name named) →
+    greens ≡ greens_of groups named
 unfolding greens_of
 greens_are groups named greens size each =
     ext_get_or false greens (map (λ g. stands_in g.name named) groups) (size ∙ sym (length-map groups (λ (g : Group). stands_in g.name named)))

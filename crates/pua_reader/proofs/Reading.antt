@@ -48,7 +48,8 @@ after_row_lines : (g : PlanDraftOf) (line : Text) → (after_row g line).lines �
 unfolding after_row
 after_row_lines g line = row_lines g.section g line
 
-section_line_lines : (b : Bool) (g : PlanDraftOf) (s : Section) → (if b then record g { section = s; current = open_at g.lines (length g.groups) } else record g { section = s }).lines ≡ g.lines
+section_line_lines : (b : Bool) (g : PlanDraftOf) (s : Section) →
+    (if b then record g { section = s; current = open_at g.lines (length g.groups) } else record g { section = s }).lines ≡ g.lines
 section_line_lines true g s = refl
 section_line_lines false g s = refl
 
@@ -61,7 +62,8 @@ kind_lines Passed g line = refl
 kind_lines (Begins s) g line = section_lines (after_section_end g) s ∙ ended_lines g
 kind_lines Row g line = after_row_lines g line
 
-after_kind_by : (b : Bool) (g : PlanDraftOf) (line : Text) → (if b then at_next_line g else after_kind (kind_of (words false line)) (at_next_line g) line).lines ≡ g.lines + 1
+after_kind_by : (b : Bool) (g : PlanDraftOf) (line : Text) →
+    (if b then at_next_line g else after_kind (kind_of (words false line)) (at_next_line g) line).lines ≡ g.lines + 1
 after_kind_by true g line = refl
 after_kind_by false g line = kind_lines (kind_of (words false line)) (at_next_line g) line
 
@@ -150,7 +152,8 @@ refused_at : (bs : Text) (found : ℕ × PuaWhy) → first_refused judge (lines_
 unfolding refusal_of
 refused_at bs found e = rw e refl
 
-pub line_refused : (bs : Text) (left : List Text) (g : PlanDraftOf) (line : Text) (more : List Text) (r : PuaRefusal) → Reads (lines_in bs) left g → left ≡ line ∷ more →
+pub line_refused : (bs : Text) (left : List Text) (g : PlanDraftOf) (line : Text) (more : List Text) (r : PuaRefusal) → Reads (lines_in bs) left g →
+    left ≡ line ∷ more →
     RefusedAs r (line_why g line) → RefusedAs r (refusal_of bs)
 line_refused bs left g line more Memory reads next is = tt
 line_refused bs left g line more (At n why) reads next is =
@@ -186,7 +189,8 @@ text_accepted bs left g reads none ended =
     let read = all_read (lines_in bs) left g reads none in
     (end_of_text bs g read ∙ ended, plan_at_end bs g read)
 
-pub text_refused : (bs : Text) (left : List Text) (g : PlanDraftOf) (r : PuaRefusal) → Reads (lines_in bs) left g → left ≡ [] → RefusedAs r (end_why g) → RefusedAs r (refusal_of bs)
+pub text_refused : (bs : Text) (left : List Text) (g : PlanDraftOf) (r : PuaRefusal) → Reads (lines_in bs) left g → left ≡ [] →
+    RefusedAs r (end_why g) → RefusedAs r (refusal_of bs)
 text_refused bs left g Memory reads none is = tt
 text_refused bs left g (At n why) reads none is = end_of_text bs g (all_read (lines_in bs) left g reads none) ∙ is
 

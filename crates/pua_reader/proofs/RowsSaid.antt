@@ -35,7 +35,8 @@ unfolding rows_from section_from
 rows_push w now [] x = append-nil (row_here w (section_with now x) x)
 rows_push w now (y ∷ ys) x =
     ap (λ l. row_here w (section_with now y) y ++ l) (rows_push w (section_with now y) ys x)
-    ∙ sym (append_assoc (row_here w (section_with now y) y) (rows_from w (section_with now y) ys) (row_here w (section_with (section_from (section_with now y) ys) x) x))
+    ∙ sym (append_assoc (row_here w (section_with now y) y) (rows_from w (section_with now y) ys)
+    (row_here w (section_with (section_from (section_with now y) ys) x) x))
 
 -- one row more
 before_push : (o : Option Group) (l : List Group) (g : Group) → group_before o (l ++ g ∷ []) ≡ group_before o l ++ g ∷ []
@@ -68,14 +69,16 @@ first_with : (b : Bool) (x : Stage) → (if b then [] else x ∷ []) ≡ (if b t
 first_with true x = refl
 first_with false x = refl
 
-stages_push : (groups : List Group) (rows : List (List Text)) (row : List Text) → stages_from groups (rows ++ row ∷ []) ≡ stages_with groups (stages_from groups rows) row
+stages_push : (groups : List Group) (rows : List (List Text)) (row : List Text) →
+    stages_from groups (rows ++ row ∷ []) ≡ stages_with groups (stages_from groups rows) row
 unfolding stages_from
 stages_push groups [] [] = refl
 stages_push groups [] (w ∷ ws) = first_with (is_red_word w) (record { name = w; greens = greens_of groups ws })
 stages_push groups ([] ∷ rows) row = stages_push groups rows row
 stages_push groups ((v ∷ vs) ∷ rows) row = go (is_red_word v) (stages_push groups rows row)
   where
-    go : (b : Bool) → stages_from groups (rows ++ row ∷ []) ≡ stages_with groups (stages_from groups rows) row → (if b then stages_from groups (rows ++ row ∷ []) else record { name = v; greens = greens_of groups vs } ∷ stages_from groups (rows ++ row ∷ []))
+    go : (b : Bool) → stages_from groups (rows ++ row ∷ []) ≡ stages_with groups (stages_from groups rows) row →
+        (if b then stages_from groups (rows ++ row ∷ []) else record { name = v; greens = greens_of groups vs } ∷ stages_from groups (rows ++ row ∷ []))
         ≡ stages_with groups (if b then stages_from groups rows else record { name = v; greens = greens_of groups vs } ∷ stages_from groups rows) row
     go true more = more
     go false more =
@@ -119,7 +122,8 @@ unfolding stages_from
 no_stage_rows groups [] e = refl
 no_stage_rows groups (r ∷ rs) e = cc
 
-group_row_says : (d : PlanDraftOf) (ws : List Text) (gr st sr : List (List Text)) → d.section ≡ section.Groups → Says d gr st sr → group_why d.groups ws ≡ None →
+group_row_says : (d : PlanDraftOf) (ws : List Text) (gr st sr : List (List Text)) → d.section ≡ section.Groups → Says d gr st sr →
+    group_why d.groups ws ≡ None →
     Says (record d { groups = groups_with d.groups ws }) (gr ++ ws ∷ []) st sr
 group_row_says d ws gr st sr here says none =
     let given = group_given d.groups (group_row (length d.groups + 1) ws) none in
@@ -178,7 +182,8 @@ start_row (w ∷ []) o stages sr none says =
     start_given (stage_of stages w) stages w sr refl two.0 (none_started o stages sr free.0 says)
 start_row (w ∷ v ∷ more) o stages sr none says = cc
 
-start_row_says : (d : PlanDraftOf) (ws : List Text) (gr st sr : List (List Text)) → d.section ≡ section.Start → Says d gr st sr → start_why d.stages d.start ws ≡ None →
+start_row_says : (d : PlanDraftOf) (ws : List Text) (gr st sr : List (List Text)) → d.section ≡ section.Start → Says d gr st sr →
+    start_why d.stages d.start ws ≡ None →
     Says (record d { start = start_with d.stages ws }) gr st (sr ++ ws ∷ [])
 start_row_says d ws gr st sr here says none =
     let third : place_in_order d.section ≡ 3 = ap place_in_order here in
@@ -235,7 +240,8 @@ begin_says_by : (b : Bool) (d : PlanDraftOf) (s : Section) (gr st sr : List (Lis
 begin_says_by true d s gr st sr says after = says_same d _ gr st sr says refl refl refl after.one after.two
 begin_says_by false d s gr st sr says after = says_same d _ gr st sr says refl refl refl after.one after.two
 
-begin_section_by : (b : Bool) (d : PlanDraftOf) (s : Section) → (if b then record d { section = s; current = open_at d.lines (length d.groups) } else record d { section = s }).section ≡ s
+begin_section_by : (b : Bool) (d : PlanDraftOf) (s : Section) →
+    (if b then record d { section = s; current = open_at d.lines (length d.groups) } else record d { section = s }).section ≡ s
 begin_section_by true d s = refl
 begin_section_by false d s = refl
 
@@ -290,7 +296,8 @@ record LineSays (d e : PlanDraftOf) (now : Section) (gr st sr gr2 st2 sr2 : List
   pub section : e.section ≡ now
   pub says : Says e (gr ++ gr2) (st ++ st2) (sr ++ sr2)
 
-nothing_more : (e : PlanDraftOf) (gr st sr gr2 st2 sr2 : List (List Text)) → Says e gr st sr → gr2 ≡ [] → st2 ≡ [] → sr2 ≡ [] → Says e (gr ++ gr2) (st ++ st2) (sr ++ sr2)
+nothing_more : (e : PlanDraftOf) (gr st sr gr2 st2 sr2 : List (List Text)) → Says e gr st sr → gr2 ≡ [] → st2 ≡ [] → sr2 ≡ [] →
+    Says e (gr ++ gr2) (st ++ st2) (sr ++ sr2)
 nothing_more e gr st sr gr2 st2 sr2 says a b c = rw (a, b, c, append-nil gr, append-nil st, append-nil sr) says
 
 kind_says : (k : Kind) (d : PlanDraftOf) (line : Text) (gr st sr : List (List Text)) → Says d gr st sr → kind_why k d line ≡ None →
@@ -299,7 +306,8 @@ kind_says : (k : Kind) (d : PlanDraftOf) (line : Text) (gr st sr : List (List Te
 unfolding here_of added
 kind_says Passed d line gr st sr says none = record {
   section = refl;
-  says = nothing_more d gr st sr _ _ _ says (by_kind (same_section section.Groups d.section) _) (by_kind (same_section section.Stages d.section) _) (by_kind (same_section section.Start d.section) _);
+  says = nothing_more d gr st sr _ _ _ says (by_kind (same_section section.Groups d.section) _) (by_kind (same_section section.Stages d.section) _)
+      (by_kind (same_section section.Start d.section) _);
 }
 kind_says (Begins s) d line gr st sr says none =
     let parts = none_next (interstage_end_why d) (with_line d.lines (section_why (after_section_end d) s line)) none in
@@ -307,11 +315,16 @@ kind_says (Begins s) d line gr st sr says none =
     let begun = section_line_says (after_section_end d) s line gr st sr ended (at_none d.lines _ parts.1) in
     record {
       section = section_line_at (after_section_end d) s;
-      says = nothing_more _ gr st sr _ _ _ begun (by_kind (same_section section.Groups s) _) (by_kind (same_section section.Stages s) _) (by_kind (same_section section.Start s) _);
+      says = nothing_more _ gr st sr _ _ _ begun (by_kind (same_section section.Groups s) _) (by_kind (same_section section.Stages s) _)
+          (by_kind (same_section section.Start s) _);
     }
 kind_says Row d line gr st sr says none = record {
   section = row_section d line;
-  says = rw (by_row (same_section section.Groups d.section) (words false line), by_row (same_section section.Stages d.section) (words false line), by_row (same_section section.Start d.section) (words false line))
+  says = rw (
+    by_row (same_section section.Groups d.section) (words false line),
+    by_row (same_section section.Stages d.section) (words false line),
+    by_row (same_section section.Start d.section) (words false line),
+  )
       (row_says d line gr st sr says (at_none d.lines _ none));
 }
 
@@ -328,7 +341,8 @@ over_is_end section.End e = refl
 
 line_says_by : (b : Bool) (d : PlanDraftOf) (line : Text) (gr st sr : List (List Text)) → is_over d.section ≡ b → Says d gr st sr →
     (if b then None else kind_why (kind_of (words false line)) (at_next_line d) line) ≡ None →
-    LineSays d (if b then at_next_line d else after_kind (kind_of (words false line)) (at_next_line d) line) (if b then d.section else section_by d.section (kind_of (words false line))) gr st sr
+    LineSays d (if b then at_next_line d else after_kind (kind_of (words false line)) (at_next_line d) line)
+    (if b then d.section else section_by d.section (kind_of (words false line))) gr st sr
     (row_here section.Groups (if b then d.section else section_by d.section (kind_of (words false line))) line)
     (row_here section.Stages (if b then d.section else section_by d.section (kind_of (words false line))) line)
     (row_here section.Start (if b then d.section else section_by d.section (kind_of (words false line))) line)
@@ -337,7 +351,8 @@ line_says_by true d line gr st sr over says none =
     let last : d.section ≡ section.End = over_is_end d.section over in
     record {
       section = refl;
-      says = nothing_more (at_next_line d) gr st sr _ _ _ (counted d gr st sr says) (ap (λ s. row_here section.Groups s line) last) (ap (λ s. row_here section.Stages s line) last) (ap (λ s. row_here section.Start s line) last);
+      says = nothing_more (at_next_line d) gr st sr _ _ _ (counted d gr st sr says) (ap (λ s. row_here section.Groups s line) last)
+          (ap (λ s. row_here section.Stages s line) last) (ap (λ s. row_here section.Start s line) last);
     }
 line_says_by false d line gr st sr over says none =
     let all = kind_says (kind_of (words false line)) (at_next_line d) line gr st sr (counted d gr st sr says) none in
@@ -391,7 +406,8 @@ unfolding StartSays
 start_final None stages there sr some same says = cc
 start_final (Some s) stages there sr some same says = (says.0, says.1, ap (λ l. stage_of l says.0) (sym same) ∙ says.2)
 
-plan_says : (e : PlanDraftOf) (lines : List Text) → Says e (rows_in section.Groups lines) (rows_in section.Stages lines) (rows_in section.Start lines) → is_some e.start ≡ true →
+plan_says : (e : PlanDraftOf) (lines : List Text) →
+    Says e (rows_in section.Groups lines) (rows_in section.Stages lines) (rows_in section.Start lines) → is_some e.start ≡ true →
     SaysItsRows (plan_in e) lines
 unfolding file_groups file_stages
 plan_says e lines says started =
@@ -406,7 +422,8 @@ plan_says e lines says started =
       start = start_final e.start e.stages _ (rows_in section.Start lines) started stages says.start;
     }
 
-draft_says : (lines : List Text) → first_refused judge lines [] ≡ None → end_why (draft_of lines) ≡ None → SaysItsRows (plan_in (after_section_end (draft_of lines))) lines
+draft_says : (lines : List Text) → first_refused judge lines [] ≡ None → end_why (draft_of lines) ≡ None →
+    SaysItsRows (plan_in (after_section_end (draft_of lines))) lines
 unfolding end_why
 draft_says lines none ended =
     let so = rw (take_all (length lines) lines (omega arith)) at (so_far_to lines (length lines) (omega arith) none) in

@@ -42,7 +42,8 @@ cut_later x xs a b (Some p) other more e =
     }
 
 cut_cases : (b : Bool) (x : ℕ) (xs a r : List ℕ) → nat_eq x 10 ≡ b → ((a' b' : List ℕ) → cut_at 10 xs ≡ Some (a', b') → IsCut xs a' b') →
-    (if◌then◌else◌ {A = Option (List ℕ × List ℕ)} b (Some ([], xs)) (option_map {T = List ℕ × List ℕ} {U = List ℕ × List ℕ} (λ p. (x ∷ p.0, p.1)) (cut_at 10 xs))) ≡ Some (a, r) → IsCut (x ∷ xs) a r
+    (if◌then◌else◌ {A = Option (List ℕ × List ℕ)} b (Some ([], xs))
+    (option_map {T = List ℕ × List ℕ} {U = List ℕ × List ℕ} (λ p. (x ∷ p.0, p.1)) (cut_at 10 xs))) ≡ Some (a, r) → IsCut (x ∷ xs) a r
 cut_cases true x xs a r same more e = cut_now x xs a r same e
 cut_cases false x xs a r same more e = cut_later x xs a r (cut_at 10 xs) same more e
 
@@ -55,7 +56,8 @@ free_later x None e = refl
 free_later x (Some p) e = cc
 
 free_cases : (b : Bool) (x : ℕ) (xs : List ℕ) → nat_eq x 10 ≡ b → (cut_at 10 xs ≡ None → AllByRecursion (λ x. (x == 10) ≡ false) xs) →
-    (if◌then◌else◌ {A = Option (List ℕ × List ℕ)} b (Some ([], xs)) (option_map {T = List ℕ × List ℕ} {U = List ℕ × List ℕ} (λ p. (x ∷ p.0, p.1)) (cut_at 10 xs))) ≡ None → AllByRecursion (λ x. (x == 10) ≡ false) (x ∷ xs)
+    (if◌then◌else◌ {A = Option (List ℕ × List ℕ)} b (Some ([], xs))
+    (option_map {T = List ℕ × List ℕ} {U = List ℕ × List ℕ} (λ p. (x ∷ p.0, p.1)) (cut_at 10 xs))) ≡ None → AllByRecursion (λ x. (x == 10) ≡ false) (x ∷ xs)
 free_cases true x xs same more e = cc
 free_cases false x xs same more e = (same, more (free_later x (cut_at 10 xs) e))
 

@@ -28,7 +28,8 @@ judged r h p len safe = sequence (broken_now r h p rule.Sequence) refl
     intergreen : kept rule.Sequence → kept rule.MinGreen → kept rule.MinRed → kept rule.Conflict → (o : Option Verdict) × IsJudgedNext r h p o
     intergreen a b c d = (broken_now r h p rule.Intergreen, judged_next r h p (broken_now r h p rule.Intergreen) len safe a b c d refl)
 
-    conflict : kept rule.Sequence → kept rule.MinGreen → kept rule.MinRed → (o : Option Verdict) → broken_now r h p rule.Conflict ≡ o → (o : Option Verdict) × IsJudgedNext r h p o
+    conflict : kept rule.Sequence → kept rule.MinGreen → kept rule.MinRed → (o : Option Verdict) → broken_now r h p rule.Conflict ≡ o →
+        (o : Option Verdict) × IsJudgedNext r h p o
     conflict a b c None is = intergreen a b c is
     conflict a b c (Some v) is = (
       Some v,
@@ -49,7 +50,8 @@ judged r h p len safe = sequence (broken_now r h p rule.Sequence) refl
     min_green a (Some v) is = (
       Some v,
       first_broken r h p rule.MinGreen v len safe
-          (before_in_order kept 1 (omega arith) (λ _. a) (λ lt. absurd (omega arith)) (λ lt. absurd (omega arith)) (λ lt. absurd (omega arith)) (λ lt. absurd (omega arith))) is,
+          (before_in_order kept 1 (omega arith) (λ _. a) (λ lt. absurd (omega arith)) (λ lt. absurd (omega arith)) (λ lt. absurd (omega arith))
+          (λ lt. absurd (omega arith))) is,
     )
 
     sequence : (o : Option Verdict) → broken_now r h p rule.Sequence ≡ o → (o : Option Verdict) × IsJudgedNext r h p o
@@ -57,15 +59,18 @@ judged r h p len safe = sequence (broken_now r h p rule.Sequence) refl
     sequence (Some v) is = (
       Some v,
       first_broken r h p rule.Sequence v len safe
-          (before_in_order kept 0 (omega arith) (λ lt. absurd (omega arith)) (λ lt. absurd (omega arith)) (λ lt. absurd (omega arith)) (λ lt. absurd (omega arith)) (λ lt. absurd (omega arith))) is,
+          (before_in_order kept 0 (omega arith) (λ lt. absurd (omega arith)) (λ lt. absurd (omega arith)) (λ lt. absurd (omega arith))
+          (λ lt. absurd (omega arith)) (λ lt. absurd (omega arith))) is,
     )
 
 -- the verdict of a history with a picture more
-from_judged : (r : Rules) (h : History) (p : Picture) (n : ℕ) (o : Option Verdict) → length h ≡ n + 1 → IsJudgedNext r h p o → (w : Verdict) × IsVerdict r (h ++ p ∷ []) w
+from_judged : (r : Rules) (h : History) (p : Picture) (n : ℕ) (o : Option Verdict) → length h ≡ n + 1 → IsJudgedNext r h p o → (w : Verdict)
+    × IsVerdict r (h ++ p ∷ []) w
 from_judged r h p n None long safe = (verdict.Safe (n + 1), (safe, omega (arith, more_length h p, long)))
 from_judged r h p n (Some v) long next = (v, judged_is r h p v next)
 
-next_verdict : (r : Rules) (h : History) (p : Picture) (v : Verdict) → length h ≡ suc (length h - 1) → IsVerdict r h v → (w : Verdict) × IsVerdict r (h ++ p ∷ []) w
+next_verdict : (r : Rules) (h : History) (p : Picture) (v : Verdict) → length h ≡ suc (length h - 1) → IsVerdict r h v → (w : Verdict)
+    × IsVerdict r (h ++ p ∷ []) w
 next_verdict r h p (verdict.Safe n) len was = let next = judged r h p len was.0 in from_judged r h p n next.0 was.1 next.1
 next_verdict r h p (verdict.Broken second broken group other) len was =
     (verdict.Broken second broken group other, breach_stays r h p second broken group.0 (group_number other) was)
@@ -78,7 +83,8 @@ front_verdict r h (suc k) is lt =
     let before = front_verdict r h k is (omega (arith, lt)) in
     let long : length (take (suc k) h) ≡ suc k = length-take-le (suc k) h (omega (arith, lt)) in
     let next = next_verdict r (take (suc k) h) (get_or h (suc k) []) before.0 (omega (arith, long)) before.1 in
-    let more : take (suc (suc k)) h ≡ take (suc k) h ++ get_or h (suc k) [] ∷ [] = ap (λ (n : ℕ). take n h) (sym (add-one (suc k))) ∙ take_more h (suc k) [] lt in
+    let more : take (suc (suc k)) h ≡ take (suc k) h ++ get_or h (suc k) [] ∷ [] = ap (λ (n : ℕ). take n h) (sym (add-one (suc k))) ∙
+    take_more h (suc k) [] lt in
     (next.0, subst (λ (f : History). IsVerdict r f next.0) (sym more) next.1)
 
 pub each_has_verdict : EachHasVerdict

@@ -48,7 +48,8 @@ count_text_injective c d p q e =
 -- an item has no byte but digits and colons
 pub count_text_without : (b : ℕ) (c : ℕ × ℕ × ℕ) → NoDigit b → (58 ≡ b → ⊥) → Without b (count_text c)
 count_text_without b c none colon =
-    without_along b (nested (decimal c.0) (decimal c.1) (decimal c.2)) (count_text c) (without-append b (decimal c.0) (58 ∷ (decimal c.1 ++ 58 ∷ decimal c.2)) (decimal_without b c.0 none)
+    without_along b (nested (decimal c.0) (decimal c.1) (decimal c.2)) (count_text c)
+    (without-append b (decimal c.0) (58 ∷ (decimal c.1 ++ 58 ∷ decimal c.2)) (decimal_without b c.0 none)
     (colon, without-append b (decimal c.1) (58 ∷ decimal c.2) (decimal_without b c.1 none) (colon, decimal_without b c.2 none))) (sym (count_shape c))
 
 -- a byte that isn't there isn't there
@@ -78,7 +79,8 @@ items_injective c d (g ∷ cs) [] p q e =
     absurd (without-no 32 (count_text c) (count_text g ++ spaced_items true (map count_text cs))
     (without_along 32 (count_text d) _ (count_text_without 32 d space_no_digit colon_space) (sym (append-nil (count_text d)) ∙ sym e)))
 items_injective c d (g ∷ cs) (f ∷ ds) p q e =
-    let cut = cut_once 32 (count_text c) (count_text d) (count_text g ++ spaced_items true (map count_text cs)) (count_text f ++ spaced_items true (map count_text ds))
+    let cut = cut_once 32 (count_text c) (count_text d) (count_text g ++ spaced_items true (map count_text cs))
+    (count_text f ++ spaced_items true (map count_text ds))
     (count_text_without 32 c space_no_digit colon_space) (count_text_without 32 d space_no_digit colon_space) e in
     ap (λ x. x ∷ g ∷ cs) (count_text_injective c d p.0 q.0 cut.0) ∙ ap (λ l. d ∷ l) (items_injective g f cs ds p.1 q.1 cut.1)
 
@@ -100,12 +102,14 @@ or_dash_injective (c ∷ cs) [] p q e = absurd (no_dash_items c cs e)
 or_dash_injective (c ∷ cs) (d ∷ ds) p q e = items_injective c d cs ds p q e
 
 -- a pair of counts is left out, or stands with its detector
-by_count_entry : (P : List (ℕ × ℕ × ℕ) → ℕ × ℕ → Type 0) (d a b : ℕ) → P [] (0, 0) → ((x y : ℕ) → x ≡ a → y ≡ b → P ((d, x, y) ∷ []) (x, y)) → P (count_entry d (a, b)) (a, b)
+by_count_entry : (P : List (ℕ × ℕ × ℕ) → ℕ × ℕ → Type 0) (d a b : ℕ) → P [] (0, 0) → ((x y : ℕ) → x ≡ a → y ≡ b → P ((d, x, y) ∷ []) (x, y)) →
+    P (count_entry d (a, b)) (a, b)
 by_count_entry P d zero zero none some = none
 by_count_entry P d zero (suc b) none some =
     subst (λ t. P (if t then [] else (d, 0, suc b) ∷ []) (0, suc b)) (sym (ne_eqb (suc b) 0 (λ e. absurd (omega (arith, e))))) (some zero (suc b) refl refl)
 by_count_entry P d (suc a) b none some =
-    subst (λ t. P (if t && (b == 0) then [] else (d, suc a, b) ∷ []) (suc a, b)) (sym (ne_eqb (suc a) 0 (λ e. absurd (omega (arith, e))))) (some (suc a) b refl refl)
+    subst (λ t. P (if t && (b == 0) then [] else (d, suc a, b) ∷ []) (suc a, b)) (sym (ne_eqb (suc a) 0 (λ e. absurd (omega (arith, e)))))
+    (some (suc a) b refl refl)
 
 -- no detector is below k
 abbrev Above : ℕ → List (ℕ × ℕ × ℕ) → Type 0
@@ -144,7 +148,8 @@ counted_from_injective k (c ∷ cs) (d ∷ ds) same e =
     (λ x y is is' f. absurd (not_above k (k, x, y) after' after refl (above_from (k + 1) (k + 1) cs (omega arith)) f)))
     (λ a b at at'. by_count_entry (λ l x. (k, a, b) ∷ after ≡ l ++ after' → (a, b) ∷ cs ≡ x ∷ ds) k d.0 d.1
     (λ f. absurd (not_above k (k, a, b) after after' refl (above_from (k + 1) (k + 1) ds (omega arith)) (sym f)))
-    (λ x y is is' f. ap (λ i. (i.1, i.2) ∷ cs) (item-head (k, a, b) (k, x, y) after after' f) ∙ ap (λ l. (x, y) ∷ l) (go (item-tail (k, a, b) (k, x, y) after after' f))))
+    (λ x y is is' f. ap (λ i. (i.1, i.2) ∷ cs) (item-head (k, a, b) (k, x, y) after after' f) ∙
+    ap (λ l. (x, y) ∷ l) (go (item-tail (k, a, b) (k, x, y) after after' f))))
     e
 
 counted_small : (k : ℕ) (cs : List (ℕ × ℕ)) → k + length cs < 2 ^ 64 → SmallCounts cs → AllSmall (counted_from k cs)

@@ -109,7 +109,10 @@ word_byte b h = elim (cases_Bool (is_letter b)) [ inl here ↦ letter_byte b her
 
 word_plain : (bs : List ℕ) → is_word bs ≡ true → Plain bs
 word_plain [] t = tt
-word_plain (b ∷ bs) t = (word_byte b (and_parts (is_letter b || is_digit b) (is_word bs) t).0, word_plain bs (and_parts (is_letter b || is_digit b) (is_word bs) t).1)
+word_plain (b ∷ bs) t = (
+  word_byte b (and_parts (is_letter b || is_digit b) (is_word bs) t).0,
+  word_plain bs (and_parts (is_letter b || is_digit b) (is_word bs) t).1,
+)
 
 name_plain : (bs : List ℕ) → is_name bs ≡ true → Plain bs
 name_plain [] t = tt

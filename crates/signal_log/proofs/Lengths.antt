@@ -32,7 +32,8 @@ digits_onto_short : (k n : ℕ) (text : List ℕ) → length (digits_onto k 10 f
 digits_onto_short zero n text = omega arith
 digits_onto_short (suc k) n text =
     let more = digit_glyph false (n % 10) ∷ text in
-    either_short (n / 10 == 0) more (digits_onto k 10 false (n / 10) more) (suc k + length text) (omega arith) (omega (arith, digits_onto_short k (n / 10) more))
+    either_short (n / 10 == 0) more (digits_onto k 10 false (n / 10) more) (suc k + length text) (omega arith)
+    (omega (arith, digits_onto_short k (n / 10) more))
 
 -- no number is written with more than 64 digits
 decimal_short : (n : ℕ) → length (decimal n) ≤ 64
@@ -81,7 +82,8 @@ place_short (Inter from to t) =
 fault_short : (f : Option Fault) → length (fault_text f) ≤ 77
 fault_short None = omega arith
 fault_short (Some f) =
-    two (fault_name f.kind ++ codes "@") (decimal f.line) 13 64 (two (fault_name f.kind) (codes "@") 12 1 (kind_short f.kind) (omega arith)) (decimal_short f.line)
+    two (fault_name f.kind ++ codes "@") (decimal f.line) 13 64 (two (fault_name f.kind) (codes "@") 12 1 (kind_short f.kind) (omega arith))
+    (decimal_short f.line)
 
 -- ---- lists of items
 
@@ -114,7 +116,12 @@ either_few false x = omega arith
 counted_few : (d : ℕ) (cs : List (ℕ × ℕ)) → length (counted_from d cs) ≤ length cs
 counted_few d [] = omega arith
 counted_few d (c ∷ cs) =
-    omega (arith, length-append (count_entry d c) (counted_from (d + 1) cs), either_few {A = ℕ × ℕ × ℕ} ((c.0 == 0) && (c.1 == 0)) (d, c.0, c.1), counted_few (d + 1) cs)
+    omega (
+      arith,
+      length-append (count_entry d c) (counted_from (d + 1) cs),
+      either_few {A = ℕ × ℕ × ℕ} ((c.0 == 0) && (c.1 == 0)) (d, c.0, c.1),
+      counted_few (d + 1) cs,
+    )
 
 count_short : (c : ℕ × ℕ × ℕ) → length (count_text c) ≤ 194
 count_short c =
@@ -189,7 +196,13 @@ lines_are_short names r named groups is few =
     let c = or_dash (map count_text (counted_from 1 r.frame)) in
     let u = or_dash (refused_texts names r.stages r.turns) in
     let f = fault_text r.fault in
-    let counts : length c ≤ 12481 = omega (arith, or_dash_short (map count_text (counted_from 1 r.frame)), counts_short (counted_from 1 r.frame), counted_few 1 r.frame, is.frame) in
+    let counts : length c ≤ 12481 = omega (
+      arith,
+      or_dash_short (map count_text (counted_from 1 r.frame)),
+      counts_short (counted_from 1 r.frame),
+      counted_few 1 r.frame,
+      is.frame,
+    ) in
     let refused : length u ≤ 215057 = omega (
       arith,
       or_dash_short (refused_texts names r.stages r.turns),

@@ -59,7 +59,8 @@ header_lacks : (names : List (List ℕ)) → are_names names ≡ true → Lacks 
 unfolding header_line
 header_lacks names named =
     without_lacks 10 (header_line names)
-    (without-append 10 (codes "VAPLOG 1") (flat_map spaced names) (without_by_test 10 (codes "VAPLOG 1") refl) (unfed (flat_map spaced names) (spaced_plain names named)))
+    (without-append 10 (codes "VAPLOG 1") (flat_map spaced names) (without_by_test 10 (codes "VAPLOG 1") refl)
+    (unfed (flat_map spaced names) (spaced_plain names named)))
 
 pub lines_have_no_feed : LinesHaveNoFeed
 lines_have_no_feed names named = (header_lacks names named, λ r. line_lacks names r named)

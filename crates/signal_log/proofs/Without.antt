@@ -65,4 +65,7 @@ contains_byte b (x ∷ xs) = (x == b) || contains_byte b xs
 
 pub without_by_test : (b : ℕ) (xs : List ℕ) → contains_byte b xs ≡ false → Without b xs
 without_by_test b [] e = tt
-without_by_test b (x ∷ xs) e = ((λ is. absurd (true_not_false (sym (or_left (x == b) (contains_byte b xs) (eq-eqb x b is)) ∙ e))), without_by_test b xs ((or_parts (x == b) (contains_byte b xs) e).1))
+without_by_test b (x ∷ xs) e = (
+  (λ is. absurd (true_not_false (sym (or_left (x == b) (contains_byte b xs) (eq-eqb x b is)) ∙ e))),
+  without_by_test b xs ((or_parts (x == b) (contains_byte b xs) e).1),
+)

@@ -16,13 +16,15 @@ pub tokens-append : (a b : List Marked) (rest : List Token) → tokens (a ++ b) 
 tokens-append [] b rest = refl
 tokens-append (m ∷ a) b rest = ap (λ (ts : List Token). m.0 ∷ ts) (tokens-append a b rest)
 
-pub after-append : {A : Type 0} (a b : List Marked) (out : Outcome A) (rest : List Token) → after (a ++ b) out rest ≡ after a (after b out rest) (tokens b ++ rest)
+pub after-append : {A : Type 0} (a b : List Marked) (out : Outcome A) (rest : List Token) →
+    after (a ++ b) out rest ≡ after a (after b out rest) (tokens b ++ rest)
 after-append [] b out rest = refl
 after-append ((t, fine) ∷ a) b out rest = after-append a b out rest
 after-append ((t, deep) ∷ a) b out rest = ap (λ (ts : List Token). Err (TooDeep, t ∷ ts)) (tokens-append a b rest)
 after-append ((t, wrong) ∷ a) b out rest = ap (λ (ts : List Token). Err (Frequency, t ∷ ts)) (tokens-append a b rest)
 
-pub then_after : {A B : Type 0} (ms : List Marked) (out : Outcome A) (rest : List Token) (f : A → Parser B) → and_then (after ms out rest) f ≡ after ms (and_then out f) rest
+pub then_after : {A B : Type 0} (ms : List Marked) (out : Outcome A) (rest : List Token) (f : A → Parser B) →
+    and_then (after ms out rest) f ≡ after ms (and_then out f) rest
 then_after [] out rest f = refl
 then_after ((t, fine) ∷ ms) out rest f = then_after ms out rest f
 then_after ((t, deep) ∷ ms) out rest f = refl

@@ -38,7 +38,8 @@ past_then c (Ok p) f gone never = still (length p.1.rest) c (f p.0 p.1) (never p
   still n c (Err e) within lt = omega arith
 past_then c (Err e) f gone never = gone
 
-pub agree_then : {A B : Type 0} (z z' : List Token) (o o' : Outcome A) (f : A → Parser B) → Agree z z' o o' → ((x : A) → NeverGrows (f x)) → ((x : A) → Local (f x)) → Agree z z' (and_then o f) (and_then o' f)
+pub agree_then : {A B : Type 0} (z z' : List Token) (o o' : Outcome A) (f : A → Parser B) → Agree z z' o o' → ((x : A) → NeverGrows (f x)) →
+    ((x : A) → Local (f x)) → Agree z z' (and_then o f) (and_then o' f)
 agree_then z z' o o' f (past _ _ h) never local = past (and_then o f) (and_then o' f) (past_then (suc (length z)) o f h never)
 agree_then z z' o o' f (both_ok x n r r' a) never local = local x z z' n r r' a
 agree_then z z' o o' f (both_err why r r' a) never local = both_err why r r' a

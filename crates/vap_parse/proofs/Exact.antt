@@ -64,7 +64,8 @@ meets_finish beginning p (t ∷ ts) n s = record {
   value = p;
   left = n;
   shows = tt;
-  spelled = subst (λ (ms : List Marked). Text ms p) (sym (append-nil (fines (beginning ++ [])))) (subst (λ (f : List Token). Text (fines f) p) (sym (append-nil beginning)) s);
+  spelled = subst (λ (ms : List Marked). Text ms p) (sym (append-nil (fines (beginning ++ []))))
+      (subst (λ (f : List Token). Text (fines f) p) (sym (append-nil beginning)) s);
 }
 
 meets_text : (ts : List Token) → Meets Texts [] ts (outcome_of ts)
@@ -159,11 +160,15 @@ alike_beginning : (beginning : List Token) (t : Token) (s s' : List Token) → A
 alike_beginning [] t s s' = cut t
 alike_beginning (u ∷ beginning) t s s' = more u (alike_beginning beginning t s s')
 
-agree_err : {A : Type 0} (z z' : List Token) (o o' : Outcome A) (why : Reason) (r : List Token) → Agree z z' o o' → o ≡ Err (why, r) → length z < length r → (r' : List Token) × (o' ≡ Err (why, r')) × Alike z z' r r'
+agree_err : {A : Type 0} (z z' : List Token) (o o' : Outcome A) (why : Reason) (r : List Token) → Agree z z' o o' → o ≡ Err (why, r) →
+    length z < length r → (r' : List Token) × (o' ≡ Err (why, r')) × Alike z z' r r'
 agree_err z z' o o' why r (past _ _ h) e len = absurd (let gone = past_err (suc (length z)) o why r e h in omega arith)
 agree_err z z' o o' why r (both_ok x n s s' a) e len = absurd cc
-agree_err z z' o o' why r (both_err w s s' a) e len =
-    (s', (let same : w ≡ why = ap (λ (q : Reason × List Token). q.0) (err_is _ _ e) in cc), subst (λ (q : List Token). Alike z z' q s') (ap (λ (q : Reason × List Token). q.1) (err_is _ _ e)) a)
+agree_err z z' o o' why r (both_err w s s' a) e len = (
+  s',
+  (let same : w ≡ why = ap (λ (q : Reason × List Token). q.0) (err_is _ _ e) in cc),
+  subst (λ (q : List Token). Alike z z' q s') (ap (λ (q : Reason × List Token). q.1) (err_is _ _ e)) a,
+)
 
 alike_longer : {z z' r r' : List Token} → Alike z z' r r' → length z < length r
 alike_longer (cut t) = omega arith
@@ -171,36 +176,51 @@ alike_longer (more t a) = omega (arith, alike_longer a)
 
 at_cut : {z z' q r' : List Token} (t : Token) → Alike z z' q r' → q ≡ t ∷ z → r' ≡ t ∷ z'
 at_cut t (cut u) e = let same : u ≡ t = cc in cc
-at_cut {z = z} t (more u {r = r} a) e = absurd (let same : r ≡ z = cc in let longer = alike_longer a in let len : length r ≡ length z = ap length same in omega arith)
+at_cut {z = z} t (more u {r = r} a) e = absurd
+    (let same : r ≡ z = cc in let longer = alike_longer a in let len : length r ≡ length z = ap length same in omega arith)
 
-tokens_marked : (beginning : List Token) (t : Token) (mark : Mark) (ms : List Marked) → tokens ((fines beginning ++ (t, mark) ∷ []) ++ ms) ≡ beginning ++ t ∷ tokens ms
+tokens_marked : (beginning : List Token) (t : Token) (mark : Mark) (ms : List Marked) →
+    tokens ((fines beginning ++ (t, mark) ∷ []) ++ ms) ≡ beginning ++ t ∷ tokens ms
 tokens_marked [] t mark ms = refl
 tokens_marked (u ∷ beginning) t mark ms = ap (λ (s : List Token). u ∷ s) (tokens_marked beginning t mark ms)
 
-no_further : (beginning : List Token) (t : Token) (s : List Token) (mark : Mark) → outcome_of (beginning ++ t ∷ s) ≡ Err (Unexpected, t ∷ s) → Begins (fines beginning ++ (t, mark) ∷ []) → ⊥
+no_further : (beginning : List Token) (t : Token) (s : List Token) (mark : Mark) → outcome_of (beginning ++ t ∷ s) ≡ Err (Unexpected, t ∷ s) →
+    Begins (fines beginning ++ (t, mark) ∷ []) → ⊥
 unfolding outcome_of
 no_further beginning t s mark e begins =
     let ms = (fines beginning ++ (t, mark) ∷ []) ++ begins.0 in
     let same : tokens ms ++ [] ≡ beginning ++ t ∷ tokens begins.0 =
     append-nil (tokens ms) ∙ tokens_marked beginning t mark begins.0 in
-    let agree = local_text s (tokens begins.0) max_operators (beginning ++ t ∷ s) (beginning ++ t ∷ tokens begins.0) (alike_beginning beginning t s (tokens begins.0)) in
-    let stopped = agree_err s (tokens begins.0) (text (start (beginning ++ t ∷ s))) (text (start (beginning ++ t ∷ tokens begins.0))) Unexpected (t ∷ s) agree e (omega arith) in
-    let read : text (start (beginning ++ t ∷ tokens begins.0)) ≡ after ms (Ok (begins.1, input [] begins.2.0)) [] = sym (ap (λ (s : List Token). text (start s)) same) ∙ text_complete ms begins.1 begins.2 in
+    let agree = local_text s (tokens begins.0) max_operators (beginning ++ t ∷ s) (beginning ++ t ∷ tokens begins.0)
+    (alike_beginning beginning t s (tokens begins.0)) in
+    let stopped = agree_err s (tokens begins.0) (text (start (beginning ++ t ∷ s))) (text (start (beginning ++ t ∷ tokens begins.0))) Unexpected
+    (t ∷ s) agree e (omega arith) in
+    let read : text (start (beginning ++ t ∷ tokens begins.0)) ≡ after ms (Ok (begins.1, input [] begins.2.0)) [] =
+    sym (ap (λ (s : List Token). text (start s)) same) ∙ text_complete ms begins.1 begins.2 in
     marked ms (begins.1, input [] begins.2.0) [] stopped.0 (sym read ∙ stopped.1)
 
 grow : (ms : List Marked) (m : Marked) (more : List Marked) → ms ++ m ∷ more ≡ (ms ++ m ∷ []) ++ more
 grow ms m b = sym (append_assoc ms (m ∷ []) b)
 
-bad_by : (mark : Mark) (beginning : List Token) (t : Token) (s : List Token) (others : List Marked) (p : Program) → (b : Bears mark (t ∷ s) others) → Text (fines beginning ++ others) p → Begins (fines beginning ++ (t, mark) ∷ [])
+bad_by : (mark : Mark) (beginning : List Token) (t : Token) (s : List Token) (others : List Marked) (p : Program) → (b : Bears mark (t ∷ s) others) →
+    Text (fines beginning ++ others) p → Begins (fines beginning ++ (t, mark) ∷ [])
 bad_by mark beginning t s others p b spelled =
     let first : t ≡ b.token = let e = b.first in cc in
-    let marks : others ≡ (t, mark) ∷ b.others = b.marked ∙ ap (λ (u : Token). (u, mark) ∷ b.others) (sym first) in
-    (b.others, p, subst (λ (ms : List Marked). Text ms p) (ap (λ (ms : List Marked). fines beginning ++ ms) marks ∙ grow (fines beginning) (t, mark) b.others) spelled)
+    let marks : others ≡ (t, mark) ∷ b.others = b.marked ∙ ap (λ (u : Token). (u, mark) ∷ b.others) (sym first) in (
+      b.others,
+      p,
+      subst (λ (ms : List Marked). Text ms p)
+          (ap (λ (ms : List Marked). fines beginning ++ ms) marks ∙ grow (fines beginning) (t, mark) b.others) spelled,
+    )
 
-refused_by : (why : Reason) (rest : List Token) (ts : List Token) → outcome_of ts ≡ Err (why, rest) → (m : Lost Texts [] ts why rest) → Ends why m.beginning rest
+refused_by : (why : Reason) (rest : List Token) (ts : List Token) → outcome_of ts ≡ Err (why, rest) → (m : Lost Texts [] ts why rest) →
+    Ends why m.beginning rest
 refused_by Unexpected [] ts e m =
-    let same : ts ≡ m.beginning = m.parts ∙ append-nil m.beginning in
-    ((m.more, m.value, m.spelled), λ p whole. absurd (let read = accepted m.beginning p whole in let again : outcome_of m.beginning ≡ Err (Unexpected, []) = ap outcome_of (sym same) ∙ e in cc))
+    let same : ts ≡ m.beginning = m.parts ∙ append-nil m.beginning in (
+      (m.more, m.value, m.spelled),
+      λ p whole. absurd
+          (let read = accepted m.beginning p whole in let again : outcome_of m.beginning ≡ Err (Unexpected, []) = ap outcome_of (sym same) ∙ e in cc),
+    )
 refused_by Unexpected (t ∷ s) ts e m =
     ((m.more, m.value, m.spelled), λ mark begins. no_further m.beginning t s mark (ap outcome_of (sym m.parts) ∙ e) begins)
 refused_by TooDeep [] ts e m = absurd (let none = m.shows.first in cc)
@@ -233,9 +253,11 @@ has_answer ts = by_outcome ts (outcome_of ts) (exact ts)
 -- ---- a text has one refusal at most
 
 -- a shorter rest begins further on
-split : (beginning beginning' rest r : List Token) → beginning ++ rest ≡ beginning' ++ r → length r ≤ length rest → (m : List Token) × (beginning' ≡ beginning ++ m) × (rest ≡ m ++ r)
+split : (beginning beginning' rest r : List Token) → beginning ++ rest ≡ beginning' ++ r → length r ≤ length rest → (m : List Token)
+    × (beginning' ≡ beginning ++ m) × (rest ≡ m ++ r)
 split [] beginning' rest r e le = (beginning', refl, e)
-split (u ∷ beginning) [] rest r e le = absurd (let len : length (u ∷ beginning ++ rest) ≡ length r = ap length e in omega (arith, len, length-append beginning rest))
+split (u ∷ beginning) [] rest r e le = absurd
+    (let len : length (u ∷ beginning ++ rest) ≡ length r = ap length e in omega (arith, len, length-append beginning rest))
 split (u ∷ beginning) (v ∷ beginning') rest r e le =
     let same : u ≡ v = cc in
     let next_ : beginning ++ rest ≡ beginning' ++ r = cc in
@@ -243,24 +265,31 @@ split (u ∷ beginning) (v ∷ beginning') rest r e le =
     (m.0, ap (λ (ts : List Token). v ∷ ts) m.1 ∙ ap (λ (w : Token). w ∷ (beginning ++ m.0)) (sym same), m.2)
 
 -- a mark that is not fine is the reason of a refusal
-module _ (mark : Mark) (why : Reason) (bad : (t : Token) (ms : List Marked) (p : Program × Input) → after ((t, mark) ∷ ms) (Ok p) [] ≡ Err (why, t ∷ tokens ms ++ [])) where
-  after_bad : (beginning : List Token) (t : Token) (ms : List Marked) (p : Program × Input) → after ((fines beginning ++ (t, mark) ∷ []) ++ ms) (Ok p) [] ≡ Err (why, t ∷ tokens ms ++ [])
+module _ (mark : Mark) (why : Reason) (bad : (t : Token) (ms : List Marked) (p : Program × Input) →
+    after ((t, mark) ∷ ms) (Ok p) [] ≡ Err (why, t ∷ tokens ms ++ [])) where
+  after_bad : (beginning : List Token) (t : Token) (ms : List Marked) (p : Program × Input) →
+      after ((fines beginning ++ (t, mark) ∷ []) ++ ms) (Ok p) [] ≡ Err (why, t ∷ tokens ms ++ [])
   after_bad [] t ms p = bad t ms p
   after_bad (u ∷ beginning) t ms p = after_bad beginning t ms p
 
-  bad_refused : (beginning : List Token) (t : Token) (s : List Token) → Begins (fines beginning ++ (t, mark) ∷ []) → outcome_of (beginning ++ t ∷ s) ≡ Err (why, t ∷ s)
+  bad_refused : (beginning : List Token) (t : Token) (s : List Token) → Begins (fines beginning ++ (t, mark) ∷ []) →
+      outcome_of (beginning ++ t ∷ s) ≡ Err (why, t ∷ s)
   unfolding outcome_of
   bad_refused beginning t s begins =
       let ms = (fines beginning ++ (t, mark) ∷ []) ++ begins.0 in
       let same : tokens ms ++ [] ≡ beginning ++ t ∷ tokens begins.0 = append-nil (tokens ms) ∙ tokens_marked beginning t mark begins.0 in
       let read : text (start (beginning ++ t ∷ tokens begins.0)) ≡ Err (why, t ∷ tokens begins.0) =
-      sym (ap (λ (s : List Token). text (start s)) same) ∙ text_complete ms begins.1 begins.2 ∙ after_bad beginning t begins.0 (begins.1, input [] begins.2.0) ∙ ap (λ (ts : List Token). Err (why, t ∷ ts)) (append-nil (tokens begins.0)) in
-      let agree = local_text (tokens begins.0) s max_operators (beginning ++ t ∷ tokens begins.0) (beginning ++ t ∷ s) (alike_beginning beginning t (tokens begins.0) s) in
-      let stopped = agree_err (tokens begins.0) s (text (start (beginning ++ t ∷ tokens begins.0))) (text (start (beginning ++ t ∷ s))) why (t ∷ tokens begins.0) agree read (omega arith) in
+      sym (ap (λ (s : List Token). text (start s)) same) ∙ text_complete ms begins.1 begins.2 ∙
+      after_bad beginning t begins.0 (begins.1, input [] begins.2.0) ∙ ap (λ (ts : List Token). Err (why, t ∷ ts)) (append-nil (tokens begins.0)) in
+      let agree = local_text (tokens begins.0) s max_operators (beginning ++ t ∷ tokens begins.0) (beginning ++ t ∷ s)
+      (alike_beginning beginning t (tokens begins.0) s) in
+      let stopped = agree_err (tokens begins.0) s (text (start (beginning ++ t ∷ tokens begins.0))) (text (start (beginning ++ t ∷ s))) why
+      (t ∷ tokens begins.0) agree read (omega arith) in
       stopped.1 ∙ ap (λ (r : List Token). Err (why, r)) (at_cut t stopped.2 refl)
 
 -- what follows marks is a refusal no further back
-after_length : {A : Type 0} (ms : List Marked) (p : A × Input) (why : Reason) (r : List Token) → after ms (Ok p) [] ≡ Err (why, r) → length r ≤ length (tokens ms)
+after_length : {A : Type 0} (ms : List Marked) (p : A × Input) (why : Reason) (r : List Token) → after ms (Ok p) [] ≡ Err (why, r) →
+    length r ≤ length (tokens ms)
 after_length [] p why r e = absurd cc
 after_length ((t, fine) ∷ ms) p why r e = omega (arith, after_length ms p why r e)
 after_length ((t, deep) ∷ ms) p why r e =
@@ -276,48 +305,60 @@ tokens-ahead : (beginning : List Token) (ms : List Marked) → tokens (fines beg
 tokens-ahead [] ms = refl
 tokens-ahead (t ∷ beginning) ms = ap (λ (s : List Token). t ∷ s) (tokens-ahead beginning ms)
 
-after-ahead : {A : Type 0} (beginning : List Token) (ms : List Marked) (out : Outcome A) (rest : List Token) → after (fines beginning ++ ms) out rest ≡ after ms out rest
+after-ahead : {A : Type 0} (beginning : List Token) (ms : List Marked) (out : Outcome A) (rest : List Token) →
+    after (fines beginning ++ ms) out rest ≡ after ms out rest
 after-ahead [] ms out rest = refl
 after-ahead (t ∷ beginning) ms out rest = after-ahead beginning ms out rest
 
 -- A beginning of a text is read without a refusal.
-stuck_inside : (beginning : List Token) (u : Token) (m rest : List Token) (why : Reason) → Begins (fines (beginning ++ u ∷ m)) → outcome_of ((beginning ++ u ∷ m) ++ rest) ≡ Err (why, u ∷ m ++ rest) → ⊥
+stuck_inside : (beginning : List Token) (u : Token) (m rest : List Token) (why : Reason) → Begins (fines (beginning ++ u ∷ m)) →
+    outcome_of ((beginning ++ u ∷ m) ++ rest) ≡ Err (why, u ∷ m ++ rest) → ⊥
 unfolding outcome_of
 stuck_inside beginning u m rest why begins e =
     let ts = tokens begins.0 in
     let ms = fines (beginning ++ u ∷ m) ++ begins.0 in
-    let same : tokens ms ++ [] ≡ beginning ++ u ∷ (m ++ ts) = append-nil (tokens ms) ∙ tokens-ahead (beginning ++ u ∷ m) begins.0 ∙ append_assoc beginning (u ∷ m) ts in
+    let same : tokens ms ++ [] ≡ beginning ++ u ∷ (m ++ ts) = append-nil (tokens ms) ∙ tokens-ahead (beginning ++ u ∷ m) begins.0 ∙
+    append_assoc beginning (u ∷ m) ts in
     let read : text (start (beginning ++ u ∷ (m ++ ts))) ≡ after begins.0 (Ok (begins.1, input [] begins.2.0)) [] =
-    sym (ap (λ (s : List Token). text (start s)) same) ∙ text_complete ms begins.1 begins.2 ∙ after-ahead (beginning ++ u ∷ m) begins.0 (Ok (begins.1, input [] begins.2.0)) [] in
-    let refused : text (start (beginning ++ u ∷ (m ++ rest))) ≡ Err (why, u ∷ m ++ rest) = ap (λ (s : List Token). text (start s)) (sym (append_assoc beginning (u ∷ m) rest)) ∙ e in
-    let agree = local_text (m ++ rest) (m ++ ts) max_operators (beginning ++ u ∷ (m ++ rest)) (beginning ++ u ∷ (m ++ ts)) (alike_beginning beginning u (m ++ rest) (m ++ ts)) in
-    let stopped = agree_err (m ++ rest) (m ++ ts) (text (start (beginning ++ u ∷ (m ++ rest)))) (text (start (beginning ++ u ∷ (m ++ ts)))) why (u ∷ m ++ rest) agree refused (omega arith) in
+    sym (ap (λ (s : List Token). text (start s)) same) ∙ text_complete ms begins.1 begins.2 ∙
+    after-ahead (beginning ++ u ∷ m) begins.0 (Ok (begins.1, input [] begins.2.0)) [] in
+    let refused : text (start (beginning ++ u ∷ (m ++ rest))) ≡ Err (why, u ∷ m ++ rest) =
+    ap (λ (s : List Token). text (start s)) (sym (append_assoc beginning (u ∷ m) rest)) ∙ e in
+    let agree = local_text (m ++ rest) (m ++ ts) max_operators (beginning ++ u ∷ (m ++ rest)) (beginning ++ u ∷ (m ++ ts))
+    (alike_beginning beginning u (m ++ rest) (m ++ ts)) in
+    let stopped = agree_err (m ++ rest) (m ++ ts) (text (start (beginning ++ u ∷ (m ++ rest)))) (text (start (beginning ++ u ∷ (m ++ ts)))) why
+    (u ∷ m ++ rest) agree refused (omega arith) in
     let place : stopped.0 ≡ u ∷ (m ++ ts) = at_cut u stopped.2 refl in
     let le = after_length begins.0 (begins.1, input [] begins.2.0) why stopped.0 (sym read ∙ stopped.1) in
     let len : length stopped.0 ≡ length (u ∷ (m ++ ts)) = ap length place in
     absurd (omega (arith, len, le, length-append m ts))
 
-inside : (beginning before m rest r : List Token) (why : Reason) → beginning ≡ before ++ m → r ≡ m ++ rest → Begins (fines beginning) → outcome_of (beginning ++ rest) ≡ Err (why, r) → length rest < length r → ⊥
+inside : (beginning before m rest r : List Token) (why : Reason) → beginning ≡ before ++ m → r ≡ m ++ rest → Begins (fines beginning) →
+    outcome_of (beginning ++ rest) ≡ Err (why, r) → length rest < length r → ⊥
 inside beginning before [] rest r why is r-is begins e longer = absurd (let len : length r ≡ length rest = ap length r-is in omega arith)
 inside beginning before (u ∷ m) rest r why is r-is begins e longer =
     stuck_inside before u m rest why (subst (λ (f : List Token). Begins (fines f)) is begins)
     (ap (λ (f : List Token). outcome_of (f ++ rest)) (sym is) ∙ e ∙ ap (λ (r : List Token). Err (why, r)) r-is)
 
-reaches : (beginning rest : List Token) (why : Reason) (r : List Token) → Begins (fines beginning) → outcome_of (beginning ++ rest) ≡ Err (why, r) → Refuses (beginning ++ rest) why r → length rest < length r → ⊥
+reaches : (beginning rest : List Token) (why : Reason) (r : List Token) → Begins (fines beginning) → outcome_of (beginning ++ rest) ≡ Err (why, r) →
+    Refuses (beginning ++ rest) why r → length rest < length r → ⊥
 reaches beginning rest why r begins e refuses longer =
     let m = split refuses.0 beginning r rest (sym refuses.1) (omega arith) in
     inside beginning refuses.0 m.0 rest r why m.1 m.2 begins e longer
 
 -- a longer beginning begins, so a shorter one does
-begins_less : (beginning : List Token) (t : Token) (m : List Token) (b : List Marked) → Begins (fines (beginning ++ t ∷ m) ++ b) → Begins (fines beginning ++ (t, fine) ∷ [])
+begins_less : (beginning : List Token) (t : Token) (m : List Token) (b : List Marked) → Begins (fines (beginning ++ t ∷ m) ++ b) →
+    Begins (fines beginning ++ (t, fine) ∷ [])
 begins_less beginning t m b begins = ((fines m ++ b) ++ begins.0, begins.1, subst (λ (ms : List Marked). Text ms begins.1) (marks beginning) begins.2) where
   marks : (beginning : List Token) → (fines (beginning ++ t ∷ m) ++ b) ++ begins.0 ≡ (fines beginning ++ (t, fine) ∷ []) ++ ((fines m ++ b) ++ begins.0)
   marks [] = refl
   marks (u ∷ beginning) = ap (λ (ms : List Marked). (u, fine) ∷ ms) (marks beginning)
 
 begins_ends : (why : Reason) (beginning rest : List Token) → Ends why beginning rest → (b : List Marked) × Begins (fines beginning ++ b)
-begins_ends Unexpected beginning [] ends = ([], (ends.0.0, ends.0.1, subst (λ (ms : List Marked). Text (ms ++ ends.0.0) ends.0.1) (sym (append-nil (fines beginning))) ends.0.2))
-begins_ends Unexpected beginning (t ∷ s) ends = ([], (ends.0.0, ends.0.1, subst (λ (ms : List Marked). Text (ms ++ ends.0.0) ends.0.1) (sym (append-nil (fines beginning))) ends.0.2))
+begins_ends Unexpected beginning [] ends =
+    ([], (ends.0.0, ends.0.1, subst (λ (ms : List Marked). Text (ms ++ ends.0.0) ends.0.1) (sym (append-nil (fines beginning))) ends.0.2))
+begins_ends Unexpected beginning (t ∷ s) ends =
+    ([], (ends.0.0, ends.0.1, subst (λ (ms : List Marked). Text (ms ++ ends.0.0) ends.0.1) (sym (append-nil (fines beginning))) ends.0.2))
 begins_ends TooDeep beginning [] ends = absurd ends
 begins_ends TooDeep beginning (t ∷ s) ends = ((t, deep) ∷ [], ends)
 begins_ends Frequency beginning [] ends = absurd ends
@@ -327,24 +368,29 @@ accepted_begins : (ts : List Token) (p : Program) → Accepts ts p → Begins (f
 accepted_begins ts p whole = ([], p, subst (λ (ms : List Marked). Text ms p) (sym (append-nil (fines ts ++ []) ∙ append-nil (fines ts))) whole)
 
 -- a refusal at this place or further on
-at_or_behind : (beginning : List Token) (t : Token) (s m : List Token) (why : Reason) (beginning' r : List Token) → beginning' ≡ beginning ++ m → t ∷ s ≡ m ++ r → Ends why beginning' r → ((mark : Mark) → Begins (fines beginning ++ (t, mark) ∷ []) → ⊥) → (why ≡ Unexpected) × (r ≡ t ∷ s)
+at_or_behind : (beginning : List Token) (t : Token) (s m : List Token) (why : Reason) (beginning' r : List Token) → beginning' ≡ beginning ++ m →
+    t ∷ s ≡ m ++ r → Ends why beginning' r → ((mark : Mark) → Begins (fines beginning ++ (t, mark) ∷ []) → ⊥) → (why ≡ Unexpected) × (r ≡ t ∷ s)
 at_or_behind beginning t s [] Unexpected beginning' r is r-is ends none = (refl, sym r-is)
 at_or_behind beginning t s [] TooDeep beginning' r is r-is ends none =
     let same : beginning' ≡ beginning = is ∙ append-nil beginning in
-    let here : Ends TooDeep beginning (t ∷ s) = subst (λ (f : List Token). Ends TooDeep f (t ∷ s)) same (subst (λ (q : List Token). Ends TooDeep beginning' q) (sym r-is) ends) in
+    let here : Ends TooDeep beginning (t ∷ s) =
+    subst (λ (f : List Token). Ends TooDeep f (t ∷ s)) same (subst (λ (q : List Token). Ends TooDeep beginning' q) (sym r-is) ends) in
     absurd (none deep here)
 at_or_behind beginning t s [] Frequency beginning' r is r-is ends none =
     let same : beginning' ≡ beginning = is ∙ append-nil beginning in
-    let here : Ends Frequency beginning (t ∷ s) = subst (λ (f : List Token). Ends Frequency f (t ∷ s)) same (subst (λ (q : List Token). Ends Frequency beginning' q) (sym r-is) ends) in
+    let here : Ends Frequency beginning (t ∷ s) =
+    subst (λ (f : List Token). Ends Frequency f (t ∷ s)) same (subst (λ (q : List Token). Ends Frequency beginning' q) (sym r-is) ends) in
     absurd (none wrong here)
 at_or_behind beginning t s (v ∷ m) why beginning' r is r-is ends none =
     let begins = begins_ends why beginning' r ends in
     let first : v ≡ t = cc in
-    let there : Begins (fines (beginning ++ t ∷ m) ++ begins.0) = subst (λ (f : List Token). Begins (fines f ++ begins.0)) (is ∙ ap (λ (w : Token). beginning ++ w ∷ m) first) begins.1 in
+    let there : Begins (fines (beginning ++ t ∷ m) ++ begins.0) =
+    subst (λ (f : List Token). Begins (fines f ++ begins.0)) (is ∙ ap (λ (w : Token). beginning ++ w ∷ m) first) begins.1 in
     absurd (none fine (begins_less beginning t m begins.0 there))
 
 -- the answer of the functions on lists, where the tokens are refused so
-unexpected_at : (beginning : List Token) (t : Token) (s : List Token) (out : Outcome Program) → outcome_of (beginning ++ t ∷ s) ≡ out → Exact (beginning ++ t ∷ s) out → Ends Unexpected beginning (t ∷ s) → out ≡ Err (Unexpected, t ∷ s)
+unexpected_at : (beginning : List Token) (t : Token) (s : List Token) (out : Outcome Program) → outcome_of (beginning ++ t ∷ s) ≡ out →
+    Exact (beginning ++ t ∷ s) out → Ends Unexpected beginning (t ∷ s) → out ≡ Err (Unexpected, t ∷ s)
 unexpected_at beginning t s (Ok p) e exact_ ends = absurd (ends.1 fine (begins_less beginning t s [] (accepted_begins (beginning ++ t ∷ s) p.0 exact_)))
 unexpected_at beginning t s (Err f) e exact_ ends =
     elim (cases_lt (length (t ∷ s)) (length f.1)) [
@@ -366,7 +412,8 @@ at_the_end TooDeep beginning (t ∷ r) none ends = absurd cc
 at_the_end Frequency beginning [] none ends = absurd ends
 at_the_end Frequency beginning (t ∷ r) none ends = absurd cc
 
-too_early : (beginning : List Token) (out : Outcome Program) → outcome_of (beginning ++ []) ≡ out → Exact (beginning ++ []) out → Ends Unexpected beginning [] → out ≡ Err (Unexpected, [])
+too_early : (beginning : List Token) (out : Outcome Program) → outcome_of (beginning ++ []) ≡ out → Exact (beginning ++ []) out →
+    Ends Unexpected beginning [] → out ≡ Err (Unexpected, [])
 too_early beginning (Ok p) e exact_ ends = absurd (ends.1 p.0 (subst (λ (ts : List Token). Accepts ts p.0) (append-nil beginning) exact_))
 too_early beginning (Err f) e exact_ ends =
     elim (cases_lt 0 (length f.1)) [

@@ -47,7 +47,8 @@ module _ (most : ℕ) where
   record Keeps {A : Type 0} (T : Form A) (K : A → Type 0) : Type 0 where
     by : (o n : ℕ) (ms : List Marked) (x : A) → T o ms x n → AllGood ms → K x
 
-  module _ {A : Type 0} (pick : Token → Option A) (mark : ℕ → Token → Mark) (left : ℕ → ℕ) (K : A → Type 0) (holds : (o : ℕ) (t : Token) (x : A) → pick t ≡ Some x → mark o t ≡ fine → IsLine most t.line → K x) where
+  module _ {A : Type 0} (pick : Token → Option A) (mark : ℕ → Token → Mark) (left : ℕ → ℕ) (K : A → Type 0)
+      (holds : (o : ℕ) (t : Token) (x : A) → pick t ≡ Some x → mark o t ≡ fine → IsLine most t.line → K x) where
     picks_by : (o n : ℕ) (ms : List Marked) (x : A) → Picks pick mark left o ms x n → AllGood ms → K x
     picks_by _ _ _ _ (picks o t x is) h = let good = good_token (mark o t) t h in holds o t x is good.1 good.0
 
@@ -60,22 +61,26 @@ module _ (most : ℕ) where
   gives_keep : {A : Type 0} {x : A} {K : A → Type 0} → K x → Keeps (Gives x) K
   gives_keep {x = x} {K = K} h = record { by = λ o n ms y s good. gives_by x K h o n ms y s }
 
-  then_by : {A B : Type 0} (P : Form A) (Q : A → Form B) (J : A → Type 0) (K : B → Type 0) → Keeps P J → ((x : A) → J x → Keeps (Q x) K) → (o n : ℕ) (ms : List Marked) (y : B) → Then P Q o ms y n → AllGood ms → K y
+  then_by : {A B : Type 0} (P : Form A) (Q : A → Form B) (J : A → Type 0) (K : B → Type 0) → Keeps P J → ((x : A) → J x → Keeps (Q x) K) →
+      (o n : ℕ) (ms : List Marked) (y : B) → Then P Q o ms y n → AllGood ms → K y
   then_by P Q J K one two _ _ _ _ (then_ o m n a b x y s u) h = (two x (one.by o m a x s (good_first a b h))).by m n b y u (good_second a b h)
 
   then_keep : {A B : Type 0} {P : Form A} {Q : A → Form B} {J : A → Type 0} {K : B → Type 0} → Keeps P J → ((x : A) → J x → Keeps (Q x) K) → Keeps (Then P Q) K
   then_keep {P = P} {Q = Q} {J = J} {K = K} one two = record { by = then_by P Q J K one two }
 
-  either_by : {A : Type 0} (P Q : Form A) (K : A → Type 0) → Keeps P K → Keeps Q K → (o n : ℕ) (ms : List Marked) (x : A) → Either P Q o ms x n → AllGood ms → K x
+  either_by : {A : Type 0} (P Q : Form A) (K : A → Type 0) → Keeps P K → Keeps Q K → (o n : ℕ) (ms : List Marked) (x : A) → Either P Q o ms x n →
+      AllGood ms → K x
   either_by P Q K one two _ _ _ _ (this o n ms x s) h = one.by o n ms x s h
   either_by P Q K one two _ _ _ _ (that o n ms x s) h = two.by o n ms x s h
 
   either_keep : {A : Type 0} {P Q : Form A} {K : A → Type 0} → Keeps P K → Keeps Q K → Keeps (Either P Q) K
   either_keep {P = P} {Q = Q} {K = K} one two = record { by = either_by P Q K one two }
 
-  many_by : {A : Type 0} (Q : A → Form A) (K : A → Type 0) → ((x : A) → K x → Keeps (Q x) K) → (o n : ℕ) (ms : List Marked) (x z : A) → K x → Many Q x o ms z n → AllGood ms → K z
+  many_by : {A : Type 0} (Q : A → Form A) (K : A → Type 0) → ((x : A) → K x → Keeps (Q x) K) → (o n : ℕ) (ms : List Marked) (x z : A) → K x →
+      Many Q x o ms z n → AllGood ms → K z
   many_by Q K two _ _ _ _ _ h (none x o) good = h
-  many_by Q K two _ _ _ _ _ h (round x y z o m n a b s more) good = many_by Q K two m n b y z ((two x h).by o m a y s (good_first a b good)) more (good_second a b good)
+  many_by Q K two _ _ _ _ _ h (round x y z o m n a b s more) good =
+      many_by Q K two m n b y z ((two x h).by o m a y s (good_first a b good)) more (good_second a b good)
 
   many_keep : {A : Type 0} {Q : A → Form A} {K : A → Type 0} → ((x : A) → K x → Keeps (Q x) K) → (x : A) → K x → Keeps (Many Q x) K
   many_keep {Q = Q} {K = K} two x h = record { by = λ o n ms z s good. many_by Q K two o n ms x z h s good }
@@ -102,14 +107,16 @@ module _ (most : ℕ) where
   where_line false v x e = absurd cc
 
   expect_keep : (kd : Kind) → Keeps (g.expect kd) (IsLine most)
-  expect_keep kd = picks_keep (where_kind kd line_of) no_limit as_many (IsLine most) (λ o t x e marks line. subst (IsLine most) (where_line (same_kind (kind_of t.kind) kd) t.line x e) line)
+  expect_keep kd = picks_keep (where_kind kd line_of) no_limit as_many (IsLine most)
+      (λ o t x e marks line. subst (IsLine most) (where_line (same_kind (kind_of t.kind) kd) t.line x e) line)
 
   limited : (l : ℕ) → limit l ≡ fine → 0 < l
   limited zero e = absurd cc
   limited (suc l) e = omega arith
 
   enter_keep : (l : ℕ) (kd : Kind) → Keeps (g.enter l kd) (λ x. IsLine most x × (0 < l))
-  enter_keep l kd = picks_keep (where_kind kd line_of) (λ n t. limit l) as_many (λ x. IsLine most x × (0 < l)) (λ o t x e marks line. (subst (IsLine most) (where_line (same_kind (kind_of t.kind) kd) t.line x e) line, limited l marks))
+  enter_keep l kd = picks_keep (where_kind kd line_of) (λ n t. limit l) as_many (λ x. IsLine most x × (0 < l))
+      (λ o t x e marks line. (subst (IsLine most) (where_line (same_kind (kind_of t.kind) kd) t.line x e) line, limited l marks))
 
   lined : {A : Type 0} (c : Option A) (line : ℕ) (x : A × ℕ) → with_line c line ≡ Some x → line ≡ x.1
   lined None line x e = absurd cc
@@ -119,10 +126,12 @@ module _ (most : ℕ) where
   name_keep = picks_keep name_at no_limit as_many (λ w. IsLine most w.1) (λ o t x e marks line. subst (IsLine most) (lined (name_in t.kind) t.line x e) line)
 
   command_keep : Keeps g.command (λ w. IsLine most w.1)
-  command_keep = picks_keep (λ t. with_line (command_of (kind_of t.kind)) t.line) no_limit as_many (λ w. IsLine most w.1) (λ o t x e marks line. subst (IsLine most) (lined (command_of (kind_of t.kind)) t.line x e) line)
+  command_keep = picks_keep (λ t. with_line (command_of (kind_of t.kind)) t.line) no_limit as_many (λ w. IsLine most w.1)
+      (λ o t x e marks line. subst (IsLine most) (lined (command_of (kind_of t.kind)) t.line x e) line)
 
   timer_keep : Keeps g.timer (λ w. IsLine most w.1)
-  timer_keep = picks_keep (λ t. with_line (timer_of (kind_of t.kind)) t.line) no_limit as_many (λ w. IsLine most w.1) (λ o t x e marks line. subst (IsLine most) (lined (timer_of (kind_of t.kind)) t.line x e) line)
+  timer_keep = picks_keep (λ t. with_line (timer_of (kind_of t.kind)) t.line) no_limit as_many (λ w. IsLine most w.1)
+      (λ o t x e marks line. subst (IsLine most) (lined (timer_of (kind_of t.kind)) t.line x e) line)
 
   -- ---- expressions
 
@@ -163,18 +172,21 @@ module _ (most : ℕ) where
   module _ (l : ℕ) (Deep : Rank → Form Expr) (deeper : 0 < l → (x : Rank) → Keeps (Deep x) (Deeper l x)) where
     index_keep : Keeps (g.index l Deep) (λ x. room x ≤ 6 * l)
     unfolding g.index
-    index_keep = then_keep (enter_keep l k.OpenIndex) (λ _ h. then_keep (deeper h.1 rank.Or) (λ x j. then_keep (any_keep (g.expect k.CloseIndex)) (λ _ _. gives_keep (omega arith))))
+    index_keep = then_keep (enter_keep l k.OpenIndex)
+        (λ _ h. then_keep (deeper h.1 rank.Or) (λ x j. then_keep (any_keep (g.expect k.CloseIndex)) (λ _ _. gives_keep (omega arith))))
 
     brackets_keep : Keeps (g.brackets l Deep) (Roomy l rank.Atom)
     unfolding g.brackets
-    brackets_keep = then_keep (enter_keep l k.Open) (λ _ h. then_keep (deeper h.1 rank.Or) (λ x j. then_keep (any_keep (g.expect k.Close)) (λ _ _. gives_keep (omega arith))))
+    brackets_keep = then_keep (enter_keep l k.Open)
+        (λ _ h. then_keep (deeper h.1 rank.Or) (λ x j. then_keep (any_keep (g.expect k.Close)) (λ _ _. gives_keep (omega arith))))
 
     abbrev Args : List Expr → Type 0
     Args xs = room_of_all (exprs xs) ≤ 6 * l
 
     next_argument_keep : 0 < l → (xs : List Expr) → Args xs → Keeps (g.next_argument l Deep xs) Args
     unfolding g.next_argument
-    next_argument_keep lt xs h = then_keep (any_keep (g.expect k.Comma)) (λ _ _. then_keep (deeper lt rank.Or) (λ x j. gives_keep (omega (arith, room-snoc xs x))))
+    next_argument_keep lt xs h = then_keep (any_keep (g.expect k.Comma))
+        (λ _ _. then_keep (deeper lt rank.Or) (λ x j. gives_keep (omega (arith, room-snoc xs x))))
 
     some_arguments_keep : 0 < l → Keeps (g.some_arguments l Deep) Args
     unfolding g.some_arguments
@@ -182,7 +194,9 @@ module _ (most : ℕ) where
 
     arguments_keep : Keeps (g.arguments l Deep) Args
     unfolding g.arguments
-    arguments_keep = then_keep (enter_keep l k.Open) (λ _ h. then_keep (either_keep (some_arguments_keep h.1) (gives_keep {K = Args} (omega arith))) (λ xs j. then_keep (any_keep (g.expect k.Close)) (λ _ _. gives_keep j)))
+    arguments_keep = then_keep (enter_keep l k.Open)
+        (λ _ h. then_keep (either_keep (some_arguments_keep h.1) (gives_keep {K = Args} (omega arith)))
+        (λ xs j. then_keep (any_keep (g.expect k.Close)) (λ _ _. gives_keep j)))
 
     a_reading_keep : Keeps (g.a_reading l Deep) (Roomy l rank.Atom)
     unfolding g.a_reading
@@ -190,11 +204,15 @@ module _ (most : ℕ) where
 
     current_state_keep : Keeps (g.current_state l Deep) (Roomy l rank.Atom)
     unfolding g.current_state
-    current_state_keep = then_keep (any_keep (g.expect k.CurrentState)) (λ _ _. then_keep (enter_keep l k.Open) (λ _ h. then_keep (deeper h.1 rank.Or) (λ x j. then_keep (any_keep (g.expect k.Comma)) (λ _ _. then_keep (any_keep g.aspect) (λ a _. then_keep (any_keep (g.expect k.Close)) (λ _ _. gives_keep (omega arith)))))))
+    current_state_keep = then_keep (any_keep (g.expect k.CurrentState))
+        (λ _ _. then_keep (enter_keep l k.Open) (λ _ h. then_keep (deeper h.1 rank.Or)
+        (λ x j. then_keep (any_keep (g.expect k.Comma))
+        (λ _ _. then_keep (any_keep g.aspect) (λ a _. then_keep (any_keep (g.expect k.Close)) (λ _ _. gives_keep (omega arith)))))))
 
     any_interstage_keep : Keeps (g.any_interstage l Deep) (Roomy l rank.Atom)
     unfolding g.any_interstage
-    any_interstage_keep = then_keep (any_keep (g.expect k.AnyInterstageActive)) (λ _ _. then_keep (any_keep (Either (g.empty_brackets l Deep) (Gives 0))) (λ _ _. gives_keep (omega arith)))
+    any_interstage_keep = then_keep (any_keep (g.expect k.AnyInterstageActive))
+        (λ _ _. then_keep (any_keep (Either (g.empty_brackets l Deep) (Gives 0))) (λ _ _. gives_keep (omega arith)))
 
     cell_of_keep : (w : List ℕ) → Keeps (g.cell_of l Deep w) (Roomy l rank.Atom)
     unfolding g.cell_of
@@ -206,7 +224,8 @@ module _ (most : ℕ) where
 
     atom_keep : Keeps (g.atom l Deep) (Roomy l rank.Atom)
     unfolding g.atom
-    atom_keep = either_keep (literal_keep l rank.Atom) (either_keep name_or_cell_keep (either_keep brackets_keep (either_keep current_state_keep (either_keep any_interstage_keep a_reading_keep))))
+    atom_keep = either_keep (literal_keep l rank.Atom)
+        (either_keep name_or_cell_keep (either_keep brackets_keep (either_keep current_state_keep (either_keep any_interstage_keep a_reading_keep))))
 
     negative_keep : Keeps (g.negative l Deep) (Roomy l rank.Sign)
     unfolding g.negative
@@ -306,11 +325,13 @@ module _ (most : ℕ) where
 
     cell_assigned_keep : (w : List ℕ × ℕ) → IsLine most w.1 → Keeps (g.cell_assigned w) Good
     unfolding g.cell_assigned
-    cell_assigned_keep w line = then_keep (index_keep max_levels (g.inner max_levels) (deep_keep max_levels)) (λ i h. then_keep (any_keep (g.expect k.Assign)) (λ _ _. then_keep whole_keep (λ x j. gives_keep (line, (omega arith, j)))))
+    cell_assigned_keep w line = then_keep (index_keep max_levels (g.inner max_levels) (deep_keep max_levels))
+        (λ i h. then_keep (any_keep (g.expect k.Assign)) (λ _ _. then_keep whole_keep (λ x j. gives_keep (line, (omega arith, j)))))
 
     named_item_keep : Keeps g.named_item Good
     unfolding g.named_item
-    named_item_keep = then_keep name_keep (λ w line. either_keep (labelled_keep w line) (either_keep (assigned_keep w line) (anew_keep (cell_assigned_keep w line))))
+    named_item_keep = then_keep name_keep (λ w line. either_keep (labelled_keep w line)
+        (either_keep (assigned_keep w line) (anew_keep (cell_assigned_keep w line))))
 
     goto_keep : Keeps g.goto Good
     unfolding g.goto
@@ -322,15 +343,19 @@ module _ (most : ℕ) where
 
     trace_keep : Keeps g.trace Good
     unfolding g.trace
-    trace_keep = then_keep (expect_keep k.Trace) (λ at line. then_keep (any_keep (g.expect k.Open)) (λ _ _. then_keep (any_keep Balanced) (λ _ _. gives_keep (line, tt))))
+    trace_keep = then_keep (expect_keep k.Trace)
+        (λ at line. then_keep (any_keep (g.expect k.Open)) (λ _ _. then_keep (any_keep Balanced) (λ _ _. gives_keep (line, tt))))
 
     timer_statement_keep : Keeps g.timer_statement Good
     unfolding g.timer_statement
-    timer_statement_keep = then_keep timer_keep (λ what line. then_keep (any_keep (g.expect k.Open)) (λ _ _. then_keep (any_keep g.name) (λ w _. then_keep (any_keep (g.expect k.Close)) (λ _ _. gives_keep (line, tt)))))
+    timer_statement_keep = then_keep timer_keep
+        (λ what line. then_keep (any_keep (g.expect k.Open))
+        (λ _ _. then_keep (any_keep g.name) (λ w _. then_keep (any_keep (g.expect k.Close)) (λ _ _. gives_keep (line, tt)))))
 
     command_statement_keep : Keeps g.command_statement Good
     unfolding g.command_statement
-    command_statement_keep = then_keep command_keep (λ what line. then_keep (anew_keep (arguments_keep max_levels (g.inner max_levels) (deep_keep max_levels))) (λ xs h. gives_keep (line, omega arith)))
+    command_statement_keep = then_keep command_keep
+        (λ what line. then_keep (anew_keep (arguments_keep max_levels (g.inner max_levels) (deep_keep max_levels))) (λ xs h. gives_keep (line, omega arith)))
 
     simple_statement_keep : Keeps g.simple_statement Good
     unfolding g.simple_statement
@@ -354,7 +379,10 @@ module _ (most : ℕ) where
 
       branch_keep : Keeps (g.branch ifs Deep) Good
       unfolding g.branch
-      branch_keep = then_keep (enter_keep ifs k.If) (λ at line. then_keep expression_keep (λ x h. then_keep (any_keep (g.expect k.Then)) (λ _ _. then_keep (deeper line.1) (λ ys j. then_keep (else_branch_keep line.1) (λ ns i. then_keep (any_keep (g.expect k.End)) (λ _ _. gives_keep (line.0, (h, line.1, j, i))))))))
+      branch_keep = then_keep (enter_keep ifs k.If)
+          (λ at line. then_keep expression_keep (λ x h. then_keep (any_keep (g.expect k.Then))
+          (λ _ _. then_keep (deeper line.1) (λ ys j. then_keep (else_branch_keep line.1)
+          (λ ns i. then_keep (any_keep (g.expect k.End)) (λ _ _. gives_keep (line.0, (h, line.1, j, i))))))))
 
       item_keep : Keeps (g.item ifs Deep) Good
       unfolding g.item
@@ -399,15 +427,19 @@ module _ (most : ℕ) where
 
   next_constant_keep : (cs : List Constant) → Lined cs → Keeps (g.next_constant cs) Lined
   unfolding g.next_constant
-  next_constant_keep cs h = then_keep (any_keep (g.expect k.Comma)) (λ _ _. then_keep constant_keep (λ c j. gives_keep (all-snoc (λ c. IsLine most c.line) cs c h j)))
+  next_constant_keep cs h = then_keep (any_keep (g.expect k.Comma))
+      (λ _ _. then_keep constant_keep (λ c j. gives_keep (all-snoc (λ c. IsLine most c.line) cs c h j)))
 
   constants_keep : (cs : List Constant) → Lined cs → Keeps (g.constants cs) Lined
   unfolding g.constants
-  constants_keep cs h = then_keep (any_keep (g.expect k.Const)) (λ _ _. then_keep constant_keep (λ c j. many_keep next_constant_keep (cs ++ c ∷ []) (all-snoc (λ c. IsLine most c.line) cs c h j)))
+  constants_keep cs h = then_keep (any_keep (g.expect k.Const))
+      (λ _ _. then_keep constant_keep (λ c j. many_keep next_constant_keep (cs ++ c ∷ []) (all-snoc (λ c. IsLine most c.line) cs c h j)))
 
   array_keep : Keeps g.array (λ a. IsLine most a.line)
   unfolding g.array
-  array_keep = then_keep name_keep (λ w line. then_keep (any_keep (g.expect k.OpenIndex)) (λ _ _. then_keep (any_keep g.number) (λ n _. then_keep (any_keep (g.expect k.CloseIndex)) (λ _ _. then_keep (any_keep (g.expect k.Eq)) (λ _ _. then_keep (any_keep g.values) (λ vs _. gives_keep line))))))
+  array_keep = then_keep name_keep (λ w line. then_keep (any_keep (g.expect k.OpenIndex))
+      (λ _ _. then_keep (any_keep g.number) (λ n _. then_keep (any_keep (g.expect k.CloseIndex))
+      (λ _ _. then_keep (any_keep (g.expect k.Eq)) (λ _ _. then_keep (any_keep g.values) (λ vs _. gives_keep line))))))
 
   next_array_keep : (xs : List Array) → LinedArrays xs → Keeps (g.next_array xs) LinedArrays
   unfolding g.next_array
@@ -415,14 +447,16 @@ module _ (most : ℕ) where
 
   arrays_keep : (xs : List Array) → LinedArrays xs → Keeps (g.arrays xs) LinedArrays
   unfolding g.arrays
-  arrays_keep xs h = then_keep (any_keep (g.expect k.Array)) (λ _ _. then_keep array_keep (λ a j. many_keep next_array_keep (xs ++ a ∷ []) (all-snoc (λ a. IsLine most a.line) xs a h j)))
+  arrays_keep xs h = then_keep (any_keep (g.expect k.Array))
+      (λ _ _. then_keep array_keep (λ a j. many_keep next_array_keep (xs ++ a ∷ []) (all-snoc (λ a. IsLine most a.line) xs a h j)))
 
   abbrev LinedAll : Declared → Type 0
   LinedAll d = Lined d.0 × LinedArrays d.1
 
   one_declaration_keep : (d : Declared) → LinedAll d → Keeps (g.one_declaration d) LinedAll
   unfolding g.one_declaration g.declared_frequency g.declared_constants g.declared_arrays
-  one_declaration_keep d h = either_keep (then_keep (any_keep g.frequencies) (λ _ _. gives_keep h)) (either_keep (then_keep (constants_keep d.0 h.0) (λ cs j. gives_keep (j, h.1))) (then_keep (arrays_keep d.1 h.1) (λ xs j. gives_keep (h.0, j))))
+  one_declaration_keep d h = either_keep (then_keep (any_keep g.frequencies) (λ _ _. gives_keep h))
+      (either_keep (then_keep (constants_keep d.0 h.0) (λ cs j. gives_keep (j, h.1))) (then_keep (arrays_keep d.1 h.1) (λ xs j. gives_keep (h.0, j))))
 
   declaration_keep : (d : Declared) → LinedAll d → Keeps (g.declaration d) LinedAll
   unfolding g.declaration
@@ -430,7 +464,9 @@ module _ (most : ℕ) where
 
   sub_keep : Keeps g.sub (ParsedRoutine most)
   unfolding g.sub
-  sub_keep = then_keep (any_keep (g.expect k.Subroutine)) (λ _ _. then_keep name_keep (λ w line. then_keep body_keep (λ xs h. then_keep (any_keep g.ending) (λ _ _. gives_keep (record { line = line; body = h })))))
+  sub_keep = then_keep (any_keep (g.expect k.Subroutine))
+      (λ _ _. then_keep name_keep (λ w line. then_keep body_keep
+      (λ xs h. then_keep (any_keep g.ending) (λ _ _. gives_keep (record { line = line; body = h })))))
 
   abbrev Subs : List Routine → Type 0
   Subs rs = All (λ r. ParsedRoutine most r) rs
@@ -444,7 +480,8 @@ module _ (most : ℕ) where
   program_keep = then_keep (any_keep (g.expect k.Program)) (λ _ _. then_keep name_keep (λ w line. then_keep (any_keep g.semis) (λ _ _.
       then_keep (many_keep declaration_keep ([], []) (All-nil (λ c. IsLine most c.line), All-nil (λ a. IsLine most a.line))) (λ d h.
       then_keep (many_keep next_sub_keep [] (All-nil (λ r. ParsedRoutine most r))) (λ rs i.
-      then_keep main_keep (λ xs j. then_keep (any_keep g.ending) (λ _ _. gives_keep (record { consts = h.0; arrays = h.1; subs = i; main = record { line = line; body = j } }))))))))
+      then_keep main_keep (λ xs j. then_keep (any_keep g.ending)
+      (λ _ _. gives_keep (record { consts = h.0; arrays = h.1; subs = i; main = record { line = line; body = j } }))))))))
 
   all_good : (ts : List Token) → All (λ t. IsLine most t.line) ts → AllGood (fines ts)
   all_good [] h = tt

@@ -69,7 +69,14 @@ fines-append [] b = refl
 fines-append (t ∷ a) b = ap (λ (ms : List Marked). (t, fine) ∷ ms) (fines-append a b)
 
 bears_more : (mark : Mark) (rest : List Token) (ms b : List Marked) → Bears mark rest ms → Bears mark rest (ms ++ b)
-bears_more mark rest ms b s = record { token = s.token; behind = s.behind; others = s.others ++ b; first = s.first; marked = ap (λ (m : List Marked). m ++ b) s.marked }
+bears_more mark rest ms b s = record {
+  token = s.token;
+  behind = s.behind;
+  others = s.others ++ b;
+  first = s.first;
+  marked =
+      ap (λ (m : List Marked). m ++ b) s.marked;
+}
 
 shows_more : (why : Reason) (rest : List Token) (ms b : List Marked) → Shows why rest ms → Shows why rest (ms ++ b)
 shows_more Unexpected rest ms b shows = tt
@@ -77,7 +84,8 @@ shows_more TooDeep rest ms b shows = bears_more deep rest ms b shows
 shows_more Frequency rest ms b shows = bears_more wrong rest ms b shows
 
 -- what R spells is a part of what T spells
-lost_in : {A B : Type 0} (R : List Marked → A → ℕ → Type 0) (T : List Marked → B → ℕ → Type 0) (ts : List Token) (why : Reason) (rest : List Token) → Lost R [] ts why rest
+lost_in : {A B : Type 0} (R : List Marked → A → ℕ → Type 0) (T : List Marked → B → ℕ → Type 0) (ts : List Token) (why : Reason) (rest : List Token) →
+    Lost R [] ts why rest
     → ((ms : List Marked) (x : A) (n : ℕ) → R ms x n → Completed T ms) → Lost T [] ts why rest
 lost_in R T ts why rest m lost =
     let done = lost (fines m.beginning ++ m.more) m.value m.left m.spelled in
@@ -91,7 +99,8 @@ lost_in R T ts why rest m lost =
       spelled = subst (λ (ms : List Marked). T ms done.1 done.2) (append_assoc (fines m.beginning) m.more done.0) done.3;
     }
 
-pub step : {A B : Type 0} (R : List Marked → A → ℕ → Type 0) (T : List Marked → B → ℕ → Type 0) (ts : List Token) (out : Outcome A) (f : A → Parser B) → Meets R [] ts out
+pub step : {A B : Type 0} (R : List Marked → A → ℕ → Type 0) (T : List Marked → B → ℕ → Type 0) (ts : List Token) (out : Outcome A)
+    (f : A → Parser B) → Meets R [] ts out
     → ((ms : List Marked) (x : A) (n : ℕ) → R ms x n → Completed T ms)
     → ((beginning : List Token) (x : A) (j : Input) → R (fines beginning) x j.operators → Meets T beginning j.rest (f x j))
     → Meets T [] ts (and_then out f)
@@ -99,13 +108,21 @@ step R T ts (Ok p) f m lost found = onward T [] ts m.beginning p.1.rest (f p.0 p
 step R T ts (Err e) f m lost found = lost_in R T ts e.0 e.1 m lost
 
 -- what R spells is spelled by T
-pub widen : {A : Type 0} (R T : List Marked → A → ℕ → Type 0) (pre ts : List Token) (out : Outcome A) → ((ms : List Marked) (x : A) (n : ℕ) → R ms x n → T ms x n) → Meets R pre ts out → Meets T pre ts out
+pub widen : {A : Type 0} (R T : List Marked → A → ℕ → Type 0) (pre ts : List Token) (out : Outcome A) →
+    ((ms : List Marked) (x : A) (n : ℕ) → R ms x n → T ms x n) → Meets R pre ts out → Meets T pre ts out
 widen R T pre ts (Ok p) into m = record { beginning = m.beginning; parts = m.parts; spelled = into _ p.0 p.1.operators m.spelled }
-widen R T pre ts (Err e) into m = record { beginning = m.beginning; parts = m.parts; more = m.more; value = m.value; left = m.left; shows = m.shows; spelled = into _ m.value m.left m.spelled }
+widen R T pre ts (Err e) into m = record
+    { beginning = m.beginning; parts = m.parts; more = m.more; value = m.value; left = m.left; shows = m.shows; spelled = into _ m.value m.left m.spelled }
 
 -- what R spells, behind `pre`, is what T spells
-pub prefixed : {A : Type 0} (R T : List Marked → A → ℕ → Type 0) (pre ts : List Token) (out : Outcome A) → ((ms : List Marked) (x : A) (n : ℕ) → R ms x n → T (fines pre ++ ms) x n) → Meets R [] ts out → Meets T pre ts out
-prefixed R T pre ts (Ok p) into m = record { beginning = m.beginning; parts = m.parts; spelled = subst (λ (ms : List Marked). T ms p.0 p.1.operators) (sym (fines-append pre m.beginning)) (into (fines m.beginning) p.0 p.1.operators m.spelled) }
+pub prefixed : {A : Type 0} (R T : List Marked → A → ℕ → Type 0) (pre ts : List Token) (out : Outcome A) →
+    ((ms : List Marked) (x : A) (n : ℕ) → R ms x n → T (fines pre ++ ms) x n) → Meets R [] ts out → Meets T pre ts out
+prefixed R T pre ts (Ok p) into m = record {
+  beginning = m.beginning;
+  parts = m.parts;
+  spelled =
+      subst (λ (ms : List Marked). T ms p.0 p.1.operators) (sym (fines-append pre m.beginning)) (into (fines m.beginning) p.0 p.1.operators m.spelled);
+}
 prefixed R T pre ts (Err e) into m = record {
   beginning = m.beginning;
   parts = m.parts;
@@ -113,7 +130,9 @@ prefixed R T pre ts (Err e) into m = record {
   value = m.value;
   left = m.left;
   shows = m.shows;
-  spelled = subst (λ (ms : List Marked). T ms m.value m.left) (let same : fines pre ++ (fines m.beginning ++ m.more) ≡ fines (pre ++ m.beginning) ++ m.more = simp (fines-append, append_assoc) in same) (into (fines m.beginning ++ m.more) m.value m.left m.spelled);
+  spelled = subst (λ (ms : List Marked). T ms m.value m.left)
+      (let same : fines pre ++ (fines m.beginning ++ m.more) ≡ fines (pre ++ m.beginning) ++ m.more = simp (fines-append, append_assoc) in same)
+      (into (fines m.beginning ++ m.more) m.value m.left m.spelled);
 }
 
 -- ---- so no parser makes the rest longer

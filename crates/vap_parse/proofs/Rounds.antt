@@ -33,12 +33,15 @@ module _ {A : Type 0} (p : Parser A) (T : Form A) (first goes : Kind → Bool) (
 pub shorter : {A : Type 0} {p : Parser A} {T : Form A} {first goes : Kind → Bool} → Law p T first goes false → (i : Input) → Shorter (length i.rest) (p i)
 shorter {p = p} {T = T} {first = first} {goes = goes} law i = shorter_by p T first goes law i.operators i.rest (p i) (law.meets i.operators i.rest)
 
-again : {A : Type 0} (f g : A → Parser A) (n : ℕ) (o : Outcome A) → Shorter n o → ((y : A) (j : Input) → length j.rest < n → f y j ≡ g y j) → and_then o f ≡ and_then o g
+again : {A : Type 0} (f g : A → Parser A) (n : ℕ) (o : Outcome A) → Shorter n o → ((y : A) (j : Input) → length j.rest < n → f y j ≡ g y j) →
+    and_then o f ≡ and_then o g
 again f g n (Ok p) short same = same p.0 p.1 short
 again f g n (Err e) short same = refl
 
-agree_again : {A : Type 0} (z z' : List Token) (n n' : ℕ) (o o' : Outcome A) (f f' : A → Parser A) → Agree z z' o o' → Shorter n o → Shorter n' o' → ((x : A) → NeverGrows (f x))
-    → ((x : A) (m : ℕ) (s s' : List Token) → length s < n → length s' < n' → Alike z z' s s' → Agree z z' (f x (input s m)) (f' x (input s' m))) → Agree z z' (and_then o f) (and_then o' f')
+agree_again : {A : Type 0} (z z' : List Token) (n n' : ℕ) (o o' : Outcome A) (f f' : A → Parser A) → Agree z z' o o' → Shorter n o → Shorter n' o' →
+    ((x : A) → NeverGrows (f x))
+    → ((x : A) (m : ℕ) (s s' : List Token) → length s < n → length s' < n' → Alike z z' s s' → Agree z z' (f x (input s m)) (f' x (input s' m))) →
+    Agree z z' (and_then o f) (and_then o' f')
 agree_again z z' n n' o o' f f' (past _ _ h) short short' grows again_ = past (and_then o f) (and_then o' f') (past_then (suc (length z)) o f h grows)
 agree_again z z' n n' o o' f f' (both_ok x m r r' a) short short' grows again_ = again_ x m r r' short short' a
 agree_again z z' n n' o o' f f' (both_err why r r' a) short short' grows again_ = both_err why r r' a
@@ -48,7 +51,8 @@ many_test test fq mq first goes k = implies (fq k) (first k && (test k && not (m
 
 module _ {A : Type 0} (test : Kind → Bool) (q : A → Parser A) (Q : A → Form A) (fq mq first goes : Kind → Bool)
     (one : (x : A) → Law (q x) (Q x) fq mq false) where
-  choice : (b : Bool) (x : A) (i : Input) (f g : A → Parser A) → ((y : A) (j : Input) → length j.rest < length i.rest → f y j ≡ g y j) → (if b then and_then (q x i) f else Ok (x, i)) ≡ (if b then and_then (q x i) g else Ok (x, i))
+  choice : (b : Bool) (x : A) (i : Input) (f g : A → Parser A) → ((y : A) (j : Input) → length j.rest < length i.rest → f y j ≡ g y j) →
+      (if b then and_then (q x i) f else Ok (x, i)) ≡ (if b then and_then (q x i) g else Ok (x, i))
   choice true x i f g same = again f g (length i.rest) (q x i) (shorter (one x) i) same
   choice false x i f g same = refl
 
@@ -60,7 +64,8 @@ module _ {A : Type 0} (test : Kind → Bool) (q : A → Parser A) (Q : A → For
 
   once : (x : A) (i : Input) → many test q x i ≡ (if test (kind i) then and_then (q x i) (many test q) else Ok (x, i))
   unfolding many repeat
-  once x i = choice (test (kind i)) x i (repeat test q (length i.rest)) (many test q) (λ y j short. enough (length i.rest) (suc (length j.rest)) y j short (omega arith))
+  once x i = choice (test (kind i)) x i (repeat test q (length i.rest)) (many test q)
+      (λ y j short. enough (length i.rest) (suc (length j.rest)) y j short (omega arith))
 
   -- what is read is spelled so
   repeat_meets : (n : ℕ) (x : A) (o : ℕ) (ts : List Token) → Meets (Many Q x o) [] ts (repeat test q n x (input ts o))
@@ -72,7 +77,8 @@ module _ {A : Type 0} (test : Kind → Bool) (q : A → Parser A) (Q : A → For
     by false deeper = record { beginning = []; parts = refl; spelled = none x o }
     by true deeper = step (Q x o) (Many Q x o) ts (q x (input ts o)) (repeat test q n) ((one x).meets o ts)
         (λ ms y m s. ([], y, m, round x y y o m m ms [] s (none y m)))
-        (λ beginning y j s. prefixed (Many Q y j.operators) (Many Q x o) beginning j.rest (repeat test q n y j) (λ ms z m r. round x y z o j.operators m (fines beginning) ms s r) (deeper y j.operators j.rest))
+        (λ beginning y j s. prefixed (Many Q y j.operators) (Many Q x o) beginning j.rest (repeat test q n y j)
+        (λ ms z m r. round x y z o j.operators m (fines beginning) ms s r) (deeper y j.operators j.rest))
 
   meets_many : (x : A) (o : ℕ) (ts : List Token) → Meets (Many Q x o) [] ts (many test q x (input ts o))
   unfolding many
@@ -84,16 +90,20 @@ module _ {A : Type 0} (test : Kind → Bool) (q : A → Parser A) (Q : A → For
     within T ts (Ok p) m = omega (arith, ap length m.parts, length-append m.beginning p.1.rest)
     within T ts (Err e) m = omega (arith, ap length m.parts, length-append m.beginning e.1)
 
-  repeat_local : (n n' : ℕ) (x : A) (z z' : List Token) (o : ℕ) (r r' : List Token) → length r < n → length r' < n' → Alike z z' r r' → Agree z z' (repeat test q n x (input r o)) (repeat test q n' x (input r' o))
+  repeat_local : (n n' : ℕ) (x : A) (z z' : List Token) (o : ℕ) (r r' : List Token) → length r < n → length r' < n' → Alike z z' r r' →
+      Agree z z' (repeat test q n x (input r o)) (repeat test q n' x (input r' o))
   unfolding repeat kind
   repeat_local zero n' x z z' o r r' le le' a = absurd (omega arith)
   repeat_local (suc n) zero x z z' o r r' le le' a = absurd (omega arith)
   repeat_local (suc n) (suc n') x z z' o r r' le le' a =
       rw (kind_same a) (by (test (kind_first r')) (λ y m s s' lt lt' b. repeat_local n n' y z z' m s s' (omega arith) (omega arith) b))
     where
-      by : (b : Bool) → ((y : A) (m : ℕ) (s s' : List Token) → length s < length r → length s' < length r' → Alike z z' s s' → Agree z z' (repeat test q n y (input s m)) (repeat test q n' y (input s' m)))
-          → Agree z z' (if b then and_then (q x (input r o)) (repeat test q n) else Ok (x, input r o)) (if b then and_then (q x (input r' o)) (repeat test q n') else Ok (x, input r' o))
-      by true deeper = agree_again z z' (length r) (length r') (q x (input r o)) (q x (input r' o)) (repeat test q n) (repeat test q n') ((one x).local z z' o r r' a) (shorter (one x) (input r o)) (shorter (one x) (input r' o)) (never_repeat n) deeper
+      by : (b : Bool) → ((y : A) (m : ℕ) (s s' : List Token) → length s < length r → length s' < length r' → Alike z z' s s' →
+          Agree z z' (repeat test q n y (input s m)) (repeat test q n' y (input s' m)))
+          → Agree z z' (if b then and_then (q x (input r o)) (repeat test q n) else Ok (x, input r o))
+          (if b then and_then (q x (input r' o)) (repeat test q n') else Ok (x, input r' o))
+      by true deeper = agree_again z z' (length r) (length r') (q x (input r o)) (q x (input r' o)) (repeat test q n) (repeat test q n')
+          ((one x).local z z' o r r' a) (shorter (one x) (input r o)) (shorter (one x) (input r' o)) (never_repeat n) deeper
       by false deeper = both_ok x o r r' a
 
   local_many : (x : A) → Local (many test q x)
@@ -127,18 +137,21 @@ module _ {A : Type 0} (test : Kind → Bool) (q : A → Parser A) (Q : A → For
 
     behind_round : (b : List Marked) (rest : List Token) → Heads fq true b → goes (kind_first rest) ≡ false → mq (kind_first (tokens b ++ rest)) ≡ false
     behind_round [] rest h ends = ends_round (kind_first rest) ends
-    behind_round (m ∷ b) rest h ends = true_not _ (both_right (test (kind_of m.0.kind)) _ (both_right (first (kind_of m.0.kind)) _ (begins (kind_of m.0.kind) h)))
+    behind_round (m ∷ b) rest h ends = true_not _
+        (both_right (test (kind_of m.0.kind)) _ (both_right (first (kind_of m.0.kind)) _ (begins (kind_of m.0.kind) h)))
 
     tests : (a b : List Marked) (rest : List Token) → Heads fq false a → test (kind_first (tokens (a ++ b) ++ rest)) ≡ true
     tests [] b rest h = absurd cc
     tests (m ∷ a) b rest h = both_left _ _ (both_right (first (kind_of m.0.kind)) _ (begins (kind_of m.0.kind) h))
 
-    many_complete : (x z : A) (o n : ℕ) (ms : List Marked) → Many Q x o ms z n → (rest : List Token) → goes (kind_first rest) ≡ false → Completes (many test q x) o ms rest (Ok (z, input rest n))
+    many_complete : (x z : A) (o n : ℕ) (ms : List Marked) → Many Q x o ms z n → (rest : List Token) → goes (kind_first rest) ≡ false →
+        Completes (many test q x) o ms rest (Ok (z, input rest n))
     unfolding kind
     many_complete _ _ _ _ _ (none x o) rest ends = once x (input rest o) ∙ rw (ends_all (kind_first rest) ends) refl
     many_complete _ _ _ _ _ (round x y z o m n a b s more) rest ends =
         let goes_on : Completes (q x >>= many test q) o (a ++ b) rest (Ok (z, input rest n)) =
-        completes_then (q x) (many test q) o a b rest y m (Ok (z, input rest n)) ((one x).complete o m a y s (tokens b ++ rest) (behind_round b rest (many_heads y z m n b more) ends)) (many_complete y z m n b more rest ends) in
+        completes_then (q x) (many test q) o a b rest y m (Ok (z, input rest n))
+        ((one x).complete o m a y s (tokens b ++ rest) (behind_round b rest (many_heads y z m n b more) ends)) (many_complete y z m n b more rest ends) in
         once x (input (tokens (a ++ b) ++ rest) o) ∙ rw (tests a b rest ((one x).heads o m a y s)) goes_on
 
     many_by : (x : A) → Law (many test q x) (Many Q x) first goes true
@@ -150,11 +163,14 @@ module _ {A : Type 0} (test : Kind → Bool) (q : A → Parser A) (Q : A → For
       local = local_many x;
     }
 
-pub many_law : {A : Type 0} {q : A → Parser A} {Q : A → Form A} {fq mq : Kind → Bool} (test first goes : Kind → Bool) → ((x : A) → Law (q x) (Q x) fq mq false) → of_all (many_test test fq mq first goes) ≡ true
+pub many_law : {A : Type 0} {q : A → Parser A} {Q : A → Form A} {fq mq : Kind → Bool} (test first goes : Kind → Bool) →
+    ((x : A) → Law (q x) (Q x) fq mq false) → of_all (many_test test fq mq first goes) ≡ true
     → (x : A) → Law (many test q x) (Many Q x) first goes true
-many_law {q = q} {Q = Q} {fq = fq} {mq = mq} test first goes one fit x = many_by test q Q fq mq first goes one (by_kinds (many_test test fq mq first goes) fit) x
+many_law {q = q} {Q = Q} {fq = fq} {mq = mq} test first goes one fit x =
+    many_by test q Q fq mq first goes one (by_kinds (many_test test fq mq first goes) fit) x
 
 -- one round of what a loop does
-pub many_once : {A : Type 0} {q : A → Parser A} {Q : A → Form A} {fq mq : Kind → Bool} (test : Kind → Bool) → ((x : A) → Law (q x) (Q x) fq mq false) → (x : A) (i : Input)
+pub many_once : {A : Type 0} {q : A → Parser A} {Q : A → Form A} {fq mq : Kind → Bool} (test : Kind → Bool) → ((x : A) → Law (q x) (Q x) fq mq false)
+    → (x : A) (i : Input)
     → many test q x i ≡ (if test (kind i) then and_then (q x i) (many test q) else Ok (x, i))
 many_once {q = q} {Q = Q} {fq = fq} {mq = mq} test one x i = once test q Q fq mq fq mq one x i

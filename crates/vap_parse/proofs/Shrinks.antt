@@ -28,18 +28,22 @@ picked_takes : {A : Type 0} (c : Option A) (m : Mark) (t : Token) (s : List Toke
 picked_takes None m t s n = omega arith
 picked_takes (Some a) m t s n = mark_takes m a t s n
 
-token_takes_at : {A : Type 0} (pick : Token → Option A) (mark : ℕ → Token → Mark) (left : ℕ → ℕ) (ts : List Token) (n : ℕ) → Shorter (length ts) (token_at pick mark left ts n)
+token_takes_at : {A : Type 0} (pick : Token → Option A) (mark : ℕ → Token → Mark) (left : ℕ → ℕ) (ts : List Token) (n : ℕ) →
+    Shorter (length ts) (token_at pick mark left ts n)
 token_takes_at pick mark left [] n = omega arith
 token_takes_at pick mark left (t ∷ s) n = picked_takes (pick t) (mark n t) t s (left n)
 
-pub token_takes : {A : Type 0} (pick : Token → Option A) (mark : ℕ → Token → Mark) (left : ℕ → ℕ) (i j : Input) (x : A) → token pick mark left i ≡ Ok (x, j) → length j.rest < length i.rest
+pub token_takes : {A : Type 0} (pick : Token → Option A) (mark : ℕ → Token → Mark) (left : ℕ → ℕ) (i j : Input) (x : A) →
+    token pick mark left i ≡ Ok (x, j) → length j.rest < length i.rest
 unfolding token
 token_takes {A = A} pick mark left i j x e = subst (λ (o : Outcome A). Shorter (length i.rest) o) e (token_takes_at pick mark left i.rest i.operators)
 
-pub takes : {A : Type 0} {p : Parser A} {T : Form A} {first goes : Kind → Bool} (law : Law p T first goes false) (i j : Input) (x : A) → p i ≡ Ok (x, j) → length j.rest < length i.rest
+pub takes : {A : Type 0} {p : Parser A} {T : Form A} {first goes : Kind → Bool} (law : Law p T first goes false) (i j : Input) (x : A) →
+    p i ≡ Ok (x, j) → length j.rest < length i.rest
 takes {A = A} law i j x e = subst (λ (o : Outcome A). Shorter (length i.rest) o) e (shorter law i)
 
-pub keeps : {A : Type 0} {p : Parser A} {T : Form A} {first goes : Kind → Bool} {null : Bool} (law : Law p T first goes null) (i j : Input) (x : A) → p i ≡ Ok (x, j) → length j.rest ≤ length i.rest
+pub keeps : {A : Type 0} {p : Parser A} {T : Form A} {first goes : Kind → Bool} {null : Bool} (law : Law p T first goes null) (i j : Input) (x : A) →
+    p i ≡ Ok (x, j) → length j.rest ≤ length i.rest
 keeps {A = A} law i j x e = subst (λ (o : Outcome A). Within (length i.rest) o) e (never law i)
 
 pub inner_is : (l : ℕ) → 0 < l → inner l ≡ expr (l - 1)

@@ -28,12 +28,14 @@ closes : (depth : ℕ) → (ms : List Marked) × Inside depth ms
 closes zero = ((close_token, fine) ∷ [], last close_token refl)
 closes (suc depth) = let e = closes depth in ((close_token, fine) ∷ e.0, shut depth close_token e.0 refl e.1)
 
-no_bracket : (kd : Kind) (depth : ℕ) (deeper : ℕ → Outcome (Unit {0})) (done : Outcome (Unit {0})) → (kd ≡ k.Open → ⊥) → (kd ≡ k.Close → ⊥) → skip_by kd depth deeper done ≡ deeper depth
+no_bracket : (kd : Kind) (depth : ℕ) (deeper : ℕ → Outcome (Unit {0})) (done : Outcome (Unit {0})) → (kd ≡ k.Open → ⊥) → (kd ≡ k.Close → ⊥) →
+    skip_by kd depth deeper done ≡ deeper depth
 no_bracket k.Open depth deeper done a b = absurd (a refl)
 no_bracket k.Close depth deeper done a b = absurd (b refl)
 no_bracket _ depth deeper done a b = refl
 
-skip_complete : (depth : ℕ) (ms : List Marked) → Inside depth ms → (rest : List Token) (n : ℕ) → skip (tokens ms ++ rest) depth n ≡ after ms (Ok (tt, input rest n)) rest
+skip_complete : (depth : ℕ) (ms : List Marked) → Inside depth ms → (rest : List Token) (n : ℕ) →
+    skip (tokens ms ++ rest) depth n ≡ after ms (Ok (tt, input rest n)) rest
 skip_complete _ _ (last t is) rest n = rw is refl
 skip_complete _ _ (shut depth t ms is inside) rest n = rw is (skip_complete depth ms inside rest n)
 skip_complete _ _ (opened depth t ms is inside) rest n = rw is (skip_complete (depth + 1) ms inside rest n)
@@ -44,16 +46,21 @@ module _ (o : ℕ) where
   abbrev Closing : ℕ → List Marked → Unit {0} → ℕ → Type 0
   Closing depth ms x n = Inside depth ms × (n ≡ o)
 
-  on : (depth deeper : ℕ) (t : Token) (s : List Token) (out : Outcome (Unit {0})) → ((ms : List Marked) → Inside deeper ms → Inside depth ((t, fine) ∷ ms)) → Meets (Closing deeper) [] s out → Meets (Closing depth) [] (t ∷ s) out
-  on depth deeper t s out into m = onward (Closing depth) [] (t ∷ s) (t ∷ []) s out refl (prefixed (Closing deeper) (Closing depth) (t ∷ []) s out (λ ms x n r. (into ms r.0, r.1)) m)
+  on : (depth deeper : ℕ) (t : Token) (s : List Token) (out : Outcome (Unit {0})) →
+      ((ms : List Marked) → Inside deeper ms → Inside depth ((t, fine) ∷ ms)) → Meets (Closing deeper) [] s out → Meets (Closing depth) [] (t ∷ s) out
+  on depth deeper t s out into m = onward (Closing depth) [] (t ∷ s) (t ∷ []) s out refl
+      (prefixed (Closing deeper) (Closing depth) (t ∷ []) s out (λ ms x n r. (into ms r.0, r.1)) m)
 
   differs : (kd b : Kind) (t : Token) → kind_of t.kind ≡ kd → is_bracket kd ≡ false → is_bracket b ≡ true → kind_of t.kind ≡ b → ⊥
   differs kd b t is no_ yes_ same = let e : is_bracket kd ≡ is_bracket b = ap is_bracket (sym is ∙ same) in absurd cc
 
-  another : (kd : Kind) (depth : ℕ) (t : Token) (s : List Token) → kind_of t.kind ≡ kd → is_bracket kd ≡ false → Meets (Closing depth) [] s (skip s depth o) → Meets (Closing depth) [] (t ∷ s) (skip s depth o)
-  another kd depth t s is no_ deeper = on depth depth t s (skip s depth o) (λ ms r. other depth t ms (differs kd k.Open t is no_ refl) (differs kd k.Close t is no_ refl) r) deeper
+  another : (kd : Kind) (depth : ℕ) (t : Token) (s : List Token) → kind_of t.kind ≡ kd → is_bracket kd ≡ false →
+      Meets (Closing depth) [] s (skip s depth o) → Meets (Closing depth) [] (t ∷ s) (skip s depth o)
+  another kd depth t s is no_ deeper = on depth depth t s (skip s depth o)
+      (λ ms r. other depth t ms (differs kd k.Open t is no_ refl) (differs kd k.Close t is no_ refl) r) deeper
 
-  skip_meets_by : (kd : Kind) (depth : ℕ) (t : Token) (s : List Token) → kind_of t.kind ≡ kd → ((depth : ℕ) → Meets (Closing depth) [] s (skip s depth o)) → Meets (Closing depth) [] (t ∷ s) (skip_by kd depth (λ m. skip s m o) (Ok (tt, input s o)))
+  skip_meets_by : (kd : Kind) (depth : ℕ) (t : Token) (s : List Token) → kind_of t.kind ≡ kd →
+      ((depth : ℕ) → Meets (Closing depth) [] s (skip s depth o)) → Meets (Closing depth) [] (t ∷ s) (skip_by kd depth (λ m. skip s m o) (Ok (tt, input s o)))
   skip_meets_by k.Open depth t s is deeper = on depth (depth + 1) t s (skip s (depth + 1) o) (λ ms r. opened depth t ms is r) (deeper (depth + 1))
   skip_meets_by k.Close zero t s is deeper = record { beginning = t ∷ []; parts = refl; spelled = (last t is, refl) }
   skip_meets_by k.Close (suc depth) t s is deeper = on (suc depth) depth t s (skip s depth o) (λ ms r. shut depth t ms is r) (deeper depth)
@@ -77,7 +84,8 @@ module _ (o : ℕ) where
   skip_past k.Close (suc depth) z = past_by (skip z depth o) (length z) (skip_within z depth)
   skip_past _ depth z = past_by (skip z depth o) (length z) (skip_within z depth)
 
-  agree_by : {z z' : List Token} (kd : Kind) (depth : ℕ) (r r' : List Token) → Alike z z' r r' → ((m : ℕ) → Agree z z' (skip r m o) (skip r' m o)) → Agree z z' (skip_by kd depth (λ m. skip r m o) (Ok (tt, input r o))) (skip_by kd depth (λ m. skip r' m o) (Ok (tt, input r' o)))
+  agree_by : {z z' : List Token} (kd : Kind) (depth : ℕ) (r r' : List Token) → Alike z z' r r' → ((m : ℕ) → Agree z z' (skip r m o) (skip r' m o)) →
+      Agree z z' (skip_by kd depth (λ m. skip r m o) (Ok (tt, input r o))) (skip_by kd depth (λ m. skip r' m o) (Ok (tt, input r' o)))
   agree_by k.Open depth r r' a deeper = deeper (depth + 1)
   agree_by k.Close zero r r' a deeper = both_ok tt o r r' a
   agree_by k.Close (suc depth) r r' a deeper = deeper depth
@@ -95,13 +103,15 @@ balanced_heads _ _ _ _ (balanced o ms inside) = some_token zero ms inside where
   some_token _ _ (opened depth t ms is inside) = refl
   some_token _ _ (other depth t ms a b inside) = refl
 
-balanced_complete : (o n : ℕ) (ms : List Marked) (x : Unit {0}) → Balanced o ms x n → (rest : List Token) → skipped (input (tokens ms ++ rest) o) ≡ after ms (Ok (x, input rest n)) rest
+balanced_complete : (o n : ℕ) (ms : List Marked) (x : Unit {0}) → Balanced o ms x n → (rest : List Token) →
+    skipped (input (tokens ms ++ rest) o) ≡ after ms (Ok (x, input rest n)) rest
 unfolding skipped
 balanced_complete _ _ _ _ (balanced o ms inside) rest = skip_complete zero ms inside rest o
 
 balanced_meets : (o : ℕ) (ts : List Token) → Meets (Balanced o) [] ts (skipped (input ts o))
 unfolding skipped
-balanced_meets o ts = widen (Closing o zero) (Balanced o) [] ts (skip ts zero o) (λ ms x n s. subst (λ (n : ℕ). Balanced o ms tt n) (sym s.1) (balanced o ms s.0)) (skip_meets o ts zero)
+balanced_meets o ts = widen (Closing o zero) (Balanced o) [] ts (skip ts zero o)
+    (λ ms x n s. subst (λ (n : ℕ). Balanced o ms tt n) (sym s.1) (balanced o ms s.0)) (skip_meets o ts zero)
 
 balanced_local : Local skipped
 unfolding skipped

@@ -48,15 +48,21 @@ labelled_law w = then_law (is k.Colon) no_kind (expect_law k.Colon refl) (λ _. 
 
 pub assigned_law : (w : List ℕ × ℕ) → Law (r.assigned w) (g.assigned w) (is k.Assign) (goes rank.Or) false
 unfolding r.assigned g.assigned same_kind
-assigned_law w = then_law (is k.Assign) (goes rank.Or) (expect_law k.Assign refl) (λ _. then_law (starts rank.Or) (goes rank.Or) expression_law (λ x. gives_law _) refl) refl
+assigned_law w = then_law (is k.Assign) (goes rank.Or) (expect_law k.Assign refl)
+    (λ _. then_law (starts rank.Or) (goes rank.Or) expression_law (λ x. gives_law _) refl) refl
 
 pub cell_assigned_law : (w : List ℕ × ℕ) → Law (r.cell_assigned w) (g.cell_assigned w) (is k.OpenIndex) (goes rank.Or) false
 unfolding r.cell_assigned g.cell_assigned same_kind
-cell_assigned_law w = then_law (is k.OpenIndex) (goes rank.Or) (index_law max_levels (r.inner max_levels) (g.inner max_levels) (inner_law max_levels)) (λ i. then_law (is k.Assign) (goes rank.Or) (expect_law k.Assign refl) (λ _. then_law (starts rank.Or) (goes rank.Or) (expr_law max_levels rank.Or) (λ x. gives_law _) refl) refl) refl
+cell_assigned_law w = then_law (is k.OpenIndex) (goes rank.Or)
+    (index_law max_levels (r.inner max_levels) (g.inner max_levels) (inner_law max_levels))
+    (λ i. then_law (is k.Assign) (goes rank.Or) (expect_law k.Assign refl)
+    (λ _. then_law (starts rank.Or) (goes rank.Or) (expr_law max_levels rank.Or) (λ x. gives_law _) refl) refl) refl
 
 pub named_item_law : Law r.named_item g.named_item (is k.Name) (goes rank.Or) false
 unfolding r.named_item g.named_item same_kind
-named_item_law = then_law (is k.Name) (goes rank.Or) name_law (λ w. either_law (is k.Colon) (λ kd. is k.Colon kd || (is k.Assign kd || is k.OpenIndex kd)) (goes rank.Or) (labelled_law w) (either_law (is k.Assign) (λ kd. is k.Assign kd || is k.OpenIndex kd) (goes rank.Or) (assigned_law w) (anew_law (cell_assigned_law w)) refl) refl) refl
+named_item_law = then_law (is k.Name) (goes rank.Or) name_law
+    (λ w. either_law (is k.Colon) (λ kd. is k.Colon kd || (is k.Assign kd || is k.OpenIndex kd)) (goes rank.Or) (labelled_law w)
+    (either_law (is k.Assign) (λ kd. is k.Assign kd || is k.OpenIndex kd) (goes rank.Or) (assigned_law w) (anew_law (cell_assigned_law w)) refl) refl) refl
 
 pub to_label_law : Law r.to_label g.to_label (is k.Name) no_kind false
 unfolding r.to_label g.to_label same_kind
@@ -68,7 +74,9 @@ to_end_law = then_law (is k.ProgEnde) no_kind (expect_law k.ProgEnde refl) (λ _
 
 pub goto_law : Law r.goto g.goto (is k.Goto) no_kind false
 unfolding r.goto g.goto same_kind
-goto_law = then_law (is k.Goto) no_kind (expect_law k.Goto refl) (λ line. then_law (λ kd. is k.ProgEnde kd || is k.Name kd) no_kind (either_law (is k.ProgEnde) (λ kd. is k.ProgEnde kd || is k.Name kd) no_kind to_end_law to_label_law refl) (λ to. gives_law _) refl) refl
+goto_law = then_law (is k.Goto) no_kind (expect_law k.Goto refl)
+    (λ line. then_law (λ kd. is k.ProgEnde kd || is k.Name kd) no_kind
+    (either_law (is k.ProgEnde) (λ kd. is k.ProgEnde kd || is k.Name kd) no_kind to_end_law to_label_law refl) (λ to. gives_law _) refl) refl
 
 pub gosub_law : Law r.gosub g.gosub (is k.Gosub) no_kind false
 unfolding r.gosub g.gosub same_kind
@@ -76,15 +84,20 @@ gosub_law = then_law (is k.Gosub) no_kind (expect_law k.Gosub refl) (λ line. th
 
 pub trace_law : Law r.trace g.trace (is k.Trace) no_kind false
 unfolding r.trace g.trace same_kind
-trace_law = then_law (is k.Trace) no_kind (expect_law k.Trace refl) (λ line. then_law (is k.Open) no_kind (expect_law k.Open refl) (λ _. then_law any_kind no_kind balanced_law (λ _. gives_law _) refl) refl) refl
+trace_law = then_law (is k.Trace) no_kind (expect_law k.Trace refl)
+    (λ line. then_law (is k.Open) no_kind (expect_law k.Open refl) (λ _. then_law any_kind no_kind balanced_law (λ _. gives_law _) refl) refl) refl
 
 pub timer_statement_law : Law r.timer_statement g.timer_statement is_timer no_kind false
 unfolding r.timer_statement g.timer_statement same_kind
-timer_statement_law = then_law is_timer no_kind timer_law (λ what. then_law (is k.Open) no_kind (expect_law k.Open refl) (λ _. then_law (is k.Name) no_kind name_law (λ w. then_law (is k.Close) no_kind (expect_law k.Close refl) (λ _. gives_law _) refl) refl) refl) refl
+timer_statement_law = then_law is_timer no_kind timer_law
+    (λ what. then_law (is k.Open) no_kind (expect_law k.Open refl)
+    (λ _. then_law (is k.Name) no_kind name_law (λ w. then_law (is k.Close) no_kind (expect_law k.Close refl) (λ _. gives_law _) refl) refl) refl) refl
 
 pub command_statement_law : Law r.command_statement g.command_statement is_command no_kind false
 unfolding r.command_statement g.command_statement same_kind
-command_statement_law = then_law is_command no_kind command_law (λ what. then_law (is k.Open) no_kind (anew_law (arguments_law max_levels (r.inner max_levels) (g.inner max_levels) (inner_law max_levels))) (λ xs. gives_law _) refl) refl
+command_statement_law = then_law is_command no_kind command_law
+    (λ what. then_law (is k.Open) no_kind (anew_law (arguments_law max_levels (r.inner max_levels) (g.inner max_levels) (inner_law max_levels)))
+    (λ xs. gives_law _) refl) refl
 
 pub simple_statement_law : Law r.simple_statement g.simple_statement simples no_kind false
 unfolding r.simple_statement g.simple_statement same_kind
@@ -104,12 +117,16 @@ module _ (ifs : ℕ) (deep : Parser (List Item)) (Deep : Form (List Item)) (deep
 
   pub branch_law : Law (r.branch ifs deep) (g.branch ifs Deep) (is k.If) no_kind false
   unfolding r.branch g.branch same_kind
-  branch_law = then_law (is k.If) no_kind (enter_law ifs k.If refl) (λ line. then_law (starts rank.Or) no_kind expression_law (λ x. then_law (is k.Then) no_kind (expect_law k.Then refl) (λ _.
-      then_law (λ kd. at_block kd || (is k.Else kd || is k.End kd)) no_kind deeper (λ ys. then_law (λ kd. is k.Else kd || is k.End kd) no_kind else_branch_law (λ ns. then_law (is k.End) no_kind (expect_law k.End refl) (λ _. gives_law _) refl) refl) refl) refl) refl) refl
+  branch_law = then_law (is k.If) no_kind (enter_law ifs k.If refl)
+      (λ line. then_law (starts rank.Or) no_kind expression_law (λ x. then_law (is k.Then) no_kind (expect_law k.Then refl) (λ _.
+      then_law (λ kd. at_block kd || (is k.Else kd || is k.End kd)) no_kind deeper
+      (λ ys. then_law (λ kd. is k.Else kd || is k.End kd) no_kind else_branch_law
+      (λ ns. then_law (is k.End) no_kind (expect_law k.End refl) (λ _. gives_law _) refl) refl) refl) refl) refl) refl
 
   pub item_law : Law (r.item ifs deep) (g.item ifs Deep) begins (goes rank.Or) false
   unfolding r.item g.item same_kind
-  item_law = either_law (is k.Name) begins (goes rank.Or) named_item_law (either_law (is k.If) (λ kd. is k.If kd || simples kd) (goes rank.Or) branch_law simple_statement_law refl) refl
+  item_law = either_law (is k.Name) begins (goes rank.Or) named_item_law
+      (either_law (is k.If) (λ kd. is k.If kd || simples kd) (goes rank.Or) branch_law simple_statement_law refl) refl
 
   pub one_more_law : (xs : List Item) → Law (r.one_more ifs deep xs) (g.one_more ifs Deep xs) begins behind_item false
   unfolding r.one_more g.one_more same_kind
@@ -149,7 +166,8 @@ value_law = either_law (is k.Minus) signed no_kind below_zero_law number_law ref
 
 pub constant_law : Law r.constant g.constant (is k.Name) no_kind false
 unfolding r.constant g.constant same_kind
-constant_law = then_law (is k.Name) no_kind name_law (λ w. then_law (is k.Eq) no_kind (expect_law k.Eq refl) (λ _. then_law signed no_kind value_law (λ v. gives_law _) refl) refl) refl
+constant_law = then_law (is k.Name) no_kind name_law
+    (λ w. then_law (is k.Eq) no_kind (expect_law k.Eq refl) (λ _. then_law signed no_kind value_law (λ v. gives_law _) refl) refl) refl
 
 pub next_constant_law : (cs : List Constant) → Law (r.next_constant cs) (g.next_constant cs) (is k.Comma) no_kind false
 unfolding r.next_constant g.next_constant same_kind
@@ -157,7 +175,8 @@ next_constant_law cs = then_law (is k.Comma) no_kind (expect_law k.Comma refl) (
 
 pub constants_law : (cs : List Constant) → Law (r.constants cs) (g.constants cs) (is k.Const) (is k.Comma) false
 unfolding r.constants g.constants same_kind
-constants_law cs = then_law (is k.Const) (is k.Comma) (expect_law k.Const refl) (λ _. then_law (is k.Name) (is k.Comma) constant_law (λ c. many_law (is k.Comma) (is k.Comma) (is k.Comma) next_constant_law refl _) refl) refl
+constants_law cs = then_law (is k.Const) (is k.Comma) (expect_law k.Const refl)
+    (λ _. then_law (is k.Name) (is k.Comma) constant_law (λ c. many_law (is k.Comma) (is k.Comma) (is k.Comma) next_constant_law refl _) refl) refl
 
 pub next_value_law : (vs : List ℤ) → Law (r.next_value vs) (g.next_value vs) (is k.Comma) no_kind false
 unfolding r.next_value g.next_value same_kind
@@ -165,11 +184,19 @@ next_value_law vs = then_law (is k.Comma) no_kind (expect_law k.Comma refl) (λ 
 
 pub values_law : Law r.values g.values (is k.OpenIndex) no_kind false
 unfolding r.values g.values same_kind
-values_law = then_law (is k.OpenIndex) no_kind (expect_law k.OpenIndex refl) (λ _. then_law signed no_kind value_law (λ v. then_law (λ kd. is k.Comma kd || is k.CloseIndex kd) no_kind (many_law (is k.Comma) (is k.Comma) (is k.Comma) next_value_law refl _) (λ vs. then_law (is k.CloseIndex) no_kind (expect_law k.CloseIndex refl) (λ _. gives_law _) refl) refl) refl) refl
+values_law = then_law (is k.OpenIndex) no_kind (expect_law k.OpenIndex refl)
+    (λ _. then_law signed no_kind value_law (λ v. then_law (λ kd. is k.Comma kd || is k.CloseIndex kd) no_kind
+    (many_law (is k.Comma) (is k.Comma) (is k.Comma) next_value_law refl _)
+    (λ vs. then_law (is k.CloseIndex) no_kind (expect_law k.CloseIndex refl) (λ _. gives_law _) refl) refl) refl) refl
 
 pub array_law : Law r.array g.array (is k.Name) no_kind false
 unfolding r.array g.array same_kind
-array_law = then_law (is k.Name) no_kind name_law (λ w. then_law (is k.OpenIndex) no_kind (expect_law k.OpenIndex refl) (λ _. then_law (is k.Number) no_kind number_law (λ n. then_law (is k.CloseIndex) no_kind (expect_law k.CloseIndex refl) (λ _. then_law (is k.Eq) no_kind (expect_law k.Eq refl) (λ _. then_law (is k.OpenIndex) no_kind values_law (λ vs. gives_law _) refl) refl) refl) refl) refl) refl
+array_law = then_law (is k.Name) no_kind name_law
+    (λ w. then_law (is k.OpenIndex) no_kind (expect_law k.OpenIndex refl)
+    (λ _. then_law (is k.Number) no_kind number_law
+    (λ n. then_law (is k.CloseIndex) no_kind (expect_law k.CloseIndex refl)
+    (λ _. then_law (is k.Eq) no_kind (expect_law k.Eq refl) (λ _. then_law (is k.OpenIndex) no_kind values_law (λ vs. gives_law _) refl) refl) refl)
+    refl) refl) refl
 
 pub next_array_law : (xs : List Array) → Law (r.next_array xs) (g.next_array xs) (is k.Comma) no_kind false
 unfolding r.next_array g.next_array same_kind
@@ -177,11 +204,13 @@ next_array_law xs = then_law (is k.Comma) no_kind (expect_law k.Comma refl) (λ 
 
 pub arrays_law : (xs : List Array) → Law (r.arrays xs) (g.arrays xs) (is k.Array) (is k.Comma) false
 unfolding r.arrays g.arrays same_kind
-arrays_law xs = then_law (is k.Array) (is k.Comma) (expect_law k.Array refl) (λ _. then_law (is k.Name) (is k.Comma) array_law (λ c. many_law (is k.Comma) (is k.Comma) (is k.Comma) next_array_law refl _) refl) refl
+arrays_law xs = then_law (is k.Array) (is k.Comma) (expect_law k.Array refl)
+    (λ _. then_law (is k.Name) (is k.Comma) array_law (λ c. many_law (is k.Comma) (is k.Comma) (is k.Comma) next_array_law refl _) refl) refl
 
 pub frequencies_law : Law r.frequencies g.frequencies (is k.VapFrequency) no_kind false
 unfolding r.frequencies g.frequencies same_kind
-frequencies_law = then_law (is k.VapFrequency) no_kind (expect_law k.VapFrequency refl) (λ _. then_law (is k.Number) no_kind frequency_law (λ _. gives_law tt) refl) refl
+frequencies_law = then_law (is k.VapFrequency) no_kind (expect_law k.VapFrequency refl)
+    (λ _. then_law (is k.Number) no_kind frequency_law (λ _. gives_law tt) refl) refl
 
 pub declared_frequency_law : (d : Declared) → Law (r.declared_frequency d) (g.declared_frequency d) (is k.VapFrequency) no_kind false
 unfolding r.declared_frequency g.declared_frequency same_kind
@@ -200,7 +229,8 @@ behind_declaration kd = is k.Comma kd || is k.Semi kd
 
 pub one_declaration_law : (d : Declared) → Law (r.one_declaration d) (g.one_declaration d) declares (is k.Comma) false
 unfolding r.one_declaration g.one_declaration same_kind
-one_declaration_law d = either_law (is k.VapFrequency) declares (is k.Comma) (declared_frequency_law d) (either_law (is k.Const) (λ kd. is k.Const kd || is k.Array kd) (is k.Comma) (declared_constants_law d) (declared_arrays_law d) refl) refl
+one_declaration_law d = either_law (is k.VapFrequency) declares (is k.Comma) (declared_frequency_law d)
+    (either_law (is k.Const) (λ kd. is k.Const kd || is k.Array kd) (is k.Comma) (declared_constants_law d) (declared_arrays_law d) refl) refl
 
 pub declaration_law : (d : Declared) → Law (r.declaration d) (g.declaration d) declares behind_declaration false
 unfolding r.declaration g.declaration same_kind
@@ -210,11 +240,16 @@ declaration_law d = then_law declares behind_declaration (one_declaration_law d)
 
 pub ending_law : Law r.ending g.ending (is k.ProgEnde) (is k.Semi) false
 unfolding r.ending g.ending same_kind
-ending_law = then_law (is k.ProgEnde) (is k.Semi) (expect_law k.ProgEnde refl) (λ _. then_law (is k.Colon) (is k.Semi) (expect_law k.Colon refl) (λ _. then_law (is k.Dot) (is k.Semi) (expect_law k.Dot refl) (λ _. semis_law) refl) refl) refl
+ending_law = then_law (is k.ProgEnde) (is k.Semi) (expect_law k.ProgEnde refl)
+    (λ _. then_law (is k.Colon) (is k.Semi) (expect_law k.Colon refl)
+    (λ _. then_law (is k.Dot) (is k.Semi) (expect_law k.Dot refl) (λ _. semis_law) refl) refl) refl
 
 pub sub_law : Law r.sub g.sub (is k.Subroutine) (is k.Semi) false
 unfolding r.sub g.sub same_kind
-sub_law = then_law (is k.Subroutine) (is k.Semi) (expect_law k.Subroutine refl) (λ _. then_law (is k.Name) (is k.Semi) name_law (λ w. then_law (λ kd. at_block kd || is k.ProgEnde kd) (is k.Semi) (body_law max_ifs) (λ xs. then_law (is k.ProgEnde) (is k.Semi) ending_law (λ _. gives_law _) refl) refl) refl) refl
+sub_law = then_law (is k.Subroutine) (is k.Semi) (expect_law k.Subroutine refl)
+    (λ _. then_law (is k.Name) (is k.Semi) name_law
+    (λ w. then_law (λ kd. at_block kd || is k.ProgEnde kd) (is k.Semi) (body_law max_ifs)
+    (λ xs. then_law (is k.ProgEnde) (is k.Semi) ending_law (λ _. gives_law _) refl) refl) refl) refl
 
 pub next_sub_law : (rs : List Routine) → Law (r.next_sub rs) (g.next_sub rs) (is k.Subroutine) (is k.Semi) false
 unfolding r.next_sub g.next_sub same_kind
@@ -231,7 +266,9 @@ from_declarations kd = declares kd || from_subs kd
 
 pub program_law : Law r.program g.program (is k.Program) (is k.Semi) false
 unfolding r.program g.program same_kind
-program_law = then_law (is k.Program) (is k.Semi) (expect_law k.Program refl) (λ _. then_law (is k.Name) (is k.Semi) name_law (λ w. then_law (λ kd. is k.Semi kd || from_declarations kd) (is k.Semi) semis_law (λ _.
+program_law = then_law (is k.Program) (is k.Semi) (expect_law k.Program refl)
+    (λ _. then_law (is k.Name) (is k.Semi) name_law (λ w. then_law (λ kd. is k.Semi kd || from_declarations kd) (is k.Semi) semis_law (λ _.
     then_law from_declarations (is k.Semi) (many_law declares declares (λ kd. declares kd || behind_declaration kd) declaration_law refl _) (λ d.
     then_law from_subs (is k.Semi) (many_law (is k.Subroutine) (is k.Subroutine) (λ kd. is k.Subroutine kd || is k.Semi kd) next_sub_law refl _) (λ rs.
-    then_law from_items (is k.Semi) (items_in_law max_ifs) (λ xs. then_law (is k.ProgEnde) (is k.Semi) ending_law (λ _. gives_law _) refl) refl) refl) refl) refl) refl) refl
+    then_law from_items (is k.Semi) (items_in_law max_ifs) (λ xs. then_law (is k.ProgEnde) (is k.Semi) ending_law (λ _. gives_law _) refl) refl)
+    refl) refl) refl) refl) refl

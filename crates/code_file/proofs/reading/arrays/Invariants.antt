@@ -8,6 +8,7 @@ use Rattle.code_file.proofs.reading.arrays.Given as goal
 
 abbrev pub invariant-loop : goal.invariant-loop
 invariant-loop l =
-    (with_beginning array_in room_after (map (λ a. a.items) l.arrays.items) (many_at array_in room_after (l.count - l.counter) l.room (place_of l.rest)) ≡ many_at array_in room_after l.count most_cells (place_of l.cursor))
+    (with_beginning array_in room_after (map (λ a. a.items) l.arrays.items)
+    (many_at array_in room_after (l.count - l.counter) l.room (place_of l.rest)) ≡ many_at array_in room_after l.count most_cells (place_of l.cursor))
     × (l.rest.number ≡ l.cursor.number + l.counter)
     × (l.room ≤ most_cells)

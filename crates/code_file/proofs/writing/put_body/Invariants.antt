@@ -9,6 +9,7 @@ use Rattle.code_file.proofs.writing.put_body.Given as goal
 abbrev pub invariant-loop-instr : goal.invariant-loop-instr
 invariant-loop-instr g l =
     ((start : Option (List ℕ)) (text : List ℕ) → IsDraft start (g.O.Sink.taken l.fn.sink) l.fn.draft text →
-    IsDraft start (g.O.Sink.taken l.sink) l.draft (text ++ (line (codes "CODE " ++ decimal (length l.instrs)) ++ flat_map instr_line (take l.instr-index l.instrs))))
+    IsDraft start (g.O.Sink.taken l.sink) l.draft
+    (text ++ (line (codes "CODE " ++ decimal (length l.instrs)) ++ flat_map instr_line (take l.instr-index l.instrs))))
     × (l.draft.gone ≤ l.fn.draft.gone + 12288 + 12288 * l.instr-index)
     × (FailsOnly (g.O.Sink.faults l.fn.sink) (g.O.Sink.faults l.sink) l.fn.draft.failed l.draft.failed)

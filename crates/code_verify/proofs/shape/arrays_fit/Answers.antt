@@ -10,7 +10,8 @@ returns-then-cells_fit c =
     elim c.if-arrays-from.branch [
       | then-arrays-from w ↦
           let each : IsTrue w.cells_fit.result = cc in (
-            (λ yes. fit_arrays (λ a. a.items) c.args.arrays.now (omega (arith, w.if-arrays-from.true)) (w.cells_fit.ensures.0 each) (c.all_cells_fit.ensures.0 yes)),
+            (λ yes. fit_arrays (λ a. a.items) c.args.arrays.now (omega (arith, w.if-arrays-from.true)) (w.cells_fit.ensures.0 each)
+                (c.all_cells_fit.ensures.0 yes)),
             (λ fit. c.all_cells_fit.ensures.1 (fit_sum (λ a. a.items) c.args.arrays.now fit)),
           )
       | else-arrays-from w ↦

@@ -8,8 +8,11 @@ use Rattle.code_verify.proofs.tables.height_after.Goals as goal
 
 pub returns-else-goes_on-clause-exact : goal.returns-else-goes_on-clause-exact
 returns-else-goes_on-clause-exact c =
-    let is = c.unwrap_or.ensures ∙ ap (λ o. unwrap_or o 0) c.requires.brought ∙ jumped_unwrap c.args.instrs.now c.args.heights.now (length c.args.heights.now) in
-    is ∙ height_jumped c.args.instrs.now c.args.starts.now c.args.heights.now (sym c.begins.ensures ∙ c.if-begins.false) (ap goes_on (get_or_default c.args.instrs.now (length c.args.heights.now - 1) Ret (Tick 0) (omega (arith, c.requires.inside))) ∙ sym c.goes_on.ensures ∙ c.if-goes_on.false)
+    let is = c.unwrap_or.ensures ∙ ap (λ o. unwrap_or o 0) c.requires.brought ∙
+    jumped_unwrap c.args.instrs.now c.args.heights.now (length c.args.heights.now) in
+    is ∙ height_jumped c.args.instrs.now c.args.starts.now c.args.heights.now (sym c.begins.ensures ∙ c.if-begins.false)
+    (ap goes_on (get_or_default c.args.instrs.now (length c.args.heights.now - 1) Ret (Tick 0) (omega (arith, c.requires.inside))) ∙
+    sym c.goes_on.ensures ∙ c.if-goes_on.false)
 
 pub returns-else-goes_on-clause-low : goal.returns-else-goes_on-clause-low
 returns-else-goes_on-clause-low c =

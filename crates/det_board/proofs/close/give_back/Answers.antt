@@ -21,5 +21,6 @@ join_seat-requires c =
       ap (λ (m : Me _ View). m.1) c.feeder.invariant.view,
       (let a = c.board.invariant.1 in let b = c.board.invariant.2 in omega arith),
       subst (λ v. P v p.seat.me.0) (sym mine) (subst (λ w. P (Tick (dealt_of me.0) (loads_of me.0) (owned_of me.0)) w) (sym theirs)
-          (give_back_allows z.key c.args.seat.now.id p.seat.id (dealt_of me.0) p.place p.counts.value.fronts p.counts.value.rears (loads_of me.0) (owned_of me.0) same)),
+          (give_back_allows z.key c.args.seat.now.id p.seat.id (dealt_of me.0) p.place p.counts.value.fronts p.counts.value.rears (loads_of me.0)
+          (owned_of me.0) same)),
     )

@@ -20,19 +20,23 @@ loop-detectors-init g c =
     }
 
 pub returns-in-Ok-false-clause-frames : goal.returns-in-Ok-false-clause-frames
-returns-in-Ok-false-clause-frames g c = gave_frames c.loop-detectors.lines (frames_of (map (λ v. v.items) c.loop-detectors.detectors.items) c.loop-detectors.line) c.loop-detectors.invariant.gave
+returns-in-Ok-false-clause-frames g c = gave_frames c.loop-detectors.lines
+    (frames_of (map (λ v. v.items) c.loop-detectors.detectors.items) c.loop-detectors.line) c.loop-detectors.invariant.gave
 
 pub returns-in-Ok-false-clause-told : goal.returns-in-Ok-false-clause-told
 returns-in-Ok-false-clause-told g c file told =
     let frames = frames_of (map (λ v. v.items) c.loop-detectors.detectors.items) c.loop-detectors.line in
-    let read : Reads c.loop-detectors.lines (file (name_of c.loop-detectors.lines)) frames = rw c.loop-detectors.invariant.name (c.loop-detectors.invariant.reads file told) in
-    let next = rw (c.in-Ok-false.field-0-test, c.loop-detectors.invariant.name) at (c.in-Ok-false.ensures.next file (c.loop-detectors.invariant.told ∙ told) frames read) in
+    let read : Reads c.loop-detectors.lines (file (name_of c.loop-detectors.lines)) frames =
+    rw c.loop-detectors.invariant.name (c.loop-detectors.invariant.reads file told) in
+    let next = rw (c.in-Ok-false.field-0-test, c.loop-detectors.invariant.name)
+    at (c.in-Ok-false.ensures.next file (c.loop-detectors.invariant.told ∙ told) frames read) in
     next.0
 
 pub returns-in-Err-clause-told : goal.returns-in-Err-clause-told
 returns-in-Err-clause-told g c file told =
     let frames = frames_of (map (λ v. v.items) c.loop-detectors.detectors.items) c.loop-detectors.line in
-    let read : Reads c.loop-detectors.lines (file (name_of c.loop-detectors.lines)) frames = rw c.loop-detectors.invariant.name (c.loop-detectors.invariant.reads file told) in
+    let read : Reads c.loop-detectors.lines (file (name_of c.loop-detectors.lines)) frames =
+    rw c.loop-detectors.invariant.name (c.loop-detectors.invariant.reads file told) in
     subst (λ (name : List ℕ). IsReadAll (file name) (Err c.in-Err.refusal)) c.loop-detectors.invariant.name
     (all_refused (file (name_of c.loop-detectors.lines)) frames c.next_frame.new.self c.in-Err.refusal
     (c.in-Err.ensures.next file (c.loop-detectors.invariant.told ∙ told) frames read))
@@ -53,7 +57,8 @@ loop-detectors-preserved g c =
     let gave = c.in-Ok-true.ensures.gave (ap Ok c.in-Ok-true.field-0-test) frames c.loop-detectors.invariant.gave in
     let kept : AreKept line old = c.loop-detectors.invariant.kept in
     let keeps : KeepsLine line (frame_in c.next_frame.new.self) old new = rw c.frame.ensures at c.in-Ok-keep_line.ensures in
-    let more : frames_of new (line + 1) ≡ frames ++ frame_in c.next_frame.new.self ∷ [] = frames_more line (frame_in c.next_frame.new.self) old new kept keeps gave.1.size in
+    let more : frames_of new (line + 1) ≡ frames ++ frame_in c.next_frame.new.self ∷ [] =
+    frames_more line (frame_in c.next_frame.new.self) old new kept keeps gave.1.size in
     record {
       name = c.in-Ok-true.ensures.name ∙ c.loop-detectors.invariant.name;
       live = c.in-Ok-true.ensures.live;
@@ -61,8 +66,10 @@ loop-detectors-preserved g c =
       kept = kept_more line (frame_in c.next_frame.new.self) old new kept keeps gave.1.size;
       gave = rw more gave.0;
       reads = λ file told. (
-          let read : Reads c.loop-detectors.lines (file (name_of c.loop-detectors.lines)) frames = rw c.loop-detectors.invariant.name (c.loop-detectors.invariant.reads file told) in
-          let next = rw (c.in-Ok-true.field-0-test, c.loop-detectors.invariant.name) at (c.in-Ok-true.ensures.next file (c.loop-detectors.invariant.told ∙ told) frames read) in
+          let read : Reads c.loop-detectors.lines (file (name_of c.loop-detectors.lines)) frames =
+          rw c.loop-detectors.invariant.name (c.loop-detectors.invariant.reads file told) in
+          let next = rw (c.in-Ok-true.field-0-test, c.loop-detectors.invariant.name)
+          at (c.in-Ok-true.ensures.next file (c.loop-detectors.invariant.told ∙ told) frames read) in
           rw more next);
       told = c.in-Ok-true.ensures.contents_stay ∙ c.loop-detectors.invariant.told;
       later = omega (arith, c.in-Ok-true.ensures.later, c.loop-detectors.invariant.later);

@@ -5,7 +5,8 @@ use Rattle.det_stream.proofs.StreamLemmas.{judge_many, judge_wrong, judge_right}
 use Rattle.det_stream.proofs.line.read_line.Goals as goal
 
 pub returns-then-second-eq-MOST_LINES-clause-judged : goal.returns-then-second-eq-MOST_LINES-clause-judged
-returns-then-second-eq-MOST_LINES-clause-judged c before size short are = judge_many before c.args.line.now (omega (arith, size, c.if-second-eq-MOST_LINES.true))
+returns-then-second-eq-MOST_LINES-clause-judged c before size short are =
+    judge_many before c.args.line.now (omega (arith, size, c.if-second-eq-MOST_LINES.true))
 
 pub returns-in-Err-clause-judged : goal.returns-in-Err-clause-judged
 returns-in-Err-clause-judged c before size short are =

@@ -31,8 +31,12 @@ returns-in-Err-clause-answer g c =
       answer = λ file told. site_meets form file s _ (e.loaded file told);
       safe = log_guarded (unwritten refl);
       note = λ clean.
-          let n = e.note clean in
-          (n.0, n.1, note_more (site_files form.site ++ form.program ∷ []) (form.detectors ∷ []) s n.0 n.2, λ file told. site_note_meets form file s n.0 (n.3 file told));
+          let n = e.note clean in (
+            n.0,
+            n.1,
+            note_more (site_files form.site ++ form.program ∷ []) (form.detectors ∷ []) s n.0 n.2,
+            λ file told. site_note_meets form file s n.0 (n.3 file told),
+          );
     }
 
 pub returns-in-Err-clause-no_words : goal.returns-in-Err-clause-no_words
@@ -51,7 +55,8 @@ returns-in-Ok-play_site-clause-answer g c =
           let l = loaded file told in
           let playing = program_at (sites.site_in c.in-Ok.site) l.0 in
           let done : Result (Unit {0}) Stop = Ok (tt {0}) in
-          ended form.watchers (Loads form file) (Reached form file) form.detectors (stream_of (file form.detectors)) playing done (g.O.Sink.taken c.args.out.now) (g.O.Sink.taken c.play_site.new.out) l.1 (ReachedInPlay.at_detectors playing l.1)
+          ended form.watchers (Loads form file) (Reached form file) form.detectors (stream_of (file form.detectors)) playing done
+          (g.O.Sink.taken c.args.out.now) (g.O.Sink.taken c.play_site.new.out) l.1 (ReachedInPlay.at_detectors playing l.1)
           (c.in-Ok-play_site.ensures.played l.0 l.2 file (c.load_site.ensures.contents_stay ∙ told));
       safe = c.play_site.ensures.guarded;
       note = λ clean. ([], ap (λ n. g.N.Sink.taken n) c.in-Ok.ensures.quiet ∙ sym (append_known-nil (g.N.Sink.taken c.args.notes.now)), refl, λ file told. tt);
@@ -77,18 +82,21 @@ returns-in-Err-play_site-clause-answer g c =
           let l = loaded file told in
           let playing = program_at (sites.site_in c.in-Ok.site) l.0 in
           subst (λ s. Meets form file s (g.O.Sink.taken c.args.out.now) (g.O.Sink.taken c.play_site.new.out)) (sym is)
-          (ended form.watchers (Loads form file) (Reached form file) form.detectors (stream_of (file form.detectors)) playing named _ _ l.1 (ReachedInPlay.at_detectors playing l.1)
+          (ended form.watchers (Loads form file) (Reached form file) form.detectors (stream_of (file form.detectors)) playing named _ _ l.1
+          (ReachedInPlay.at_detectors playing l.1)
           (e.played l.0 l.2 file (c.load_site.ensures.contents_stay ∙ told))).0;
       safe = c.play_site.ensures.guarded;
       note = λ clean. (
         stop_note stop,
         told_so clean,
-        subst (λ s. IsNote (files_of form) s (stop_note stop)) (sym is) (note_is (files_of form) stop (stops_playing (files_of form) form.detectors named (4, last, refl) e.word)),
+        subst (λ s. IsNote (files_of form) s (stop_note stop)) (sym is)
+            (note_is (files_of form) stop (stops_playing (files_of form) form.detectors named (4, last, refl) e.word)),
         λ file told.
             let l = loaded file told in
             let playing = program_at (sites.site_in c.in-Ok.site) l.0 in
             subst (λ s. NoteMeets form file s (stop_note stop)) (sym is)
-            (ended form.watchers (Loads form file) (Reached form file) form.detectors (stream_of (file form.detectors)) playing named (g.O.Sink.taken c.args.out.now) (g.O.Sink.taken c.play_site.new.out) l.1
+            (ended form.watchers (Loads form file) (Reached form file) form.detectors (stream_of (file form.detectors)) playing named
+            (g.O.Sink.taken c.args.out.now) (g.O.Sink.taken c.play_site.new.out) l.1
             (ReachedInPlay.at_detectors playing l.1) (e.played l.0 l.2 file (c.load_site.ensures.contents_stay ∙ told))).1,
       );
     }

@@ -14,7 +14,8 @@ use Rattle.junction_live.proofs.answer.play_site.Goals as goal
 
 pub returns-in-Err-clause-played : goal.returns-in-Err-clause-played
 returns-in-Err-clause-played g c = λ program runs file e.
-    taken_played (Unit {0}) c.args.watchers.count c.args.detectors.now (file c.args.detectors.now) (program_at (sites.site_in c.args.site) program) c.in-Err.stop _ (c.in-Err.ensures.taken file e)
+    taken_played (Unit {0}) c.args.watchers.count c.args.detectors.now (file c.args.detectors.now) (program_at (sites.site_in c.args.site) program)
+    c.in-Err.stop _ (c.in-Err.ensures.taken file e)
 
 pub returns-in-Err-clause-write : goal.returns-in-Err-clause-write
 returns-in-Err-clause-write g c = λ at. absurd (c.in-Err.ensures.no_write at)
@@ -38,7 +39,8 @@ returns-in-Ok-write_text-clause-played g c = λ program runs file e.
     let q : Playing = program_at (sites.site_in c.args.site) program in
     let same : (fs : List Counts) → records_of p fs ≡ records_of q fs
     = λ fs. records_same c.args.site.code program runs made.valid start (sites.site_in c.args.site) fs made.logic made.site in
-    let text = subst (λ k. GainedText k p c.in-Ok.frames (g.O.Sink.taken c.args.out.now) (g.O.Sink.taken c.write_text.new.out)) c.in-Ok-make_watched_cell.ensures.1
+    let text = subst (λ k. GainedText k p c.in-Ok.frames (g.O.Sink.taken c.args.out.now) (g.O.Sink.taken c.write_text.new.out))
+    c.in-Ok-make_watched_cell.ensures.1
     (c.in-Ok-write_text.ensures.text store made.stands (rw made.site made.two_way) (rw made.site c.requires.times)) in
     played_done {A = Unit {0}} n c.args.detectors.now (file c.args.detectors.now) c.in-Ok.frames q (tt {0}) _ _ (c.in-Ok.ensures.taken file e)
     (gained_along p q same made.site (λ fs. runs_are_guarded q.logic q.site q.store fs made.two_way c.requires.times) n c.in-Ok.frames _ _ text)
@@ -62,7 +64,8 @@ returns-clause-played g c = λ program runs file e.
     let q : Playing = program_at (sites.site_in c.args.site) program in
     let same : (fs : List Counts) → records_of p fs ≡ records_of q fs
     = λ fs. records_same c.args.site.code program runs made.valid start (sites.site_in c.args.site) fs made.logic made.site in
-    let text = subst (λ k. GainedBegun k p c.in-Ok.frames (g.O.Sink.taken c.args.out.now) (g.O.Sink.taken c.write_text.new.out)) c.in-Ok-make_watched_cell.ensures.1
+    let text = subst (λ k. GainedBegun k p c.in-Ok.frames (g.O.Sink.taken c.args.out.now) (g.O.Sink.taken c.write_text.new.out))
+    c.in-Ok-make_watched_cell.ensures.1
     (c.in-Err-write_text.ensures.text store made.stands (rw made.site made.two_way) (rw made.site c.requires.times)) in
     played_cut (Unit {0}) n c.args.detectors.now (file c.args.detectors.now) c.in-Ok.frames q _ _ (c.in-Ok.ensures.taken file e)
     (front_along p q same made.site (λ fs. runs_are_guarded q.logic q.site q.store fs made.two_way c.requires.times) n c.in-Ok.frames _ _ text)

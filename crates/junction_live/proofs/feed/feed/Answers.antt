@@ -11,7 +11,8 @@ pub play_line-step-requires-clause-within_fronts : goal.play_line-step-requires-
 play_line-step-requires-clause-within_fronts g c κs within =
     let lines = c.busy_lines-lines.result.now in
     let i = c.loop-line.line-index in
-    let n = next lines (record { high = 0; low = 0; counts = (0, 0) }) (λ b. b.counts) c.args.place i c.args.frames.now c.requires.frames c.requires.place.1 c.busy_lines-lines.ensures c.loop-line-test.true in
+    let n = next lines (record { high = 0; low = 0; counts = (0, 0) }) (λ b. b.counts) c.args.place i c.args.frames.now c.requires.frames
+    c.requires.place.1 c.busy_lines-lines.ensures c.loop-line-test.true in
     let counts = (slice_index_or lines i (record { high = 0; low = 0; counts = (0, 0) })).counts in
     let p : c.loop-line.pass.fronts ≡ sum_by (count_of fronts) (take i (map (λ b. b.counts) lines)) = ap (λ (f : Feeding). f.fronts) c.loop-line.invariant.0 in
     let r : c.loop-line.pass.rears ≡ sum_by (count_of rears) (take i (map (λ b. b.counts) lines)) = ap (λ (f : Feeding). f.rears) c.loop-line.invariant.0 in
@@ -21,7 +22,8 @@ pub play_line-step-requires-clause-at_most : goal.play_line-step-requires-clause
 play_line-step-requires-clause-at_most g c κs within =
     let lines = c.busy_lines-lines.result.now in
     let i = c.loop-line.line-index in
-    let n = next lines (record { high = 0; low = 0; counts = (0, 0) }) (λ b. b.counts) c.args.place i c.args.frames.now c.requires.frames c.requires.place.1 c.busy_lines-lines.ensures c.loop-line-test.true in
+    let n = next lines (record { high = 0; low = 0; counts = (0, 0) }) (λ b. b.counts) c.args.place i c.args.frames.now c.requires.frames
+    c.requires.place.1 c.busy_lines-lines.ensures c.loop-line-test.true in
     let counts = (slice_index_or lines i (record { high = 0; low = 0; counts = (0, 0) })).counts in
     let p : c.loop-line.pass.fronts ≡ sum_by (count_of fronts) (take i (map (λ b. b.counts) lines)) = ap (λ (f : Feeding). f.fronts) c.loop-line.invariant.0 in
     let q : c.loop-line.pass.fronts + counts.0 ≤ 2147483647 = omega (arith, n.bounded, p) in q
@@ -30,15 +32,18 @@ pub play_line-step-requires-clause-steps : goal.play_line-step-requires-clause-s
 play_line-step-requires-clause-steps g c κs within =
     let lines = c.busy_lines-lines.result.now in
     let i = c.loop-line.line-index in
-    let n = next lines (record { high = 0; low = 0; counts = (0, 0) }) (λ b. b.counts) c.args.place i c.args.frames.now c.requires.frames c.requires.place.1 c.busy_lines-lines.ensures c.loop-line-test.true in
+    let n = next lines (record { high = 0; low = 0; counts = (0, 0) }) (λ b. b.counts) c.args.place i c.args.frames.now c.requires.frames
+    c.requires.place.1 c.busy_lines-lines.ensures c.loop-line-test.true in
     omega (arith, n.bounded, n.bounded_rears, c.loop-line.invariant.1)
 
 pub loop-line-preserved : goal.loop-line-preserved
 loop-line-preserved g c =
     let lines = c.busy_lines-lines.result.now in
     let i = c.loop-line.line-index in
-    let n = next lines (record { high = 0; low = 0; counts = (0, 0) }) (λ b. b.counts) c.args.place i c.args.frames.now c.requires.frames c.requires.place.1 c.busy_lines-lines.ensures c.loop-line-test.true in (
-      one_more c.args.pass.now c.loop-line.pass c.play_line-step.new.pass i (map (λ b. b.counts) lines) _ n c.loop-line.invariant.0 c.play_line-step.ensures.pass,
+    let n = next lines (record { high = 0; low = 0; counts = (0, 0) }) (λ b. b.counts) c.args.place i c.args.frames.now c.requires.frames
+    c.requires.place.1 c.busy_lines-lines.ensures c.loop-line-test.true in (
+      one_more c.args.pass.now c.loop-line.pass c.play_line-step.new.pass i (map (λ b. b.counts) lines) _ n c.loop-line.invariant.0
+          c.play_line-step.ensures.pass,
       omega (arith, n.fronts_are, n.rears_are, c.loop-line.invariant.1, c.play_line-step.ensures.step),
     )
 

@@ -12,7 +12,11 @@ loop-watcher-init g c = record {
   publisher = refl;
   rest = c.into_iter-watcher-iterator.ensures.into_iter_gives.0;
   number = refl;
-  text = ([], record { count = refl; each = λ k d lt. absurd (omega (arith, lt)) }, λ start text is. subst (λ t. IsDraft start (g.O.Sink.taken c.args.sink.now) c.args.draft.now t) (sym (append-nil text)) is);
+  text = (
+    [],
+    record { count = refl; each = λ k d lt. absurd (omega (arith, lt)) },
+    λ start text is. subst (λ t. IsDraft start (g.O.Sink.taken c.args.sink.now) c.args.draft.now t) (sym (append-nil text)) is,
+  );
   gone = omega (arith, c.requires.nothing_gone);
   cause = record { later = omega arith; failed = λ t. inl t };
 }
@@ -26,11 +30,16 @@ loop-watcher-preserved g c =
     let sights = i.text.0 in
     record {
       publisher = c.close-seen.ensures.entries ∙ i.publisher;
-      rest = append_assoc c.loop-watcher.yielded (c.in-Some.watcher ∷ []) c.next.new.self.rest.items ∙ ap (λ l. c.loop-watcher.yielded ++ l) (sym c.in-Some.ensures.steps.0) ∙ i.rest;
+      rest = append_assoc c.loop-watcher.yielded (c.in-Some.watcher ∷ []) c.next.new.self.rest.items ∙
+          ap (λ l. c.loop-watcher.yielded ++ l) (sym c.in-Some.ensures.steps.0) ∙ i.rest;
       number = omega (arith, i.number, length-append c.loop-watcher.yielded (c.in-Some.watcher ∷ []));
       text = (
         sights ++ sight ∷ [],
-        record { count = omega (arith, i.text.1.count, length-append sights (sight ∷ [])); each = All-push (IsSight c.args.publisher.now.entries) sights sight i.text.1.each same },
+        record {
+          count = omega (arith, i.text.1.count, length-append sights (sight ∷ []));
+          each =
+              All-push (IsSight c.args.publisher.now.entries) sights sight i.text.1.each same;
+        },
         λ start text is. subst (λ t. IsDraft start (g.O.Sink.taken c.put_watch.new.sink) c.put_watch.new.draft t)
             (line_more text sights sight (c.loop-watcher.number + 1) (omega (arith, i.text.1.count)))
             (c.put_watch.ensures.text start _ (i.text.2 start text is)),

@@ -32,7 +32,8 @@ returns-then-failed-clause-put g c =
     let t = subst (λ n. TickTakes n c.loop-k.tick c.take.new.self c.take.new.frame) c.requires.board.1 c.take.ensures in
     let start = c.args.controller.now in
     let e = c.second.ensures in
-    let m : Made c.loop-k.controller c.second.new.self c.take.new.frame = record { stands = e.stands; record_is = e.record; site = e.site; logic_is = e.logic } in
+    let m : Made c.loop-k.controller c.second.new.self c.take.new.frame =
+    record { stands = e.stands; record_is = e.record; site = e.site; logic_is = e.logic } in
     let more = running_more c.loop-k.k c.loop-k.tick c.take.new.self start c.loop-k.controller c.second.new.self _ _ _ _ _ c.put_second.new.draft
     c.take.new.frame c.last.result.now c.plan.result.now.names r t m c.last.ensures (ap (λ p. p.names) c.plan.ensures) c.put_second.ensures.text in
     let failed : c.put_second.new.draft.failed ≡ true = sym c.failed.ensures ∙ c.if-failed.true in (
@@ -49,7 +50,8 @@ loop-k-preserved g c =
     let t = subst (λ n. TickTakes n c.loop-k.tick c.take.new.self c.take.new.frame) c.requires.board.1 c.take.ensures in
     let start = c.args.controller.now in
     let e = c.second.ensures in
-    let m : Made c.loop-k.controller c.second.new.self c.take.new.frame = record { stands = e.stands; record_is = e.record; site = e.site; logic_is = e.logic } in (
+    let m : Made c.loop-k.controller c.second.new.self c.take.new.frame =
+    record { stands = e.stands; record_is = e.record; site = e.site; logic_is = e.logic } in (
       c.take.ensures.table ∙ c.loop-k.invariant.0,
       running_more c.loop-k.k c.loop-k.tick c.take.new.self start c.loop-k.controller c.second.new.self _ _ _ _ _ c.put_second.new.draft
           c.take.new.frame c.last.result.now c.plan.result.now.names r t m c.last.ensures (ap (λ p. p.names) c.plan.ensures) c.put_second.ensures.text,

@@ -11,8 +11,11 @@ returns-then-failed-clause-made g c =
       put.1,
       put.2,
       λ past s none.
-          let made = put.4 past s none in
-          (made.0, cut_off put.2 _ (is_cut start _ c.put_seconds.new.draft _ (sym c.failed.ensures ∙ c.if-failed.true) (made.1 start (c.new-draft.ensures.text start)))),
+          let made = put.4 past s none in (
+            made.0,
+            cut_off put.2 _ (is_cut start _ c.put_seconds.new.draft _ (sym c.failed.ensures ∙ c.if-failed.true)
+                (made.1 start (c.new-draft.ensures.text start))),
+          ),
     )
 
 pub returns-in-Ok-clause-made : goal.returns-in-Ok-clause-made

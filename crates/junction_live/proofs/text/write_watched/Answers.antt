@@ -44,8 +44,10 @@ end_board-requires g c = opening_all c.args.board c.args.feeders.items c.args.ti
 pub returns-clause-text : goal.returns-clause-text
 returns-clause-text g c = λ store s two count.
     let names : c.plan-plan.result.now.names ≡ (site_of c.args.controller).plan.names = ap (λ q. q.names) (c.plan-plan.ensures ∙ plan_is c.args.controller) in
-    begun_text _ (playing_of c.args.controller store) c.args.frames.now _ _ (header_cut c.args.frames.now c.args.controller store (g.O.Sink.taken c.args.out.now) (g.O.Sink.taken c.write_header.new.sink) _ two count
-    (subst (λ n. IsCut (g.O.Sink.taken c.args.out.now) (g.O.Sink.taken c.write_header.new.sink) c.in-Err._fault.taken (header_text n)) names c.in-Err.ensures.fault))
+    begun_text _ (playing_of c.args.controller store) c.args.frames.now _ _
+    (header_cut c.args.frames.now c.args.controller store (g.O.Sink.taken c.args.out.now) (g.O.Sink.taken c.write_header.new.sink) _ two count
+    (subst (λ n. IsCut (g.O.Sink.taken c.args.out.now) (g.O.Sink.taken c.write_header.new.sink) c.in-Err._fault.taken (header_text n)) names
+    c.in-Err.ensures.fault))
 
 pub returns-in-Ok-clause-text : goal.returns-in-Ok-clause-text
 returns-in-Ok-clause-text g c = λ store s two count.
@@ -53,5 +55,6 @@ returns-in-Ok-clause-text g c = λ store s two count.
     let named : are_names (site_of c.args.controller).plan.names ≡ true = subst (λ n. are_names n ≡ true) names c.groups.ensures.plan.names in
     let headed = c.in-Ok.ensures.ok ∙ ap (λ n. append_known (g.O.Sink.taken c.args.out.now) (header_text n)) names in
     begun_text _ (playing_of c.args.controller store) c.args.frames.now _ _
-    (wrote {A = Publishing} (Err c.in-Err-watch_out.fault) c.args.frames.now c.args.controller store (g.O.Sink.taken c.args.out.now) (g.O.Sink.taken c.write_header.new.sink) (g.O.Sink.taken c.watch_out.new.out)
+    (wrote {A = Publishing} (Err c.in-Err-watch_out.fault) c.args.frames.now c.args.controller store (g.O.Sink.taken c.args.out.now)
+    (g.O.Sink.taken c.write_header.new.sink) (g.O.Sink.taken c.watch_out.new.out)
     named two count headed (c.in-Err-watch_out.ensures.live (opening (site_of c.args.controller) store) s refl))

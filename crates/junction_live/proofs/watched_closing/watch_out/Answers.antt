@@ -14,7 +14,8 @@ use Rattle.junction_live.proofs.watched_closing.watch_out.Goals as goal
 pub end_board-closing-requires : goal.end_board-closing-requires
 end_board-closing-requires g c =
     let p = c.play_watched_padded-status in
-    all_passes c.args.board c.args.frames.now c.args.feeders.items p.new.feeders.items c.args.tick p.result.2 c.requires.opening p.ensures.feeders p.ensures.feeders_count p.ensures.tick
+    all_passes c.args.board c.args.frames.now c.args.feeders.items p.new.feeders.items c.args.tick p.result.2 c.requires.opening p.ensures.feeders
+    p.ensures.feeders_count p.ensures.tick
 
 pub second-requires : goal.second-requires
 second-requires g c =
@@ -27,7 +28,8 @@ second-requires g c =
     let start = c.args.controller in (
       past_of (logic_of start) (site_of start) st.0 m.0,
       (m.3 st.0 st.1 st.2).0,
-      subst (λ fs. Takes fs f) (sym (frames_are (logic_of start) (site_of start) st.0 m.0 st.2)) (takes_close _ _ _ _ _ _ m.0 f ready (omega (arith, m.2, c.requires.frames.few))),
+      subst (λ fs. Takes fs f) (sym (frames_are (logic_of start) (site_of start) st.0 m.0 st.2))
+          (takes_close _ _ _ _ _ _ m.0 f ready (omega (arith, m.2, c.requires.frames.few))),
     )
 
 pub publish-requires : goal.publish-requires
@@ -42,7 +44,15 @@ publish-requires g c =
     let first : length c.args.publisher.entries ≡ 1 = ap (λ (q : Publishing). length q.entries) opening.publisher_is in
     record {
       cell = p.ensures.publisher;
-      room = omega (arith, now, first, length-append c.args.publisher.entries pictures, pictures_count (logic_of start) (site_of start) st.0 m.0, m.2, c.requires.room);
+      room = omega (
+        arith,
+        now,
+        first,
+        length-append c.args.publisher.entries pictures,
+        pictures_count (logic_of start) (site_of start) st.0 m.0,
+        m.2,
+        c.requires.room,
+      );
       groups = ap (λ r. length r.picture) c.last-record.ensures ∙ c.second.ensures.fits.picture
           ∙ groups_stay start p.result.1 c.second.new.self p.ensures.site c.second.ensures.plan ∙ sym opening.groups_are;
     }
@@ -54,7 +64,8 @@ returns-then-not-is_done-clause-live g c = λ past s none.
     let f = c.end_board-closing.result in
     let ready : Ready c.args.board c.args.frames.now c.args.feeders.items p.new.feeders.items c.args.tick p.result.2 m.0 f =
     record { opening = c.requires.opening; played = p.ensures.feeders; count = p.ensures.feeders_count; loaded = m.1; closes = c.end_board-closing.ensures } in
-    cut_live Publishing {E = Unit {0}} p.result.0 (tt {0}) c.args.frames.now m.0 _ _ past _ _ (sym c.is_done.ensures ∙ c.if-not-is_done.true) (m.3 past s none).1 (never_ahead p.result.2 m.0 m.1) (no_more _ _ _ _ _ _ m.0 f ready)
+    cut_live Publishing {E = Unit {0}} p.result.0 (tt {0}) c.args.frames.now m.0 _ _ past _ _ (sym c.is_done.ensures ∙ c.if-not-is_done.true)
+    (m.3 past s none).1 (never_ahead p.result.2 m.0 m.1) (no_more _ _ _ _ _ _ m.0 f ready)
 
 pub returns-then-not-is_done-clause-cause : goal.returns-then-not-is_done-clause-cause
 returns-then-not-is_done-clause-cause g c =
@@ -69,7 +80,8 @@ returns-then-not-is_done-clause-cause g c =
 pub returns-then-not-is_done-clause-watchers : goal.returns-then-not-is_done-clause-watchers
 returns-then-not-is_done-clause-watchers g c =
     let p = c.play_watched_padded-status in
-    still_of c.args.cell.now 16 c.args.watchers.now.items p.new.watchers.items (fresh_of c.args.cell.now c.args.watchers.now.items c.requires.cell.fresh) p.ensures.watchers p.ensures.watchers_count
+    still_of c.args.cell.now 16 c.args.watchers.now.items p.new.watchers.items
+    (fresh_of c.args.cell.now c.args.watchers.now.items c.requires.cell.fresh) p.ensures.watchers p.ensures.watchers_count
 
 pub returns-in-Ok-clause-live : goal.returns-in-Ok-clause-live
 returns-in-Ok-clause-live g c = λ past s none.
@@ -79,22 +91,26 @@ returns-in-Ok-clause-live g c = λ past s none.
     let f = c.end_board-closing.result in
     let ready : Ready c.args.board c.args.frames.now c.args.feeders.items p.new.feeders.items c.args.tick p.result.2 m.0 f =
     record { opening = c.requires.opening; played = e.feeders; count = e.feeders_count; loaded = m.1; closes = c.end_board-closing.ensures } in
-    let made' : Made p.result.1 c.second.new.self f = record { stands = c.second.ensures.stands; record_is = c.second.ensures.record; site = c.second.ensures.site; logic_is = c.second.ensures.logic } in
+    let made' : Made p.result.1 c.second.new.self f =
+    record { stands = c.second.ensures.stands; record_is = c.second.ensures.record; site = c.second.ensures.site; logic_is = c.second.ensures.logic } in
     let so = m.3 past s none in
     let w = all_of p.result.0 (length c.args.frames.now) m.0 _ _ past _ _ (sym c.is_done.ensures ∙ c.if-not-is_done.false) so.1 in (
       m.0 ++ f ∷ [],
       omega (arith, length-append m.0 (f ∷ []), w.0),
       closed_printable _ _ _ _ _ _ m.0 f ready,
-      written_more c.args.controller p.result.1 c.second.new.self past m.0 f c.last-record.result.now c.plan.result.now.names _ _ _ made' e.site e.logic so.0 c.last-record.ensures (ap (λ q. q.names) c.plan.ensures) w.1 c.in-Ok.ensures.ok,
+      written_more c.args.controller p.result.1 c.second.new.self past m.0 f c.last-record.result.now c.plan.result.now.names _ _ _ made' e.site
+          e.logic so.0 c.last-record.ensures (ap (λ q. q.names) c.plan.ensures) w.1 c.in-Ok.ensures.ok,
       ahead_closed _ _ _ _ _ _ m.0 f ready,
       same_sums _ _ _ _ _ _ m.0 f ready,
-      shown_more c.args.controller p.result.1 c.second.new.self past m.0 f c.last-record.result.now c.args.publisher p.result.3 c.publish.new.self made' e.site e.logic so.0 c.last-record.ensures so.2 c.publish.ensures,
+      shown_more c.args.controller p.result.1 c.second.new.self past m.0 f c.last-record.result.now c.args.publisher p.result.3 c.publish.new.self
+          made' e.site e.logic so.0 c.last-record.ensures so.2 c.publish.ensures,
     )
 
 pub returns-in-Ok-clause-watchers : goal.returns-in-Ok-clause-watchers
 returns-in-Ok-clause-watchers g c =
     let p = c.play_watched_padded-status in
-    still_of c.args.cell.now 16 c.args.watchers.now.items p.new.watchers.items (fresh_of c.args.cell.now c.args.watchers.now.items c.requires.cell.fresh) p.ensures.watchers p.ensures.watchers_count
+    still_of c.args.cell.now 16 c.args.watchers.now.items p.new.watchers.items
+    (fresh_of c.args.cell.now c.args.watchers.now.items c.requires.cell.fresh) p.ensures.watchers p.ensures.watchers_count
 
 pub returns-clause-live : goal.returns-clause-live
 returns-clause-live g c = λ past s none.
@@ -104,13 +120,15 @@ returns-clause-live g c = λ past s none.
     let f = c.end_board-closing.result in
     let ready : Ready c.args.board c.args.frames.now c.args.feeders.items p.new.feeders.items c.args.tick p.result.2 m.0 f =
     record { opening = c.requires.opening; played = e.feeders; count = e.feeders_count; loaded = m.1; closes = c.end_board-closing.ensures } in
-    let made' : Made p.result.1 c.second.new.self f = record { stands = c.second.ensures.stands; record_is = c.second.ensures.record; site = c.second.ensures.site; logic_is = c.second.ensures.logic } in
+    let made' : Made p.result.1 c.second.new.self f =
+    record { stands = c.second.ensures.stands; record_is = c.second.ensures.record; site = c.second.ensures.site; logic_is = c.second.ensures.logic } in
     let so = m.3 past s none in
     let w = all_of p.result.0 (length c.args.frames.now) m.0 _ _ past _ _ (sym c.is_done.ensures ∙ c.if-not-is_done.false) so.1 in
     let same = same_sums _ _ _ _ _ _ m.0 f ready in (
       m.0 ++ f ∷ [],
       omega (arith, length-append m.0 (f ∷ []), w.0),
-      cut_more c.args.controller p.result.1 c.second.new.self past m.0 f c.last-record.result.now c.plan.result.now.names _ _ _ _ made' e.site e.logic so.0 c.last-record.ensures (ap (λ q. q.names) c.plan.ensures) w.1 c.in-Err.ensures.fault,
+      cut_more c.args.controller p.result.1 c.second.new.self past m.0 f c.last-record.result.now c.plan.result.now.names _ _ _ _ made' e.site
+          e.logic so.0 c.last-record.ensures (ap (λ q. q.names) c.plan.ensures) w.1 c.in-Err.ensures.fault,
       ahead_closed _ _ _ _ _ _ m.0 f ready,
       λ d low. let q = same d low in (omega (arith, q.0), omega (arith, q.1)),
     )
@@ -118,4 +136,5 @@ returns-clause-live g c = λ past s none.
 pub returns-clause-watchers : goal.returns-clause-watchers
 returns-clause-watchers g c =
     let p = c.play_watched_padded-status in
-    still_of c.args.cell.now 16 c.args.watchers.now.items p.new.watchers.items (fresh_of c.args.cell.now c.args.watchers.now.items c.requires.cell.fresh) p.ensures.watchers p.ensures.watchers_count
+    still_of c.args.cell.now 16 c.args.watchers.now.items p.new.watchers.items
+    (fresh_of c.args.cell.now c.args.watchers.now.items c.requires.cell.fresh) p.ensures.watchers p.ensures.watchers_count

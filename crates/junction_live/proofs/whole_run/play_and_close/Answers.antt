@@ -11,7 +11,8 @@ use Rattle.junction_live.proofs.whole_run.play_and_close.Goals as goal
 pub end_board-closing-requires : goal.end_board-closing-requires
 end_board-closing-requires g c =
     let p = c.play_padded-status in
-    all_passes c.args.board c.args.frames.now c.args.feeders.items p.new.feeders.items c.args.tick p.result.2 c.requires.opening p.ensures.feeders p.ensures.feeders_count p.ensures.tick
+    all_passes c.args.board c.args.frames.now c.args.feeders.items p.new.feeders.items c.args.tick p.result.2 c.requires.opening p.ensures.feeders
+    p.ensures.feeders_count p.ensures.tick
 
 pub second-requires : goal.second-requires
 second-requires g c =
@@ -25,7 +26,8 @@ second-requires g c =
     let start = c.args.controller in (
       past_of (logic_of start) (site_of start) st.0 m.0,
       (m.3 st.0 st.1 st.2).0,
-      subst (λ fs. Takes fs f) (sym (frames_are (logic_of start) (site_of start) st.0 m.0 st.2)) (takes_close _ _ _ _ _ _ m.0 f ready (omega (arith, m.2, c.requires.frames.few))),
+      subst (λ fs. Takes fs f) (sym (frames_are (logic_of start) (site_of start) st.0 m.0 st.2))
+          (takes_close _ _ _ _ _ _ m.0 f ready (omega (arith, m.2, c.requires.frames.few))),
     )
 
 pub returns-then-not-is_done-clause-live : goal.returns-then-not-is_done-clause-live
@@ -36,7 +38,8 @@ returns-then-not-is_done-clause-live g c = λ past s none.
     let f = c.end_board-closing.result in
     let ready : Ready c.args.board c.args.frames.now c.args.feeders.items p.new.feeders.items c.args.tick p.result.2 m.0 f =
     record { opening = c.requires.opening; played = e.feeders; count = e.feeders_count; loaded = m.1; closes = c.end_board-closing.ensures } in
-    cut_live (Unit {0}) {E = Unit {0}} p.result.0 (tt {0}) c.args.frames.now m.0 _ _ past _ _ (sym c.is_done.ensures ∙ c.if-not-is_done.true) (m.3 past s none).1 (never_ahead p.result.2 m.0 m.1) (no_more _ _ _ _ _ _ m.0 f ready)
+    cut_live (Unit {0}) {E = Unit {0}} p.result.0 (tt {0}) c.args.frames.now m.0 _ _ past _ _ (sym c.is_done.ensures ∙ c.if-not-is_done.true)
+    (m.3 past s none).1 (never_ahead p.result.2 m.0 m.1) (no_more _ _ _ _ _ _ m.0 f ready)
 
 pub returns-then-not-is_done-clause-cause : goal.returns-then-not-is_done-clause-cause
 returns-then-not-is_done-clause-cause g c =
@@ -56,12 +59,14 @@ returns-in-Ok-clause-live g c = λ past s none.
     let f = c.end_board-closing.result in
     let ready : Ready c.args.board c.args.frames.now c.args.feeders.items p.new.feeders.items c.args.tick p.result.2 m.0 f =
     record { opening = c.requires.opening; played = e.feeders; count = e.feeders_count; loaded = m.1; closes = c.end_board-closing.ensures } in
-    let made' : Made p.result.1 c.second.new.self f = record { stands = c.second.ensures.stands; record_is = c.second.ensures.record; site = c.second.ensures.site; logic_is = c.second.ensures.logic } in
+    let made' : Made p.result.1 c.second.new.self f =
+    record { stands = c.second.ensures.stands; record_is = c.second.ensures.record; site = c.second.ensures.site; logic_is = c.second.ensures.logic } in
     let w = all_of p.result.0 (length c.args.frames.now) m.0 _ _ past _ _ (sym c.is_done.ensures ∙ c.if-not-is_done.false) (m.3 past s none).1 in (
       m.0 ++ f ∷ [],
       omega (arith, length-append m.0 (f ∷ []), w.0),
       closed_printable _ _ _ _ _ _ m.0 f ready,
-      written_more c.args.controller p.result.1 c.second.new.self past m.0 f c.last.result.now c.plan.result.now.names _ _ _ made' e.site e.logic (m.3 past s none).0 c.last.ensures (ap (λ q. q.names) c.plan.ensures) w.1 c.in-Ok.ensures.ok,
+      written_more c.args.controller p.result.1 c.second.new.self past m.0 f c.last.result.now c.plan.result.now.names _ _ _ made' e.site e.logic
+          (m.3 past s none).0 c.last.ensures (ap (λ q. q.names) c.plan.ensures) w.1 c.in-Ok.ensures.ok,
       ahead_closed _ _ _ _ _ _ m.0 f ready,
       same_sums _ _ _ _ _ _ m.0 f ready,
     )
@@ -74,12 +79,14 @@ returns-clause-live g c = λ past s none.
     let f = c.end_board-closing.result in
     let ready : Ready c.args.board c.args.frames.now c.args.feeders.items p.new.feeders.items c.args.tick p.result.2 m.0 f =
     record { opening = c.requires.opening; played = e.feeders; count = e.feeders_count; loaded = m.1; closes = c.end_board-closing.ensures } in
-    let made' : Made p.result.1 c.second.new.self f = record { stands = c.second.ensures.stands; record_is = c.second.ensures.record; site = c.second.ensures.site; logic_is = c.second.ensures.logic } in
+    let made' : Made p.result.1 c.second.new.self f =
+    record { stands = c.second.ensures.stands; record_is = c.second.ensures.record; site = c.second.ensures.site; logic_is = c.second.ensures.logic } in
     let w = all_of p.result.0 (length c.args.frames.now) m.0 _ _ past _ _ (sym c.is_done.ensures ∙ c.if-not-is_done.false) (m.3 past s none).1 in
     let same = same_sums _ _ _ _ _ _ m.0 f ready in (
       m.0 ++ f ∷ [],
       omega (arith, length-append m.0 (f ∷ []), w.0),
-      cut_more c.args.controller p.result.1 c.second.new.self past m.0 f c.last.result.now c.plan.result.now.names _ _ _ _ made' e.site e.logic (m.3 past s none).0 c.last.ensures (ap (λ q. q.names) c.plan.ensures) w.1 c.in-Err.ensures.fault,
+      cut_more c.args.controller p.result.1 c.second.new.self past m.0 f c.last.result.now c.plan.result.now.names _ _ _ _ made' e.site e.logic
+          (m.3 past s none).0 c.last.ensures (ap (λ q. q.names) c.plan.ensures) w.1 c.in-Err.ensures.fault,
       ahead_closed _ _ _ _ _ _ m.0 f ready,
       λ d low. let q = same d low in (omega (arith, q.0), omega (arith, q.1)),
     )

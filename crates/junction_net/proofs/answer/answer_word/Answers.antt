@@ -29,7 +29,8 @@ returns-in-Err-clause-answer g c =
         c.write_stop.ensures.note clean,
         subst (λ s. IsNetNote word s (stop_note stop)) (sym is) (note_is word stop e.word),
         λ file told. subst (λ s. NoteMeets word file s (stop_note stop)) (sym is)
-            (stop_meets word file stop (g.O.Sink.taken c.args.out.now) _ (list_stop word file stop (e.stop file told)) (λ none. refl) (λ at. absurd (e.no_write at))).1,
+            (stop_meets word file stop (g.O.Sink.taken c.args.out.now) _ (list_stop word file stop (e.stop file told)) (λ none. refl)
+            (λ at. absurd (e.no_write at))).1,
       );
     }
 
@@ -48,10 +49,12 @@ returns-in-Ok-run_list-clause-answer g c =
       read_fault = λ at. absurd cc;
       write_fault = λ at. absurd cc;
       unwritten = λ none. absurd cc;
-      answer = λ file told. done_meets word file list rs _ _ (c.in-Ok.ensures.list file told) (e.results file (c.take_list.ensures.contents_stay ∙ told)) e.text;
+      answer = λ file told. done_meets word file list rs _ _ (c.in-Ok.ensures.list file told)
+          (e.results file (c.take_list.ensures.contents_stay ∙ told)) e.text;
       note = λ clean. (
         net_notes rs,
-        c.write_notes.ensures.notes clean ∙ ap (λ (l : List Job). append_known (g.N.Sink.taken c.args.notes.now) (net_notes (map result_of l))) c.deref.ensures.value,
+        c.write_notes.ensures.notes clean ∙ ap (λ (l : List Job). append_known (g.N.Sink.taken c.args.notes.now) (net_notes (map result_of l)))
+            c.deref.ensures.value,
         tt,
         λ file told. (rs, done_gives word file list rs (c.in-Ok.ensures.list file told) (e.results file (c.take_list.ensures.contents_stay ∙ told)), refl),
       );

@@ -12,7 +12,8 @@ use Rattle.junction_net.proofs.load.load_jobs.Goals as goal
 pub returns-in-Err-clause-unread : goal.returns-in-Err-clause-unread
 returns-in-Err-clause-unread g c = λ file e.
     let holds = c.loop-names.invariant.0 in
-    stops_at_row file c.rows-rows.result.now c.args.list.now c.loop-names.names-index c.names-item.result c.in-Err.stop c.loop-names-test.true (sym c.names-item.is)
+    stops_at_row file c.rows-rows.result.now c.args.list.now c.loop-names.names-index c.names-item.result c.in-Err.stop c.loop-names-test.true
+    (sym c.names-item.is)
     c.rows-rows.ensures.rows (holds.held file e).short (c.in-Err.ensures.unread file (holds.stay ∙ e))
 
 pub loop-names-preserved : goal.loop-names-preserved
@@ -23,7 +24,9 @@ loop-names-preserved g c =
     rw (c.in_ok-push-in-Ok.ensures.items, map_more (λ (job : Job). Some (contents_of job.files.files.items)) c.loop-names.jobs.items c.in_ok-job-in-Ok.job) (
       holds_more _ _ _ _ _ _ rows k row _ _ c.loop-names-test.true (sym c.names-item.is) c.loop-names.invariant.0
           c.hold_files.ensures.contents_stay c.hold_files.ensures.later
-          (λ file e. subst (λ (h : SureFiles). IsHeldBy file (words_in row) (Some (contents_of h.files.items))) (sym c.in_ok-job-in-Ok.ensures.files) (c.in-Ok.ensures.held file e)) c.in-Ok.ensures.short,
+          (λ file e. subst (λ (h : SureFiles). IsHeldBy file (words_in row) (Some (contents_of h.files.items))) (sym c.in_ok-job-in-Ok.ensures.files)
+          (c.in-Ok.ensures.held file e)) c.in-Ok.ensures.short,
       rw (map_first rows k row c.loop-names-test.true (sym c.names-item.is))
-          (ready_more (map words_in (take k rows)) (words_in row) c.loop-names.jobs.items c.in_ok-job-in-Ok.job c.loop-names.invariant.1 c.in_ok-job-in-Ok.ensures.ready),
+          (ready_more (map words_in (take k rows)) (words_in row) c.loop-names.jobs.items c.in_ok-job-in-Ok.job c.loop-names.invariant.1
+          c.in_ok-job-in-Ok.ensures.ready),
     )

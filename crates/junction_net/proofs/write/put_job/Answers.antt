@@ -21,4 +21,5 @@ returns-clause-fault g c =
     ∙ ap (λ (l : List ℕ). codes "JUNCTION " ++ l ++ codes " " ++ status ++ codes "\n" ++ log) numbered
     ∙ ap (λ (l : List ℕ). codes "JUNCTION " ++ decimal c.args.number ++ codes " " ++ l ++ codes "\n" ++ log) told
     ∙ ap (λ (l : List ℕ). codes "JUNCTION " ++ decimal c.args.number ++ codes " " ++ decimal (number_of c.args.job.now.status) ++ codes "\n" ++ l) whole in
-    subst (λ t. OnErr c.put_each.result ((n : ℕ) × IsCut (g.O.Sink.taken c.args.out.now) (g.O.Sink.taken c.put_each.new.sink) n t)) text c.put_each.ensures.fault
+    subst (λ t. OnErr c.put_each.result ((n : ℕ) × IsCut (g.O.Sink.taken c.args.out.now) (g.O.Sink.taken c.put_each.new.sink) n t)) text
+    c.put_each.ensures.fault

@@ -10,12 +10,14 @@ pub returns-in-Err-clause-fault : goal.returns-in-Err-clause-fault
 returns-in-Err-clause-fault g c =
     let cut = c.in-Err.ensures.fault in
     text_cut _ _ _ c.args.jobs.now c.loop-job.job-index cut.0 c.job-item.result c.loop-job-test.true (sym c.job-item.is) c.loop-job.invariant.0
-    (subst (λ m. IsCut (g.O.Sink.taken c.loop-job.out) (g.O.Sink.taken c.put_job.new.out) cut.0 (job_text (m + 1) (result_of c.job-item.result))) c.loop-job.invariant.2 cut.1)
+    (subst (λ m. IsCut (g.O.Sink.taken c.loop-job.out) (g.O.Sink.taken c.put_job.new.out) cut.0 (job_text (m + 1) (result_of c.job-item.result)))
+    c.loop-job.invariant.2 cut.1)
 
 pub loop-job-preserved : goal.loop-job-preserved
 loop-job-preserved g c = (
   text_more _ _ _ c.args.jobs.now c.loop-job.job-index c.job-item.result c.loop-job-test.true (sym c.job-item.is) c.loop-job.invariant.0
-      (subst (λ m. g.O.Sink.taken c.put_job.new.out ≡ append_known (g.O.Sink.taken c.loop-job.out) (job_text (m + 1) (result_of c.job-item.result))) c.loop-job.invariant.2 c.in-Ok.ensures.ok),
+      (subst (λ m. g.O.Sink.taken c.put_job.new.out ≡ append_known (g.O.Sink.taken c.loop-job.out) (job_text (m + 1) (result_of c.job-item.result)))
+      c.loop-job.invariant.2 c.in-Ok.ensures.ok),
   omega (arith, c.loop-job.invariant.1, c.put_job.ensures.cause.later),
   omega (arith, c.loop-job.invariant.2),
 )

@@ -6,5 +6,6 @@ use Rattle.junction_net.proofs.write.write_notes.Goals as goal
 pub returns : goal.returns
 returns g c = record {
   notes = λ clean. c.loop-job.invariant.0
-      ∙ ap (λ (l : List ℕ). append_known (g.N.Sink.taken c.args.notes.now) l) (notes_all c.args.jobs.now c.loop-job.job-index (omega (arith, c.loop-job-test.false)));
+      ∙ ap (λ (l : List ℕ). append_known (g.N.Sink.taken c.args.notes.now) l)
+      (notes_all c.args.jobs.now c.loop-job.job-index (omega (arith, c.loop-job-test.false)));
 }

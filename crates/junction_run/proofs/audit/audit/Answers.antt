@@ -12,7 +12,8 @@ pub returns-in-Err-clause-ended : goal.returns-in-Err-clause-ended
 returns-in-Err-clause-ended g c = λ file e.
     let words : SiteWords = site_in c.args.words.now in
     let form = Audit c.args.log.now words in
-    stopped_loading (Loads form file) (loaded_answer form file) (Reached form file) c.in-Err.stop _ _ (no_log c.args.log.now words file c.in-Err.stop (c.in-Err.ensures.site file e)) refl
+    stopped_loading (Loads form file) (loaded_answer form file) (Reached form file) c.in-Err.stop _ _
+    (no_log c.args.log.now words file c.in-Err.stop (c.in-Err.ensures.site file e)) refl
 
 pub returns-in-Err-clause-word : goal.returns-in-Err-clause-word
 returns-in-Err-clause-word g c = among_more (site_files (site_in c.args.words.now)) (c.args.log.now ∷ []) c.in-Err.stop c.in-Err.ensures.word

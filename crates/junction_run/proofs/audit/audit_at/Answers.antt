@@ -16,7 +16,8 @@ returns-in-Err-judge_log-clause-audited g c = λ file e.
     let tables = c.args.tables in
     let log = c.args.log.now in
     judged_stop (Unit {0}) (site_of_tables tables) log (file log) c.in-Err-judge_log.stop _
-    (judged_at tables.plan c.times.result.now tables.times c.intergreens.result.now tables.intergreens log (name_of c.in-Ok-make.lines) file (Err c.in-Err-judge_log.stop)
+    (judged_at tables.plan c.times.result.now tables.times c.intergreens.result.now tables.intergreens log (name_of c.in-Ok-make.lines) file
+    (Err c.in-Err-judge_log.stop)
     (c.times.ensures ∙ ap (λ t. t.0) c.in-Ok.ensures.tables) (c.intergreens.ensures ∙ ap (λ t. t.1) c.in-Ok.ensures.tables) c.in-Ok-make.ensures.name
     (c.in-Err-judge_log.ensures.judged file e))
 
@@ -28,7 +29,8 @@ returns-in-Ok-write_audit-clause-audited g c = λ file e.
     let tables = c.args.tables in
     let log = c.args.log.now in
     let verdict = c.in-Ok-judge_log.verdict in
-    let judged = judged_at tables.plan c.times.result.now tables.times c.intergreens.result.now tables.intergreens log (name_of c.in-Ok-make.lines) file (Ok verdict)
+    let judged = judged_at tables.plan c.times.result.now tables.times c.intergreens.result.now tables.intergreens log (name_of c.in-Ok-make.lines)
+    file (Ok verdict)
     (c.times.ensures ∙ ap (λ t. t.0) c.in-Ok.ensures.tables) (c.intergreens.ensures ∙ ap (λ t. t.1) c.in-Ok.ensures.tables) c.in-Ok-make.ensures.name
     (c.in-Ok-judge_log.ensures.judged file e) in
     let written = c.in-Ok-write_audit.ensures.written in
@@ -40,7 +42,8 @@ returns-clause-audited g c = λ file e.
     let tables = c.args.tables in
     let log = c.args.log.now in
     let verdict = c.in-Ok-judge_log.verdict in
-    let judged = judged_at tables.plan c.times.result.now tables.times c.intergreens.result.now tables.intergreens log (name_of c.in-Ok-make.lines) file (Ok verdict)
+    let judged = judged_at tables.plan c.times.result.now tables.times c.intergreens.result.now tables.intergreens log (name_of c.in-Ok-make.lines)
+    file (Ok verdict)
     (c.times.ensures ∙ ap (λ t. t.0) c.in-Ok.ensures.tables) (c.intergreens.ensures ∙ ap (λ t. t.1) c.in-Ok.ensures.tables) c.in-Ok-make.ensures.name
     (c.in-Ok-judge_log.ensures.judged file e) in
     let written = c.in-Err-write_audit.ensures.written in

@@ -28,7 +28,8 @@ returns-in-Ok-false-clause-judged g c = λ file e.
     let i = c.loop-auditor.invariant in
     let so_far = i.0 in
     let names = c.args.plan.now.names in
-    let next = subst (λ n. Reads c.loop-auditor.lines names (file n) so_far.pictures → IsNext names (file n) so_far.pictures c.next_picture.new.self (Ok c.in-Ok-false.field-0)) i.2
+    let next = subst (λ n. Reads c.loop-auditor.lines names (file n) so_far.pictures →
+    IsNext names (file n) so_far.pictures c.next_picture.new.self (Ok c.in-Ok-false.field-0)) i.2
     (c.in-Ok-false.ensures.next file (i.1 ∙ e) so_far.pictures) (so_far.reads file e) in
     let last = subst (λ b. IsNext names (file (name_of c.args.lines.now)) so_far.pictures c.next_picture.new.self (Ok b)) c.in-Ok-false.field-0-test next in
     (so_far.pictures, last.0, c.verdict.ensures.verdict _ _ so_far.stands)
@@ -41,7 +42,8 @@ returns-in-Err-At-clause-judged g c = λ file e.
     let i = c.loop-auditor.invariant in
     let so_far = i.0 in
     let names = c.args.plan.now.names in
-    let next = subst (λ n. Reads c.loop-auditor.lines names (file n) so_far.pictures → IsNext names (file n) so_far.pictures c.next_picture.new.self (Err c.in-Err-At.field-0)) i.2
+    let next = subst (λ n. Reads c.loop-auditor.lines names (file n) so_far.pictures →
+    IsNext names (file n) so_far.pictures c.next_picture.new.self (Err c.in-Err-At.field-0)) i.2
     (c.in-Err-At.ensures.next file (i.1 ∙ e) so_far.pictures) (so_far.reads file e) in
     let last = subst (λ r. IsNext names (file (name_of c.args.lines.now)) so_far.pictures c.next_picture.new.self (Err r)) c.in-Err-At.field-0-is next in
     let told : IsLog names (file (name_of c.args.lines.now)) so_far.pictures (Some (c.in-Err-At.line, c.in-Err-At.why)) = last in
@@ -57,9 +59,11 @@ loop-auditor-preserved g c =
         pictures = so_far.pictures ++ c.picture.result.now ∷ [];
         stands = c.take.ensures.stands _ so_far.stands;
         reads = λ file e.
-            let next = subst (λ n. Reads c.loop-auditor.lines names (file n) so_far.pictures → IsNext names (file n) so_far.pictures c.next_picture.new.self (Ok c.in-Ok-true.field-0)) i.2
+            let next = subst (λ n. Reads c.loop-auditor.lines names (file n) so_far.pictures →
+            IsNext names (file n) so_far.pictures c.next_picture.new.self (Ok c.in-Ok-true.field-0)) i.2
             (c.in-Ok-true.ensures.next file (i.1 ∙ e) so_far.pictures) (so_far.reads file e) in
-            let read = subst (λ b. IsNext names (file (name_of c.args.lines.now)) so_far.pictures c.next_picture.new.self (Ok b)) c.in-Ok-true.field-0-test next in
+            let read = subst (λ b. IsNext names (file (name_of c.args.lines.now)) so_far.pictures c.next_picture.new.self (Ok b))
+            c.in-Ok-true.field-0-test next in
             subst (λ p. Reads c.next_picture.new.self names (file (name_of c.args.lines.now)) (so_far.pictures ++ p ∷ [])) (sym c.picture.ensures) read;
       },
       c.next_picture.ensures.contents_stay ∙ i.1,

@@ -10,7 +10,8 @@ use Rattle.junction_run.proofs.compile.compile_file.Goals as goal
 
 pub returns-in-Err-clause-ended : goal.returns-in-Err-clause-ended
 returns-in-Err-clause-ended g c = λ file e.
-    stopped_loading (IsJudged ProgramIs text_limit c.args.program.now (file c.args.program.now)) (loaded_answer (Compile c.args.program.now) file) (Reached (Compile c.args.program.now) file)
+    stopped_loading (IsJudged ProgramIs text_limit c.args.program.now (file c.args.program.now)) (loaded_answer (Compile c.args.program.now) file)
+    (Reached (Compile c.args.program.now) file)
     c.in-Err.stop _ _ (c.in-Err.ensures.program file e) refl
 
 pub returns-in-Err-clause-word : goal.returns-in-Err-clause-word

@@ -23,7 +23,8 @@ loop-place-preserved c =
             ap (λ n. take n after) w.count-is ∙ take_more_set c.loop-place.places count place room ∙ ap (λ ps. ps ++ place ∷ []) i.places
             ∙ sym (places_to-vehicle place g (sym here ∙ w.if-draw_vehicle.true))
         | else-draw_vehicle w ↦
-            ap (λ n. take n after) w.count-is ∙ take-set c.loop-place.places count place ∙ i.places ∙ sym (places_to-silent place g (sym here ∙ w.if-draw_vehicle.false))
+            ap (λ n. take n after) w.count-is ∙ take-set c.loop-place.places count place ∙ i.places ∙
+            sym (places_to-silent place g (sym here ∙ w.if-draw_vehicle.false))
       ];
       few = elim c.if-draw_vehicle.branch [
         | then-draw_vehicle w ↦ omega (arith, i.few, w.count-is)

@@ -27,12 +27,15 @@ returns-in_default c =
     elim c.in_default.branch [
       | in_default-via-then-words-lt2 w ↦
           let less : length c.args.words.now < 2 = search rules in
-          no_form words (λ e. omega (arith, e, same, less)) (λ e. omega (arith, e, same, less)) (λ e. omega (arith, e, same, less)) (λ e. omega (arith, e, same, less))
+          no_form words (λ e. omega (arith, e, same, less)) (λ e. omega (arith, e, same, less)) (λ e. omega (arith, e, same, less))
+          (λ e. omega (arith, e, same, less))
       | in_default-via-else-words-lt2+else-words-lt3+then-words-lt5 w ↦
           let more : 3 ≤ length c.args.words.now = search rules in
           let less : length c.args.words.now < 5 = search rules in
-          no_form words (λ e. omega (arith, e, same, more)) (λ e. omega (arith, e, same, less)) (λ e. omega (arith, e, same, less)) (λ e. omega (arith, e, same, less))
+          no_form words (λ e. omega (arith, e, same, more)) (λ e. omega (arith, e, same, less)) (λ e. omega (arith, e, same, less))
+          (λ e. omega (arith, e, same, less))
       | in_default-via-else-words-lt2+else-words-lt3+else-words-lt5+else-words-lt6+else-words-lt7+else-words-lt8 w ↦
           let more : 8 ≤ length c.args.words.now = search rules in
-          no_form words (λ e. omega (arith, e, same, more)) (λ e. omega (arith, e, same, more)) (λ e. omega (arith, e, same, more)) (λ e. omega (arith, e, same, more))
+          no_form words (λ e. omega (arith, e, same, more)) (λ e. omega (arith, e, same, more)) (λ e. omega (arith, e, same, more))
+          (λ e. omega (arith, e, same, more))
     ]

@@ -10,7 +10,8 @@ use Rattle.junction_run.proofs.load.load.Goals as goal
 pub returns-in-Err-clause-loaded : goal.returns-in-Err-clause-loaded
 returns-in-Err-clause-loaded g c = λ file e.
     let source : Source = source_in c.args.source.now in
-    no_site (played_at source) (IsSource source (file (word_of source))) (word_of source) (site_in c.args.words.now) file c.in-Err.stop (c.in-Err.ensures.site file e)
+    no_site (played_at source) (IsSource source (file (word_of source))) (word_of source) (site_in c.args.words.now) file c.in-Err.stop
+    (c.in-Err.ensures.site file e)
 
 pub returns-in-Err-clause-word : goal.returns-in-Err-clause-word
 returns-in-Err-clause-word g c =

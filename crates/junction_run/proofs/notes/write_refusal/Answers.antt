@@ -11,5 +11,7 @@ returns g c = λ clean.
     let line : List ℕ = c.as_bytes.result.now in
     let digits : line ≡ decimal c.args.line = search rules in
     c.write_pieces.ensures clean ∙ ap (λ l. append_known (g.N.Sink.taken c.args.notes.now) l)
-    (eleven (codes "junction: ") c.args.word.now (codes ":") line (codes ": ") told.name.now told.blank.now told.first.now told.gap.now told.second.now (codes "\n")
-    ∙ ap (λ l. codes "junction: " ++ c.args.word.now ++ codes ":" ++ l ++ codes ": " ++ told.name.now ++ told.blank.now ++ told.first.now ++ told.gap.now ++ told.second.now ++ codes "\n") digits)
+    (eleven (codes "junction: ") c.args.word.now (codes ":") line (codes ": ") told.name.now told.blank.now told.first.now told.gap.now
+    told.second.now (codes "\n")
+    ∙ ap (λ l. codes "junction: " ++ c.args.word.now ++ codes ":" ++ l ++ codes ": " ++ told.name.now ++ told.blank.now ++ told.first.now ++
+    told.gap.now ++ told.second.now ++ codes "\n") digits)

@@ -14,7 +14,8 @@ pub returns-then-failed-clause-played : goal.returns-then-failed-clause-played
 returns-then-failed-clause-played g c = λ store s.
     let start : Option (List ℕ) = g.O.Sink.taken c.args.out.now in
     let names : c.plan.result.now.names ≡ (site_of c.args.controller.now).plan.names = ap (λ q. q.names) (c.plan.ensures ∙ plan_is c.args.controller.now) in
-    let begun = subst (λ t. IsDraft start (g.O.Sink.taken c.put_header.new.sink) c.put_header.new.draft t) (ap header_text names ∙ sym (log_of-none (playing_of c.args.controller.now store)))
+    let begun = subst (λ t. IsDraft start (g.O.Sink.taken c.put_header.new.sink) c.put_header.new.draft t)
+    (ap header_text names ∙ sym (log_of-none (playing_of c.args.controller.now store)))
     (c.put_header.ensures.text start [] (c.new-draft.ensures.text start)) in
     let played = c.put_seconds-end.ensures.played store s in (
       played.0,
@@ -26,12 +27,14 @@ pub returns-in-Ok-clause-played : goal.returns-in-Ok-clause-played
 returns-in-Ok-clause-played g c = λ store s.
     let start : Option (List ℕ) = g.O.Sink.taken c.args.out.now in
     let names : c.plan.result.now.names ≡ (site_of c.args.controller.now).plan.names = ap (λ q. q.names) (c.plan.ensures ∙ plan_is c.args.controller.now) in
-    let begun = subst (λ t. IsDraft start (g.O.Sink.taken c.put_header.new.sink) c.put_header.new.draft t) (ap header_text names ∙ sym (log_of-none (playing_of c.args.controller.now store)))
+    let begun = subst (λ t. IsDraft start (g.O.Sink.taken c.put_header.new.sink) c.put_header.new.draft t)
+    (ap header_text names ∙ sym (log_of-none (playing_of c.args.controller.now store)))
     (c.put_header.ensures.text start [] (c.new-draft.ensures.text start)) in
     let played = c.put_seconds-end.ensures.played store s in (
       played.0,
       written_so c.put_seconds-end.result c.args.word.now c.put_seconds-end.new.draft.failed (log_of (playing_of c.args.controller.now store) played.0) start _
-          c.put_seconds-end.ensures.stops (sym c.failed.ensures ∙ c.if-failed.false) (c.in-Ok.ensures.ok start (log_of (playing_of c.args.controller.now store) played.0) (played.1 start begun)),
+          c.put_seconds-end.ensures.stops (sym c.failed.ensures ∙ c.if-failed.false)
+          (c.in-Ok.ensures.ok start (log_of (playing_of c.args.controller.now store) played.0) (played.1 start begun)),
       played.2,
     )
 
@@ -42,7 +45,8 @@ pub returns-in-Err-clause-played : goal.returns-in-Err-clause-played
 returns-in-Err-clause-played g c = λ store s.
     let start : Option (List ℕ) = g.O.Sink.taken c.args.out.now in
     let names : c.plan.result.now.names ≡ (site_of c.args.controller.now).plan.names = ap (λ q. q.names) (c.plan.ensures ∙ plan_is c.args.controller.now) in
-    let begun = subst (λ t. IsDraft start (g.O.Sink.taken c.put_header.new.sink) c.put_header.new.draft t) (ap header_text names ∙ sym (log_of-none (playing_of c.args.controller.now store)))
+    let begun = subst (λ t. IsDraft start (g.O.Sink.taken c.put_header.new.sink) c.put_header.new.draft t)
+    (ap header_text names ∙ sym (log_of-none (playing_of c.args.controller.now store)))
     (c.put_header.ensures.text start [] (c.new-draft.ensures.text start)) in
     let played = c.put_seconds-end.ensures.played store s in (
       played.0,

@@ -61,8 +61,10 @@ loop-lines-preserved g c =
     let u = sent i.0 c.send_before_wait.ensures.text in
     let gave = (c.in-Ok-true.ensures.gave (ap Ok c.in-Ok-true.field-0-test) u.frames u.gave).0 in
     let second = c.in-Ok-true.ensures.second (ap Ok c.in-Ok-true.field-0-test) in (
-      one_more c.args.controller.now c.loop-lines.controller c.second.new.self c.loop-lines.lines c.next_frame.new.self (g.F.Files.told c.args.files.now) (name_of c.args.lines.now)
-          (g.O.Sink.taken c.args.out.now) (g.O.Sink.taken c.send_before_wait.new.out) (g.O.Sink.taken c.put_second.new.sink) c.args.draft.now c.send_before_wait.new.draft c.put_second.new.draft
+      one_more c.args.controller.now c.loop-lines.controller c.second.new.self c.loop-lines.lines c.next_frame.new.self
+          (g.F.Files.told c.args.files.now) (name_of c.args.lines.now)
+          (g.O.Sink.taken c.args.out.now) (g.O.Sink.taken c.send_before_wait.new.out) (g.O.Sink.taken c.put_second.new.sink) c.args.draft.now
+          c.send_before_wait.new.draft c.put_second.new.draft
           c.frame.result.now c.last.result.now c.plan.result.now.names u
           (subst (λ f. Gave c.next_frame.new.self (u.frames ++ f ∷ [])) (sym c.frame.ensures) gave)
           (λ file e.

@@ -6,7 +6,8 @@ use Rattle.junction_run.proofs.play.put_seconds.Given as goal
 
 abbrev pub invariant-loop-lines : goal.invariant-loop-lines
 invariant-loop-lines g l =
-    Underway l.fn.controller l.controller l.lines (g.F.Files.told l.fn.files) (name_of l.fn.lines) (g.O.Sink.taken l.fn.out) (g.O.Sink.taken l.out) l.fn.draft l.draft
+    Underway l.fn.controller l.controller l.lines (g.F.Files.told l.fn.files) (name_of l.fn.lines) (g.O.Sink.taken l.fn.out) (g.O.Sink.taken l.out)
+    l.fn.draft l.draft
     × (g.F.Files.told l.files ≡ g.F.Files.told l.fn.files)
     × (name_of l.lines ≡ name_of l.fn.lines)
     × (is_live l.lines ≡ true)

@@ -13,4 +13,5 @@ returns-in-Err-judge_tree-clause-text c = c.in-Err-judge_tree.ensures.refused c.
 pub returns-clause-text : goal.returns-clause-text
 returns-clause-text c =
     checked_text c.check_tree.result c.args.text.now c.in-Ok.tokens c.in-Ok-judge_tree.program c.in-Ok.ensures.tokens c.in-Ok-judge_tree.ensures.tree
-    c.check_tree.ensures.tree c.check_tree.ensures.accepted (c.check_tree.ensures.refused c.args.text.now c.in-Ok.tokens c.in-Ok.ensures.tokens c.in-Ok-judge_tree.ensures.tree)
+    c.check_tree.ensures.tree c.check_tree.ensures.accepted
+    (c.check_tree.ensures.refused c.args.text.now c.in-Ok.tokens c.in-Ok.ensures.tokens c.in-Ok-judge_tree.ensures.tree)

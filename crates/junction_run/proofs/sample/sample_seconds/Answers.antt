@@ -20,7 +20,8 @@ pub second-requires : goal.second-requires
 second-requires c =
     let i = c.loop-second.invariant in
     let begun = c.requires.begun in
-    next_takes c.args.controller.now c.loop-second.controller c.loop-second.summary c.args.seed c.loop-second.second c.draw_frame.new.frame i.sampled (omega arith)
+    next_takes c.args.controller.now c.loop-second.controller c.loop-second.summary c.args.seed c.loop-second.second c.draw_frame.new.frame i.sampled
+    (omega arith)
     (c.draw_frame.ensures.frame ∙ ap frame_from i.generator) begun.0 begun.1
 
 pub add-requires : goal.add-requires
@@ -48,5 +49,6 @@ loop-second-preserved c =
 pub returns-clause-summed : goal.returns-clause-summed
 returns-clause-summed c = λ store s.
     let all : c.loop-second.second ≡ c.args.seconds = omega arith in
-    subst (λ n. SummaryStands c.loop-second.summary (groups_in (plan_of c.args.controller.now)) (records_of (playing_of c.args.controller.now store) (drawn c.args.seed n)))
+    subst (λ n. SummaryStands c.loop-second.summary (groups_in (plan_of c.args.controller.now))
+    (records_of (playing_of c.args.controller.now store) (drawn c.args.seed n)))
     all (c.loop-second.invariant.sampled.summed store s)

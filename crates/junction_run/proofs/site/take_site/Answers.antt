@@ -17,7 +17,8 @@ returns-in-Err-clause-word g c =
 
 pub returns-in-Err-take_times-clause-site : goal.returns-in-Err-take_times-clause-site
 returns-in-Err-take_times-clause-site g c = λ file e.
-    no_times (site_in c.args.words.now) file c.in-Ok.plan c.in-Err-take_times.stop (c.in-Ok.ensures.plan file e) (c.in-Err-take_times.ensures.times file (c.take_plan.ensures.contents_stay ∙ e))
+    no_times (site_in c.args.words.now) file c.in-Ok.plan c.in-Err-take_times.stop (c.in-Ok.ensures.plan file e)
+    (c.in-Err-take_times.ensures.times file (c.take_plan.ensures.contents_stay ∙ e))
 
 pub returns-in-Err-take_times-clause-word : goal.returns-in-Err-take_times-clause-word
 returns-in-Err-take_times-clause-word g c =
@@ -30,10 +31,13 @@ returns-in-Err-take_intergreens-clause-site g c = λ file e.
     let e1 = c.take_plan.ensures.contents_stay ∙ e in
     let e2 = c.take_times.ensures.contents_stay ∙ e1 in
     let plan : c.in-Ok-take_times.taken.0 ≡ c.in-Ok.plan = c.in-Ok-take_times.ensures.plan in
-    no_intergreens words file c.in-Ok.plan c.in-Ok-take_times.taken.1 c.in-Err-take_intergreens.stop (c.in-Ok.ensures.plan file e) (c.in-Ok-take_times.ensures.times file e1)
-    (subst (λ p. IsLoadStop (λ w. w ≡ words.intergreens) c.in-Err-take_intergreens.stop (intergreens_at file words.intergreens p)) plan (c.in-Err-take_intergreens.ensures.intergreens file e2))
+    no_intergreens words file c.in-Ok.plan c.in-Ok-take_times.taken.1 c.in-Err-take_intergreens.stop (c.in-Ok.ensures.plan file e)
+    (c.in-Ok-take_times.ensures.times file e1)
+    (subst (λ p. IsLoadStop (λ w. w ≡ words.intergreens) c.in-Err-take_intergreens.stop (intergreens_at file words.intergreens p)) plan
+    (c.in-Err-take_intergreens.ensures.intergreens file e2))
 
 pub returns-in-Err-take_intergreens-clause-word : goal.returns-in-Err-take_intergreens-clause-word
 returns-in-Err-take_intergreens-clause-word g c =
     let second : 2 < 3 = omega arith in
-    among (site_files (site_in c.args.words.now)) c.args.words.now.intergreens.now c.in-Err-take_intergreens.stop (2, second, refl) c.in-Err-take_intergreens.ensures.word
+    among (site_files (site_in c.args.words.now)) c.args.words.now.intergreens.now c.in-Err-take_intergreens.stop (2, second, refl)
+    c.in-Err-take_intergreens.ensures.word

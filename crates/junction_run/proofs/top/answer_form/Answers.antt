@@ -30,7 +30,8 @@ returns-in-Err-clause-answer g c =
       write_fault = λ at. c.in-Err.ensures.write (sym is ∙ at);
       unwritten = λ none. c.in-Err.ensures.unwritten (subst (λ s. may_write (writes_lines form) s ≡ false) is none);
       line = λ at. c.in-Err.ensures.line (sym is ∙ at);
-      answer = λ file e. subst (λ s. Meets form file s (g.O.Sink.taken c.args.out.now) (g.O.Sink.taken c.do_form.new.out)) (sym is) (c.in-Err.ensures.ended file e).0;
+      answer = λ file e. subst (λ s. Meets form file s (g.O.Sink.taken c.args.out.now) (g.O.Sink.taken c.do_form.new.out)) (sym is)
+          (c.in-Err.ensures.ended file e).0;
       safe = c.do_form.ensures.safe;
       note = λ clean. (
         stop_note c.in-Err.stop,

@@ -14,5 +14,6 @@ returns-clause-found c = sym (least_below-never _ c.args.groups (λ j lt. c.loop
 
 pub loop-g-preserved : goal.loop-g-preserved
 loop-g-preserved c =
-    let led : leads (get_or c.args.interstage.now.rows c.loop-g.g None) (greens_in c.args.stages.now c.args.interstage.now.from c.loop-g.g) (greens_in c.args.stages.now c.args.interstage.now.to c.loop-g.g) c.args.interstage.now.length ≡ true = search rules in
+    let led : leads (get_or c.args.interstage.now.rows c.loop-g.g None) (greens_in c.args.stages.now c.args.interstage.now.from c.loop-g.g)
+    (greens_in c.args.stages.now c.args.interstage.now.to c.loop-g.g) c.args.interstage.now.length ≡ true = search rules in
     below_more _ _ c.loop-g.invariant (ap not led)

@@ -7,12 +7,14 @@ pub get-requires : goal.get-requires
 get-requires c =
     let lt : c.args.stage.0 - 1 < length c.args.stages.now = omega arith in
     let same : get_or c.args.stages.now (c.args.stage.0 - 1) (record { name = []; greens = [] }) ≡ c.index-stages-from.result =
-    get_or_default c.args.stages.now (c.args.stage.0 - 1) (record { name = []; greens = [] }) c.index-stages-from.result lt ∙ sym (rw c.from.ensures at c.index-stages-from.is) in
+    get_or_default c.args.stages.now (c.args.stage.0 - 1) (record { name = []; greens = [] }) c.index-stages-from.result lt ∙
+    sym (rw c.from.ensures at c.index-stages-from.is) in
     omega (arith, c.requires.greens (c.args.stage.0 - 1) lt, ap (λ (s : Stage). length s.greens) same)
 
 pub returns : goal.returns
 returns c =
     let lt : c.args.stage.0 - 1 < length c.args.stages.now = omega arith in
     let same : get_or c.args.stages.now (c.args.stage.0 - 1) (record { name = []; greens = [] }) ≡ c.index-stages-from.result =
-    get_or_default c.args.stages.now (c.args.stage.0 - 1) (record { name = []; greens = [] }) c.index-stages-from.result lt ∙ sym (rw c.from.ensures at c.index-stages-from.is) in
+    get_or_default c.args.stages.now (c.args.stage.0 - 1) (record { name = []; greens = [] }) c.index-stages-from.result lt ∙
+    sym (rw c.from.ensures at c.index-stages-from.is) in
     sym (ap (λ (s : Stage). get_or s.greens c.args.group false) same ∙ sym c.get.ensures)

@@ -7,12 +7,14 @@ use Rattle.pua_reader.proofs.stages.is_green_in.Goals as goal
 
 pub overflow_cast-place : goal.overflow_cast-place
 overflow_cast-place c =
-    let found = position-Some (λ (g : Group). same_name g.name c.args.name.now) c.args.groups.now c.in-Some.place (record { name = []; number = 0 }) (sym c.in-Some.ensures) in
+    let found = position-Some (λ (g : Group). same_name g.name c.args.name.now) c.args.groups.now c.in-Some.place (record { name = []; number = 0 })
+    (sym c.in-Some.ensures) in
     omega (arith, found.0)
 
 pub get-requires : goal.get-requires
 get-requires c =
-    let found = position-Some (λ (g : Group). same_name g.name c.args.name.now) c.args.groups.now c.in-Some.place (record { name = []; number = 0 }) (sym c.in-Some.ensures) in
+    let found = position-Some (λ (g : Group). same_name g.name c.args.name.now) c.args.groups.now c.in-Some.place (record { name = []; number = 0 })
+    (sym c.in-Some.ensures) in
     omega (arith, found.0)
 
 pub returns-in-Some : goal.returns-in-Some

@@ -9,7 +9,8 @@ use Rattle.pua_reader.proofs.stages.names_green.Goals as goal
 pub any_green-requires-clause-greens : goal.any_green-requires-clause-greens
 any_green-requires-clause-greens c =
     let ne = some_left (length c.args.stages.now) c.if-is_empty.ensures in
-    let last : last_greens c.args.stages.now ≡ c.index-stages-stages.result.greens = last_is c.args.stages.now c.index-stages-stages.result ne c.index-stages-stages.is in
+    let last : last_greens c.args.stages.now ≡ c.index-stages-stages.result.greens =
+    last_is c.args.stages.now c.index-stages-stages.result ne c.index-stages-stages.is in
     omega (arith, c.requires.greens ne, ap length last)
 
 pub returns-then-is_empty : goal.returns-then-is_empty
@@ -19,6 +20,7 @@ returns-then-is_empty c =
 pub returns : goal.returns
 returns c =
     let ne = some_left (length c.args.stages.now) c.if-is_empty.ensures in
-    let last : last_greens c.args.stages.now ≡ c.index-stages-stages.result.greens = last_is c.args.stages.now c.index-stages-stages.result ne c.index-stages-stages.is in
+    let last : last_greens c.args.stages.now ≡ c.index-stages-stages.result.greens =
+    last_is c.args.stages.now c.index-stages-stages.result ne c.index-stages-stages.is in
     c.any_green.ensures ∙ sym (any_texts (is_green_in c.args.groups.now c.index-stages-stages.result.greens) c.args.named.now)
     ∙ ap (λ (gs : List Bool). list_any (is_green_in c.args.groups.now gs) (texts c.args.named.now)) (sym last)

@@ -4,7 +4,8 @@ use Rattle.pua_reader.proofs.stages.stage_of.Goals as goal
 
 pub returns-in-Some-place_of_stage : goal.returns-in-Some-place_of_stage
 returns-in-Some-place_of_stage c =
-    stage_named c.args.stages.now c.args.word.now (Some c.in-Some-place_of_stage.place) (sym c.is_number.ensures ∙ c.if-is_number.false) c.in-Some-place_of_stage.ensures
+    stage_named c.args.stages.now c.args.word.now (Some c.in-Some-place_of_stage.place) (sym c.is_number.ensures ∙ c.if-is_number.false)
+    c.in-Some-place_of_stage.ensures
 
 pub returns-in-None-place_of_stage : goal.returns-in-None-place_of_stage
 returns-in-None-place_of_stage c =

@@ -16,10 +16,13 @@ returns-in-Ok-false c =
     let word : Bor (List ℕ) = get_or c.args.words.now i (record { ref_ptr = (0, 0); now = [] }) in
     let lt : i < length (texts c.args.words.now) = omega (arith, c.loop-word-test.true, length-map c.args.words.now (λ (w : Bor (List ℕ)). w.now)) in
     let small : c.in_ok-key.key.items ≡ low word.now = c.in_ok-key.ensures in
-    let found : list_any (is_at (by_text (λ (k : Vec ℕ Global). k.items) c.in_ok-key.key)) c.loop-word.seen.keys ≡ true = not_not _ (sym c.in-Ok-false.field-0-test ∙ c.in-Ok-false.ensures.added) in
+    let found : list_any (is_at (by_text (λ (k : Vec ℕ Global). k.items) c.in_ok-key.key)) c.loop-word.seen.keys ≡ true =
+    not_not _ (sym c.in-Ok-false.field-0-test ∙ c.in-Ok-false.ensures.added) in
     let stands : stands_in word.now (take i (texts c.args.words.now)) ≡ true =
-    sym (key_stands (λ (k : Vec ℕ Global). k.items) c.loop-word.seen.keys c.in_ok-key.key word.now (take i (texts c.args.words.now)) c.loop-word.invariant.known small) ∙ found in
-    sym (twice_at (texts c.args.words.now) i word.now lt (get_or-map (λ (w : Bor (List ℕ)). w.now) c.args.words.now i (record { ref_ptr = (0, 0); now = [] }) [] c.loop-word-test.true) stands)
+    sym (key_stands (λ (k : Vec ℕ Global). k.items) c.loop-word.seen.keys c.in_ok-key.key word.now (take i (texts c.args.words.now))
+    c.loop-word.invariant.known small) ∙ found in
+    sym (twice_at (texts c.args.words.now) i word.now lt
+    (get_or-map (λ (w : Bor (List ℕ)). w.now) c.args.words.now i (record { ref_ptr = (0, 0); now = [] }) [] c.loop-word-test.true) stands)
 
 pub loop-word-preserved : goal.loop-word-preserved
 loop-word-preserved c =
@@ -27,7 +30,8 @@ loop-word-preserved c =
     let ws : List Text = texts c.args.words.now in
     let word : Bor (List ℕ) = get_or c.args.words.now i (record { ref_ptr = (0, 0); now = [] }) in
     let lt : i < length ws = omega (arith, c.loop-word-test.true, length-map c.args.words.now (λ (w : Bor (List ℕ)). w.now)) in
-    let here : get_or ws i [] ≡ word.now = get_or-map (λ (w : Bor (List ℕ)). w.now) c.args.words.now i (record { ref_ptr = (0, 0); now = [] }) [] c.loop-word-test.true in
+    let here : get_or ws i [] ≡ word.now = get_or-map (λ (w : Bor (List ℕ)). w.now) c.args.words.now i (record { ref_ptr = (0, 0); now = [] }) []
+    c.loop-word-test.true in
     let more : take (i + 1) ws ≡ take i ws ++ word.now ∷ [] = take_more ws i [] lt ∙ ap (λ (x : Text). take i ws ++ x ∷ []) here in
     let small : c.in_ok-key.key.items ≡ low word.now = c.in_ok-key.ensures in
     let free : list_any (is_at (by_text (λ (k : Vec ℕ Global). k.items) c.in_ok-key.key)) c.loop-word.seen.keys ≡ false =

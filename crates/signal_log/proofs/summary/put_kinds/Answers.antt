@@ -14,7 +14,8 @@ loop-kind-preserved g c =
     let i = c.loop-kind.invariant in
     let at = c.loop-kind.kind-index in
     let tallied = λ (kind : FaultKind). tally (fault_name kind) (kept_faults c.args.summary.now kind) in
-    let here : tally c.fault_name.result.now c.from-count.result ≡ tallied (get_or kinds at Budget) = λ j. tally (c.fault_name.ensures.text j) ((c.from-count.ensures ∙ c.faults_of.ensures) j) in
+    let here : tally c.fault_name.result.now c.from-count.result ≡ tallied (get_or kinds at Budget) =
+    λ j. tally (c.fault_name.ensures.text j) ((c.from-count.ensures ∙ c.faults_of.ensures) j) in
     record {
       text = λ start text is. subst (λ t. IsDraft start (g.O.Sink.taken c.put_tally.new.sink) c.put_tally.new.draft t)
           (ap (λ t. (text ++ flat_map tallied (take at kinds)) ++ t) here ∙ items_more tallied at kinds Budget text (omega arith))

@@ -14,7 +14,8 @@ loop-rule-preserved g c =
     let i = c.loop-rule.invariant in
     let at = c.loop-rule.rule-index in
     let tallied = λ (rule : Rule). tally (rule_name rule) (kept_refusals c.args.summary.now rule) in
-    let here : tally c.rule_name.result.now c.refusals_by-count.result ≡ tallied (get_or rules at Sequence) = λ j. tally (c.rule_name.ensures.text j) (c.refusals_by-count.ensures j) in
+    let here : tally c.rule_name.result.now c.refusals_by-count.result ≡ tallied (get_or rules at Sequence) =
+    λ j. tally (c.rule_name.ensures.text j) (c.refusals_by-count.ensures j) in
     record {
       text = λ start text is. subst (λ t. IsDraft start (g.O.Sink.taken c.put_tally.new.sink) c.put_tally.new.draft t)
           (ap (λ t. (text ++ flat_map tallied (take at rules)) ++ t) here ∙ items_more tallied at rules Sequence text (omega arith))

@@ -19,7 +19,8 @@ returns-clause-text g c = λ rs s start text is.
     (c.put-4.ensures.text start _ (c.put_groups.ensures.text start _ (c.put-3.ensures.text start _ (c.put_number.ensures.text start _
     (c.put-2.ensures.text start _ (c.put_long_number.ensures.text start _ (c.put.ensures.text start text is)))))))))) in
     let whole = eleven text (codes "SAMPLE ") (decimal c.args.seed) (codes " ") (decimal c.args.seconds) (codes "\nGREENS")
-    (groups_text (kept_greens kept) 0 names) (codes "\nREFUSED") (rules_text (kept_refusals kept)) (codes "\nFAULTS") (kinds_text (kept_faults kept)) (codes "\n") in
+    (groups_text (kept_greens kept) 0 names) (codes "\nREFUSED") (rules_text (kept_refusals kept)) (codes "\nFAULTS") (kinds_text (kept_faults kept))
+    (codes "\n") in
     subst (λ (t : List ℕ). IsDraft start (g.O.Sink.taken c.put-6.new.sink) c.put-6.new.self t)
     (whole ∙ (λ j. text ++ (codes "SAMPLE " ++ decimal c.args.seed ++ codes " " ++ decimal c.args.seconds ++ codes "\nGREENS" ++ groups_are j
     ++ codes "\nREFUSED" ++ rules_are j ++ codes "\nFAULTS" ++ kinds_are j ++ codes "\n"))) all

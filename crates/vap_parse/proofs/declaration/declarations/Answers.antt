@@ -22,4 +22,5 @@ returns-in_err-declaration c =
 
 pub loop-alloc-smaller : goal.loop-alloc-smaller
 loop-alloc-smaller c =
-    takes (declaration_law (map constant_of c.loop-alloc.consts.items, map array_of c.loop-alloc.arrays.items)) c.loop-alloc.tokens c.declaration.new.tokens (map constant_of c.declaration.new.consts.items, map array_of c.declaration.new.arrays.items) c.in_ok-declaration.ensures
+    takes (declaration_law (map constant_of c.loop-alloc.consts.items, map array_of c.loop-alloc.arrays.items)) c.loop-alloc.tokens
+    c.declaration.new.tokens (map constant_of c.declaration.new.consts.items, map array_of c.declaration.new.arrays.items) c.in_ok-declaration.ensures

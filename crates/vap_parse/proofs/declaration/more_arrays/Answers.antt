@@ -34,6 +34,7 @@ returns-in_err-next c =
 
 pub loop-alloc-smaller : goal.loop-alloc-smaller
 loop-alloc-smaller c =
-    let one : length c.expect.new.self.rest < length c.loop-alloc.tokens.rest = token_takes (where_kind k.Comma line_of) no_limit as_many c.loop-alloc.tokens c.expect.new.self c.in_ok-expect.field-0 c.in_ok-expect.ensures in
+    let one : length c.expect.new.self.rest < length c.loop-alloc.tokens.rest =
+    token_takes (where_kind k.Comma line_of) no_limit as_many c.loop-alloc.tokens c.expect.new.self c.in_ok-expect.field-0 c.in_ok-expect.ensures in
     let two = takes array_law c.expect.new.self c.array.new.tokens (array_of c.in_ok-next.next) c.in_ok-next.ensures in
     omega arith

@@ -33,6 +33,7 @@ returns-in_err-next c =
 
 pub loop-tokens-smaller : goal.loop-tokens-smaller
 loop-tokens-smaller c =
-    let one : length c.expect.new.self.rest < length c.loop-tokens.tokens.rest = token_takes (where_kind k.Comma line_of) no_limit as_many c.loop-tokens.tokens c.expect.new.self c.in_ok-expect.field-0 c.in_ok-expect.ensures in
+    let one : length c.expect.new.self.rest < length c.loop-tokens.tokens.rest =
+    token_takes (where_kind k.Comma line_of) no_limit as_many c.loop-tokens.tokens c.expect.new.self c.in_ok-expect.field-0 c.in_ok-expect.ensures in
     let two = takes value_law c.expect.new.self c.value.new.tokens c.in_ok-next.next c.in_ok-next.ensures in
     omega arith

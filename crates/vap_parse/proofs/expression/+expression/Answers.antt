@@ -35,8 +35,11 @@ chain-returns t c =
 
 pub chain-loop-alloc-smaller : goal.chain-loop-alloc-smaller
 chain-loop-alloc-smaller t c =
-    let one : length c.operator.new.self.rest < length c.loop-alloc.tokens.rest = token_takes (λ t. operator_of c.args.rank (kind_of t.kind)) (λ n t. limit n) below c.loop-alloc.tokens c.operator.new.self c.in_ok-op.op c.in_ok-op.ensures in
-    let two = takes (expr_law c.args.levels c.args.operand) c.operator.new.self c.of_rank-in-loop-alloc.new.tokens (expr_of c.in_ok-right.right) c.in_ok-right.ensures in
+    let one : length c.operator.new.self.rest < length c.loop-alloc.tokens.rest =
+    token_takes (λ t. operator_of c.args.rank (kind_of t.kind)) (λ n t. limit n) below c.loop-alloc.tokens c.operator.new.self c.in_ok-op.op
+    c.in_ok-op.ensures in
+    let two = takes (expr_law c.args.levels c.args.operand) c.operator.new.self c.of_rank-in-loop-alloc.new.tokens (expr_of c.in_ok-right.right)
+    c.in_ok-right.ensures in
     omega arith
 
 pub some_arguments-returns-in_err-expect : goal.some_arguments-returns-in_err-expect
@@ -66,8 +69,10 @@ some_arguments-returns t c =
 
 pub some_arguments-loop-alloc-smaller : goal.some_arguments-loop-alloc-smaller
 some_arguments-loop-alloc-smaller t c =
-    let one : length c.expect.new.self.rest < length c.loop-alloc.tokens.rest = token_takes (where_kind k.Comma line_of) no_limit as_many c.loop-alloc.tokens c.expect.new.self c.in_ok-expect.field-0 c.in_ok-expect.ensures in
-    let two = takes (expr_law (c.args.levels - 1) rank.Or) c.expect.new.self c.of_rank-in-loop-alloc.new.tokens (expr_of c.in_ok-next.next) c.in_ok-next.ensures in
+    let one : length c.expect.new.self.rest < length c.loop-alloc.tokens.rest =
+    token_takes (where_kind k.Comma line_of) no_limit as_many c.loop-alloc.tokens c.expect.new.self c.in_ok-expect.field-0 c.in_ok-expect.ensures in
+    let two = takes (expr_law (c.args.levels - 1) rank.Or) c.expect.new.self c.of_rank-in-loop-alloc.new.tokens (expr_of c.in_ok-next.next)
+    c.in_ok-next.ensures in
     omega arith
 
 pub of_rank-returns-in-Or : goal.of_rank-returns-in-Or
@@ -122,5 +127,6 @@ pub reading-returns : goal.reading-returns
 unfolding a_reading
 reading-returns t c =
     let one : reading c.args.tokens.now ≡ Ok (c.in_ok-kind.kind, c.reading.new.self) = c.in_ok-kind.ensures in
-    let two : arguments c.args.levels (inner c.args.levels) c.reading.new.self ≡ Ok (map expr_of c.in_ok-args.args.items, c.arguments.new.tokens) = c.in_ok-args.ensures in
+    let two : arguments c.args.levels (inner c.args.levels) c.reading.new.self ≡ Ok (map expr_of c.in_ok-args.args.items, c.arguments.new.tokens) =
+    c.in_ok-args.ensures in
     rw (one, two, c.read.ensures) refl

@@ -58,13 +58,15 @@ decreases-of_rank l = 30 * l.levels + height l.rank
 
 -- what is left of the rounds completes the chain
 abbrev pub invariant-chain-loop-alloc : goal.invariant-chain-loop-alloc
-invariant-chain-loop-alloc l = chain l.rank (expr l.levels l.operand) l.fn.tokens ≡ many (is_operator l.rank) (operation l.rank (expr l.levels l.operand)) (expr_of l.left) l.tokens
+invariant-chain-loop-alloc l = chain l.rank (expr l.levels l.operand) l.fn.tokens ≡ many (is_operator l.rank)
+    (operation l.rank (expr l.levels l.operand)) (expr_of l.left) l.tokens
 
 abbrev pub decreases-chain-loop-alloc : goal.decreases-chain-loop-alloc
 decreases-chain-loop-alloc l = length l.tokens.rest
 
 abbrev pub invariant-some_arguments-loop-alloc : goal.invariant-some_arguments-loop-alloc
-invariant-some_arguments-loop-alloc l = some_arguments l.levels (inner l.levels) l.fn.tokens ≡ many (is k.Comma) (next_argument l.levels (inner l.levels)) (map expr_of l.args.items) l.tokens
+invariant-some_arguments-loop-alloc l = some_arguments l.levels (inner l.levels) l.fn.tokens ≡ many (is k.Comma)
+    (next_argument l.levels (inner l.levels)) (map expr_of l.args.items) l.tokens
 
 abbrev pub decreases-some_arguments-loop-alloc : goal.decreases-some_arguments-loop-alloc
 decreases-some_arguments-loop-alloc l = length l.tokens.rest

@@ -37,5 +37,6 @@ returns-in-Err-Refused-clause-refused c =
     let start : c.new-left.result ≡ input c.args.tokens.now max_operators = rw c.as_slice-all.ensures.items at c.new-left.ensures in
     let stopped : text c.new-left.result ≡ Err (c.in-Err-Refused.why, c.text.new.tokens.rest) = rw c.in-Err-Refused.field-0-is at c.in-Err-Refused.ensures in
     let e = refused c.args.tokens.now c.new-left.result c.text.new.tokens c.in-Err-Refused.why start stopped in
-    let refuses : Refuses c.args.tokens.now c.in-Err-Refused.why c.text.new.tokens.rest = subst (λ (o : Outcome Program). Exact c.args.tokens.now o) e (exact c.args.tokens.now) in
+    let refuses : Refuses c.args.tokens.now c.in-Err-Refused.why c.text.new.tokens.rest =
+    subst (λ (o : Outcome Program). Exact c.args.tokens.now o) e (exact c.args.tokens.now) in
     rw (c.refusal.ensures, c.as_slice-all.ensures.items) (c.rest.result.now, c.in-Err-Refused.why, rw c.rest.ensures refuses, refl)

@@ -24,4 +24,5 @@ returns-in_err-expect c =
     first_of (search rules, grind (arith, common_steps))
 
 pub loop-tokens-smaller : goal.loop-tokens-smaller
-loop-tokens-smaller c = token_takes (where_kind k.Semi line_of) no_limit as_many c.loop-tokens.tokens c.expect.new.self c.in_ok-expect.field-0 c.in_ok-expect.ensures
+loop-tokens-smaller c = token_takes (where_kind k.Semi line_of) no_limit as_many c.loop-tokens.tokens c.expect.new.self c.in_ok-expect.field-0
+    c.in_ok-expect.ensures

@@ -22,7 +22,9 @@ invariant_of-result c =
     let variables' = c.in_ok-before.ensures.variables ∙ ap (λ code. replicate code.vars (pos 0)) c.code-3.ensures.same in
     let arrays' = c.in_ok-before.ensures.arrays ∙ ap (λ code. code.arrays) c.code-3.ensures.same in
     let timers' = c.in_ok-before.ensures.timers ∙ ap (λ code. replicate code.timers stopped) c.code-3.ensures.same in (
-      first_ready c.args.code (record { code = c.args.code; store = store_of m; seconds = 0 }) refl (store_is m c.args.code (ap (λ s. s.variables.items) slots ∙ variables) (ap (λ s. s.arrays) slots ∙ arrays) (ap (λ s. s.timers.items) slots ∙ timers) c.in_ok-machine.ensures.commands) refl,
+      first_ready c.args.code (record { code = c.args.code; store = store_of m; seconds = 0 }) refl
+          (store_is m c.args.code (ap (λ s. s.variables.items) slots ∙ variables) (ap (λ s. s.arrays) slots ∙ arrays)
+          (ap (λ s. s.timers.items) slots ∙ timers) c.in_ok-machine.ensures.commands) refl,
       record {
         variables = ap length (variables' ∙ sym variables ∙ ap (λ s. s.variables.items) (sym slots));
         arrays = ap (map length) (arrays' ∙ sym arrays ∙ ap (λ s. s.arrays) (sym slots));
@@ -38,4 +40,6 @@ returns-clause-ready c =
     let variables = c.in_ok-slots.ensures.variables ∙ ap (λ code. replicate code.vars (pos 0)) c.code-2.ensures.same in
     let arrays = c.in_ok-slots.ensures.arrays ∙ ap (λ code. code.arrays) c.code-2.ensures.same in
     let timers = c.in_ok-slots.ensures.timers ∙ ap (λ code. replicate code.timers stopped) c.code-2.ensures.same in
-    first_ready c.args.code (record { code = c.args.code; store = store_of m; seconds = 0 }) refl (store_is m c.args.code (ap (λ s. s.variables.items) slots ∙ variables) (ap (λ s. s.arrays) slots ∙ arrays) (ap (λ s. s.timers.items) slots ∙ timers) c.in_ok-machine.ensures.commands) refl
+    first_ready c.args.code (record { code = c.args.code; store = store_of m; seconds = 0 }) refl
+    (store_is m c.args.code (ap (λ s. s.variables.items) slots ∙ variables) (ap (λ s. s.arrays) slots ∙ arrays)
+    (ap (λ s. s.timers.items) slots ∙ timers) c.in_ok-machine.ensures.commands) refl

@@ -26,7 +26,8 @@ returns-clause-record c = λ past s.
     let frame = c.args.frame.now in
     let frames = past.frames ++ frame ∷ [] in
     let stages : StagesStand c.step.new.self me.plan past.orders (length past.frames + 1) = c.step.ensures past.orders (length past.frames) s.stages in
-    let stages_k : StagesStand c.step.new.self me.plan past.orders (next_second past) = subst (λ k. StagesStand c.step.new.self me.plan past.orders k) (sym s.seconds) stages in
+    let stages_k : StagesStand c.step.new.self me.plan past.orders (next_second past) =
+    subst (λ k. StagesStand c.step.new.self me.plan past.orders k) (sym s.seconds) stages in
     let standing : Standing me.plan me.guard c.step.new.self c.take.new.self me.cycle past frames = record {
       guard_stands = s.guard;
       stages_stand = stages_k;
@@ -34,18 +35,25 @@ returns-clause-record c = λ past s.
       cycle_stands = s.cycles.last ∙ ap (cycle_before past.cycles) (sym s.seconds);
       seconds = length-append past.frames (frame ∷ []) ∙ sym s.seconds;
       begun = omega (arith, s.seconds);
-      until = subst (λ n. ClearsUntil past.clears n) (let n : length past.frames ≡ length frames - 1 = omega (arith, length-append past.frames (frame ∷ [])) in n) (clears_of me.actuation past.frames past.clears s.readings);
+      until = subst (λ n. ClearsUntil past.clears n)
+          (let n : length past.frames ≡ length frames - 1 = omega (arith, length-append past.frames (frame ∷ [])) in n)
+          (clears_of me.actuation past.frames past.clears s.readings);
     } in
     let second : me.last.second.0 + 1 ≡ next_second past = ap (λ n. n + 1) s.numbered ∙ sym s.seconds in
-    let p = passed_in (world_in me.plan past frames) me.vm c.begin_second.new.self c.make_pass-end.new.vm c.make_pass-end.result past.store c.begin_second.ensures.store c.begin_second.ensures.code s.store (c.make_pass-end.ensures.pass past frames standing second) in
+    let p = passed_in (world_in me.plan past frames) me.vm c.begin_second.new.self c.make_pass-end.new.vm c.make_pass-end.result past.store
+    c.begin_second.ensures.store c.begin_second.ensures.code s.store (c.make_pass-end.ensures.pass past frames standing second) in
     let commands = c.commands-commands.ensures.same ∙ p.commands_are in
     let after = c.obey.ensures.stages past.orders (next_second past) stages_k in
     let wishes : c.make_picture.new.wishes ≡ wishes_in (site_of me) past (machine me.vm.code (world_in me.plan past frames) (begun past.store))
-    = c.make_picture.ensures.wishes _ (next_second past) after ∙ ap (λ cs. wishes_of me.plan (place_at me.plan (orders_after me.plan (next_second past) past.orders cs) (next_second past)) cs) commands in
+    = c.make_picture.ensures.wishes _ (next_second past) after ∙
+    ap (λ cs. wishes_of me.plan (place_at me.plan (orders_after me.plan (next_second past) past.orders cs) (next_second past)) cs) commands in
     let guard = c.make_picture.ensures.history past.history s.guard in
-    let place = c.make_picture.ensures.place _ (next_second past) after ∙ ap (λ cs. place_at me.plan (orders_after me.plan (next_second past) past.orders cs) (next_second past)) commands in
-    let picture = c.make_picture.ensures.picture ∙ picture_is c.make_picture.new.guard _ guard ∙ last-append past.history _ [] ∙ ap (λ ws. guard_picture (rules me.guard) past.history ws) wishes in
-    let refused = c.make_picture.ensures.stages ∙ c.obey.ensures.refused past.orders (next_second past) stages_k ∙ ap (λ cs. refusals_of me.plan (next_second past) past.orders cs) commands in
+    let place = c.make_picture.ensures.place _ (next_second past) after ∙
+    ap (λ cs. place_at me.plan (orders_after me.plan (next_second past) past.orders cs) (next_second past)) commands in
+    let picture = c.make_picture.ensures.picture ∙ picture_is c.make_picture.new.guard _ guard ∙ last-append past.history _ [] ∙
+    ap (λ ws. guard_picture (rules me.guard) past.history ws) wishes in
+    let refused = c.make_picture.ensures.stages ∙ c.obey.ensures.refused past.orders (next_second past) stages_k ∙
+    ap (λ cs. refusals_of me.plan (next_second past) past.orders cs) commands in
     let turns = c.make_picture.ensures.refused past.history s.guard ∙ ap (λ ws. guard_refused (rules me.guard) past.history ws) wishes in
     let fault = c.fault_of-self.ensures ∙ p.fault_is in
     λ i. record {
@@ -65,7 +73,8 @@ returns-clause-stands c = λ past s.
     let frame = c.args.frame.now in
     let frames = past.frames ++ frame ∷ [] in
     let stages : StagesStand c.step.new.self me.plan past.orders (length past.frames + 1) = c.step.ensures past.orders (length past.frames) s.stages in
-    let stages_k : StagesStand c.step.new.self me.plan past.orders (next_second past) = subst (λ k. StagesStand c.step.new.self me.plan past.orders k) (sym s.seconds) stages in
+    let stages_k : StagesStand c.step.new.self me.plan past.orders (next_second past) =
+    subst (λ k. StagesStand c.step.new.self me.plan past.orders k) (sym s.seconds) stages in
     let standing : Standing me.plan me.guard c.step.new.self c.take.new.self me.cycle past frames = record {
       guard_stands = s.guard;
       stages_stand = stages_k;
@@ -73,14 +82,18 @@ returns-clause-stands c = λ past s.
       cycle_stands = s.cycles.last ∙ ap (cycle_before past.cycles) (sym s.seconds);
       seconds = length-append past.frames (frame ∷ []) ∙ sym s.seconds;
       begun = omega (arith, s.seconds);
-      until = subst (λ n. ClearsUntil past.clears n) (let n : length past.frames ≡ length frames - 1 = omega (arith, length-append past.frames (frame ∷ [])) in n) (clears_of me.actuation past.frames past.clears s.readings);
+      until = subst (λ n. ClearsUntil past.clears n)
+          (let n : length past.frames ≡ length frames - 1 = omega (arith, length-append past.frames (frame ∷ [])) in n)
+          (clears_of me.actuation past.frames past.clears s.readings);
     } in
     let second : me.last.second.0 + 1 ≡ next_second past = ap (λ n. n + 1) s.numbered ∙ sym s.seconds in
-    let p = passed_in (world_in me.plan past frames) me.vm c.begin_second.new.self c.make_pass-end.new.vm c.make_pass-end.result past.store c.begin_second.ensures.store c.begin_second.ensures.code s.store (c.make_pass-end.ensures.pass past frames standing second) in
+    let p = passed_in (world_in me.plan past frames) me.vm c.begin_second.new.self c.make_pass-end.new.vm c.make_pass-end.result past.store
+    c.begin_second.ensures.store c.begin_second.ensures.code s.store (c.make_pass-end.ensures.pass past frames standing second) in
     let commands = c.commands-commands.ensures.same ∙ p.commands_are in
     let after = c.obey.ensures.stages past.orders (next_second past) stages_k in
     let wishes : c.make_picture.new.wishes ≡ wishes_in (site_of me) past (machine me.vm.code (world_in me.plan past frames) (begun past.store))
-    = c.make_picture.ensures.wishes _ (next_second past) after ∙ ap (λ cs. wishes_of me.plan (place_at me.plan (orders_after me.plan (next_second past) past.orders cs) (next_second past)) cs) commands in
+    = c.make_picture.ensures.wishes _ (next_second past) after ∙
+    ap (λ cs. wishes_of me.plan (place_at me.plan (orders_after me.plan (next_second past) past.orders cs) (next_second past)) cs) commands in
     let guard = c.make_picture.ensures.history past.history s.guard in
     let e = machine me.vm.code (world_in me.plan past frames) (begun past.store) in
     let len : length frames ≡ next_second past = standing.seconds in
@@ -88,7 +101,8 @@ returns-clause-stands c = λ past s.
     let clears : clears_after (length frames) past.clears c.commands-commands.result.now ≡ clears_after (next_second past) past.clears (commands_after e)
     = λ i. clears_after (len i) past.clears (commands i) in
     let readings = subst (λ cs. ActuationStands c.obey.new.actuation frames cs) clears acts in
-    let orders : orders_after me.plan (next_second past) past.orders c.commands-commands.result.now ≡ orders_after me.plan (next_second past) past.orders (commands_after e)
+    let orders : orders_after me.plan (next_second past) past.orders c.commands-commands.result.now ≡ orders_after me.plan (next_second past)
+    past.orders (commands_after e)
     = ap (λ cs. orders_after me.plan (next_second past) past.orders cs) commands in
     let long : length frames ≡ length past.frames + 1 = length-append past.frames (frame ∷ []) in
     let stood = subst (λ ws. GuardStands c.make_picture.new.guard (past.history ++ guard_picture (rules me.guard) past.history ws ∷ [])) wishes guard in
@@ -132,7 +146,9 @@ make_pass-end-requires-clause-stands c =
         cycle_stands = s.cycles.last ∙ ap (cycle_before past.cycles) (sym s.seconds);
         seconds = length-append past.frames (frame ∷ []) ∙ sym s.seconds;
         begun = omega (arith, s.seconds);
-        until = subst (λ n. ClearsUntil past.clears n) (let n : length past.frames ≡ length frames - 1 = omega (arith, length-append past.frames (frame ∷ [])) in n) (clears_of me.actuation past.frames past.clears s.readings);
+        until = subst (λ n. ClearsUntil past.clears n)
+            (let n : length past.frames ≡ length frames - 1 = omega (arith, length-append past.frames (frame ∷ [])) in n)
+            (clears_of me.actuation past.frames past.clears s.readings);
       },
       ap (λ n. n + 1) s.numbered ∙ sym s.seconds,
     )

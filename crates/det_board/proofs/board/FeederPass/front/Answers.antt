@@ -16,6 +16,7 @@ fetch_add-requires c =
     let room : p.counts.value.fronts < most_fronts = let e = ap (λ f. f.fronts) c.self.view_is in let r = c.requires.room in omega arith in (
       here,
       inside,
-      subst (λ (me : Me (Unit {0}) View). Allows (Keeps z.key) z.table_id.slots p.seat.id me w (λ n. (n + 1) % 2 ^ 64) (Fronts (step z.table_id.slots w 1 0 none) me)) (sym c.self.invariant.view)
+      subst (λ (me : Me (Unit {0}) View). Allows (Keeps z.key) z.table_id.slots p.seat.id me w (λ n. (n + 1) % 2 ^ 64)
+          (Fronts (step z.table_id.slots w 1 0 none) me)) (sym c.self.invariant.view)
           (front_allows z.key z.table_id.slots p.seat.id p.place p.counts.value.fronts p.counts.value.rears w (omega (arith, c.fronts_word.ensures)) room),
     )

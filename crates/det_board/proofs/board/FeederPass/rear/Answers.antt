@@ -13,9 +13,11 @@ fetch_add-requires c =
     let w : ℕ = c.fronts_word.result + 1 in
     let here : p.seat.table_id ≡ z.table_id = ap (λ f. f.table) c.self.view_is ∙ c.requires.board ∙ sym (ap (λ b. b.table) c.board.view_is) in
     let inside : w < z.table_id.words = let e = ap (λ t. t.words) here in let o = c.self.invariant.on_board in omega (arith, c.fronts_word.ensures) in
-    let room : p.counts.value.rears < p.counts.value.fronts = let e = ap (λ f. f.fronts) c.self.view_is in let d = ap (λ f. f.rears) c.self.view_is in let r = c.requires.room in omega arith in (
+    let room : p.counts.value.rears < p.counts.value.fronts = let e = ap (λ f. f.fronts) c.self.view_is in let d =
+    ap (λ f. f.rears) c.self.view_is in let r = c.requires.room in omega arith in (
       here,
       inside,
-      subst (λ (me : Me (Unit {0}) View). Allows (Keeps z.key) z.table_id.slots p.seat.id me w (λ n. (n + 1) % 2 ^ 64) (Rears (step z.table_id.slots w 1 0 none) me)) (sym c.self.invariant.view)
+      subst (λ (me : Me (Unit {0}) View). Allows (Keeps z.key) z.table_id.slots p.seat.id me w (λ n. (n + 1) % 2 ^ 64)
+          (Rears (step z.table_id.slots w 1 0 none) me)) (sym c.self.invariant.view)
           (rear_allows z.key z.table_id.slots p.seat.id p.place p.counts.value.fronts p.counts.value.rears w (omega (arith, c.fronts_word.ensures)) room),
     )

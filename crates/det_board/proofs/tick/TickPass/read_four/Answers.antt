@@ -5,7 +5,8 @@ use Rattle.det_board.specs.Passes.{Ticking, ReadsFour, IsTicking, GrowsTo, gain_
 use Rattle.det_board.proofs.Fours.{FourLoads, after_four, grows_four, reads_four, totals_stay, frame_stays}
 use Rattle.det_board.proofs.tick.TickPass.read_four.Goals as goal
 
-before_last : (c : goal.After-gain-arg-then-not-are_still-7-1) → FourLoads c.self.inside.seat.table_id c.self.inside.seat.me c.self.inside.totals (4 * c.args.four) c.load_counts-first.result c.load_counts-second.result
+before_last : (c : goal.After-gain-arg-then-not-are_still-7-1) →
+    FourLoads c.self.inside.seat.table_id c.self.inside.seat.me c.self.inside.totals (4 * c.args.four) c.load_counts-first.result c.load_counts-second.result
     c.load_counts-third.result c.load_counts-fourth.result c.load_counts-fourth.new.seat.table_id c.load_counts-fourth.new.seat.me
 before_last c = record {
   ids = (c.load_counts-first.new.seat.table_id, c.load_counts-second.new.seat.table_id, c.load_counts-third.new.seat.table_id);
@@ -18,7 +19,8 @@ before_last c = record {
   four = c.load_counts-fourth.ensures;
 }
 
-after_last : (c : goal.After-gain-then-not-are_still-3) → FourLoads c.self.inside.seat.table_id c.self.inside.seat.me c.self.inside.totals (4 * c.args.four) c.load_counts-first.result c.load_counts-second.result
+after_last : (c : goal.After-gain-then-not-are_still-3) →
+    FourLoads c.self.inside.seat.table_id c.self.inside.seat.me c.self.inside.totals (4 * c.args.four) c.load_counts-first.result c.load_counts-second.result
     c.load_counts-third.result c.load_counts-fourth.result c.load_counts-fourth.new.seat.table_id c.load_counts-fourth.new.seat.me
 after_last c = record {
   ids = (c.load_counts-first.new.seat.table_id, c.load_counts-second.new.seat.table_id, c.load_counts-third.new.seat.table_id);
@@ -31,7 +33,8 @@ after_last c = record {
   four = c.load_counts-fourth.ensures;
 }
 
-where_still : (c : goal.Else-not-are_still) → FourLoads c.self.inside.seat.table_id c.self.inside.seat.me c.self.inside.totals (4 * c.args.four) c.load_counts-first.result c.load_counts-second.result
+where_still : (c : goal.Else-not-are_still) →
+    FourLoads c.self.inside.seat.table_id c.self.inside.seat.me c.self.inside.totals (4 * c.args.four) c.load_counts-first.result c.load_counts-second.result
     c.load_counts-third.result c.load_counts-fourth.result c.load_counts-fourth.new.seat.table_id c.load_counts-fourth.new.seat.me
 where_still c = record {
   ids = (c.load_counts-first.new.seat.table_id, c.load_counts-second.new.seat.table_id, c.load_counts-third.new.seat.table_id);
@@ -88,7 +91,8 @@ invariant_of-self-else-not-are_still c =
     let seat = c.load_counts-fourth.new.seat in
     let old = c.self.inside.seat in
     let h = where_still c in
-    subst (λ (t : Counts). IsTicking seat.table_id seat.me t) (totals_stay h (sym c.events_of.ensures ∙ c.are_still.ensures c.if-not-are_still.false)) (after_four h)
+    subst (λ (t : Counts). IsTicking seat.table_id seat.me t)
+    (totals_stay h (sym c.events_of.ensures ∙ c.are_still.ensures c.if-not-are_still.false)) (after_four h)
 
 pub returns-then-not-are_still : goal.returns-then-not-are_still
 returns-then-not-are_still c =
@@ -128,4 +132,5 @@ returns-else-not-are_still c =
     let same = sym c.events_of.ensures ∙ c.are_still.ensures c.if-not-are_still.false in
     let is : Ticking = record { table = seat.table_id; loads = loads_of seat.me.0 } in
     subst (λ (o : Ticking). ReadsFour d o is f f) c.self.view_is
-    (subst (λ (g : Counts). ReadsFour d (record { table = old.table_id; loads = loads_of old.me.0 }) is f g) (frame_stays f c.requires.silent h same) (reads_four f h))
+    (subst (λ (g : Counts). ReadsFour d (record { table = old.table_id; loads = loads_of old.me.0 }) is f g) (frame_stays f c.requires.silent h same)
+    (reads_four f h))

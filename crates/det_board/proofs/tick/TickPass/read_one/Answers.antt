@@ -10,4 +10,5 @@ invariant_of-self c =
     let new = c.load_counts-counts.new.seat in
     let low : c.args.place < 64 = let g = c.requires.of_four.0 in let p = c.requires.of_four.2 in omega arith in
     subst (λ (t : Counts). IsTicking new.table_id new.me t) (sym c.gain.ensures.totals)
-    (still_ticking old.table_id new.table_id old.me new.me c.self.inside.totals c.args.place c.load_counts-counts.result c.self.invariant low c.load_counts-counts.ensures)
+    (still_ticking old.table_id new.table_id old.me new.me c.self.inside.totals c.args.place c.load_counts-counts.result c.self.invariant low
+    c.load_counts-counts.ensures)

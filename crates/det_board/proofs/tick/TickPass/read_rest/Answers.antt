@@ -21,6 +21,7 @@ loop-place-preserved c =
 pub returns : goal.returns
 returns c =
     let count = c.detectors-detectors.ensures.count in
-    let end : c.loop-place.place ≡ c.detectors-detectors.result = let t = c.loop-place-test.false in let e = c.loop-place.auto.place-end in let p = c.loop-place.auto in omega arith in
+    let end : c.loop-place.place ≡ c.detectors-detectors.result = let t = c.loop-place-test.false in let e = c.loop-place.auto.place-end in let p =
+    c.loop-place.auto in omega arith in
     λ begin t. subst (λ (k : ℕ). Taking k begin c.loop-place.self c.loop-place.frame) (end ∙ count)
     (c.loop-place.invariant.1 begin (subst (λ (k : ℕ). Taking (4 * (k / 4)) begin c.args.self.now c.args.frame.now) (sym count) t))

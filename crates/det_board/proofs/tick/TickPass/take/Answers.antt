@@ -12,4 +12,5 @@ loop-four-preserved c =
     let low : 4 * g + 3 < 64 = let t = c.loop-four-test.true in let r = c.detectors-four-end.ensures.range.1 in omega arith in
     let next : 4 * g + 4 ≡ 4 * (g + 1) = omega arith in
     subst (λ (k : ℕ). Taking k c.args.self.now c.read_four.new.self c.read_four.new.frame) next
-    (four_taken (4 * g) c.args.self.now c.loop-four.self c.read_four.new.self c.loop-four.frame c.read_four.new.frame c.loop-four.invariant low c.read_four.ensures)
+    (four_taken (4 * g) c.args.self.now c.loop-four.self c.read_four.new.self c.loop-four.frame c.read_four.new.frame c.loop-four.invariant low
+    c.read_four.ensures)

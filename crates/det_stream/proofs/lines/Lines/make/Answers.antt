@@ -5,7 +5,13 @@ use Rattle.det_stream.proofs.Steps.{given_none, read_none}
 use Rattle.det_stream.proofs.lines.Lines.make.Goals as goal
 
 pub invariant_of-result : goal.invariant_of-result
-invariant_of-result c = record { at_most = omega arith; read_at_most = λ live. omega (arith, c.in-Ok.ensures.given); totals_at_most = λ live. rw c.zero.ensures (zero_counts 0); within_fronts = λ live. rw c.zero.ensures zeros_within }
+invariant_of-result c = record {
+  at_most = omega arith;
+  read_at_most = λ live. omega (arith, c.in-Ok.ensures.given);
+  totals_at_most =
+      λ live. rw c.zero.ensures (zero_counts 0);
+  within_fronts = λ live. rw c.zero.ensures zeros_within;
+}
 
 pub returns-clause-gave : goal.returns-clause-gave
 unfolding Gave

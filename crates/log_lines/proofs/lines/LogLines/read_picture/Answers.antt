@@ -21,7 +21,8 @@ unfolding Reads name_of
 returns-in-Err-clause-next g c file told pictures read =
     let r = c.args.self.now in
     let bytes = file (name_of r) in
-    step_wrong c.args.plan.now.names bytes r.lines pictures (unread_bytes r.reader bytes) c.take_line.new.reader c.in-Err.refusal read.rest read.accepted (c.in-Err.ensures.taken file told)
+    step_wrong c.args.plan.now.names bytes r.lines pictures (unread_bytes r.reader bytes) c.take_line.new.reader c.in-Err.refusal read.rest
+    read.accepted (c.in-Err.ensures.taken file told)
 
 pub returns-in_default-clause-next : goal.returns-in_default-clause-next
 unfolding Reads name_of
@@ -30,9 +31,11 @@ returns-in_default-clause-next g c file told pictures read =
     let bytes = file (name_of r) in
     let taken = rw c.in-Ok-true.field-0-test at (c.in-Ok-true.ensures.taken file told) in
     rw c.refused.ensures
-    (step_refused c.args.plan.now.names bytes r.lines pictures (unread_bytes r.reader bytes) (line_of c.take_line.new.reader) (fed_lines (unread_bytes c.take_line.new.reader bytes)) _
+    (step_refused c.args.plan.now.names bytes r.lines pictures (unread_bytes r.reader bytes) (line_of c.take_line.new.reader)
+    (fed_lines (unread_bytes c.take_line.new.reader bytes)) _
     read.rest read.accepted taken.0
-    (record_wrong c.args.plan.now.names r.lines (line_of c.take_line.new.reader) c.requires.some (c.in-Ok-true.ensures.below (ap Ok c.in-Ok-true.field-0-test)) taken.1
+    (record_wrong c.args.plan.now.names r.lines (line_of c.take_line.new.reader) c.requires.some
+    (c.in-Ok-true.ensures.below (ap Ok c.in-Ok-true.field-0-test)) taken.1
     (rw (c.groups.ensures.count, c.line.ensures) at (sym c.read_record.ensures.picture ∙ c.in_default.is))))
 
 pub returns-clause-next : goal.returns-clause-next
@@ -41,7 +44,8 @@ returns-clause-next g c file told pictures read =
     let r = c.args.self.now in
     let bytes = file (name_of r) in
     let taken = rw c.in-Ok-true.field-0-test at (c.in-Ok-true.ensures.taken file told) in
-    let more = step_record c.args.plan.now.names bytes r.lines pictures (unread_bytes r.reader bytes) (line_of c.take_line.new.reader) (fed_lines (unread_bytes c.take_line.new.reader bytes))
+    let more = step_record c.args.plan.now.names bytes r.lines pictures (unread_bytes r.reader bytes) (line_of c.take_line.new.reader)
+    (fed_lines (unread_bytes c.take_line.new.reader bytes))
     c.in-Some.picture c.requires.some (c.in-Ok-true.ensures.below (ap Ok c.in-Ok-true.field-0-test)) read.rest read.accepted taken.0 taken.1
     (rw (c.groups.ensures.count, c.line.ensures) at (sym c.read_record.ensures.picture ∙ c.in-Some.is)) in
     record { rest = more.rest; accepted = more.accepted }

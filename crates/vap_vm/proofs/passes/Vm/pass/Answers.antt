@@ -16,8 +16,12 @@ run-requires-clause-room g c =
     let starts = c.as_slice-starts.result.now in
     let same_instrs = c.as_slice-instrs.ensures.value ∙ ap (λ code. code.instrs) c.code-code.ensures.same in
     let same_starts = c.as_slice-starts.ensures.value ∙ ap (λ code. code.starts) c.code-code.ensures.same in
-    let begun = begun_state c.begin-head.result c.begin-head.new.self s.machine.slots (last_start s.code.starts) unit_limit (c.begin-head.ensures.place ∙ c.last_start.ensures ∙ ap last_start same_starts) c.begin-head.ensures.line (c.begin-head.ensures.units ∙ c.unit_limit.ensures.same) c.begin-head.ensures.operands c.begin-head.ensures.return_places c.begin-head.ensures.commands c.begin-head.ensures.slots in
-    λ w m. room_is kept instrs starts same_instrs same_starts (state_of c.begin-head.result c.begin-head.new.self) begun w (c.valid_code_runs_well.ensures s.code w (start_of kept) c.code-code.ensures.valid c.self.invariant.0.fits) c.self.invariant.0
+    let begun = begun_state c.begin-head.result c.begin-head.new.self s.machine.slots (last_start s.code.starts) unit_limit
+    (c.begin-head.ensures.place ∙ c.last_start.ensures ∙ ap last_start same_starts) c.begin-head.ensures.line
+    (c.begin-head.ensures.units ∙ c.unit_limit.ensures.same) c.begin-head.ensures.operands c.begin-head.ensures.return_places
+    c.begin-head.ensures.commands c.begin-head.ensures.slots in
+    λ w m. room_is kept instrs starts same_instrs same_starts (state_of c.begin-head.result c.begin-head.new.self) begun w
+    (c.valid_code_runs_well.ensures s.code w (start_of kept) c.code-code.ensures.valid c.self.invariant.0.fits) c.self.invariant.0
 
 pub run-requires-clause-over : goal.run-requires-clause-over
 run-requires-clause-over g c =
@@ -27,8 +31,12 @@ run-requires-clause-over g c =
     let starts = c.as_slice-starts.result.now in
     let same_instrs = c.as_slice-instrs.ensures.value ∙ ap (λ code. code.instrs) c.code-code.ensures.same in
     let same_starts = c.as_slice-starts.ensures.value ∙ ap (λ code. code.starts) c.code-code.ensures.same in
-    let begun = begun_state c.begin-head.result c.begin-head.new.self s.machine.slots (last_start s.code.starts) unit_limit (c.begin-head.ensures.place ∙ c.last_start.ensures ∙ ap last_start same_starts) c.begin-head.ensures.line (c.begin-head.ensures.units ∙ c.unit_limit.ensures.same) c.begin-head.ensures.operands c.begin-head.ensures.return_places c.begin-head.ensures.commands c.begin-head.ensures.slots in
-    λ w m. over_is kept instrs starts same_instrs same_starts (state_of c.begin-head.result c.begin-head.new.self) begun w (c.valid_code_runs_well.ensures s.code w (start_of kept) c.code-code.ensures.valid c.self.invariant.0.fits)
+    let begun = begun_state c.begin-head.result c.begin-head.new.self s.machine.slots (last_start s.code.starts) unit_limit
+    (c.begin-head.ensures.place ∙ c.last_start.ensures ∙ ap last_start same_starts) c.begin-head.ensures.line
+    (c.begin-head.ensures.units ∙ c.unit_limit.ensures.same) c.begin-head.ensures.operands c.begin-head.ensures.return_places
+    c.begin-head.ensures.commands c.begin-head.ensures.slots in
+    λ w m. over_is kept instrs starts same_instrs same_starts (state_of c.begin-head.result c.begin-head.new.self) begun w
+    (c.valid_code_runs_well.ensures s.code w (start_of kept) c.code-code.ensures.valid c.self.invariant.0.fits)
 
 pub invariant_of-self : goal.invariant_of-self
 invariant_of-self g c =
@@ -38,13 +46,26 @@ invariant_of-self g c =
     let starts = c.as_slice-starts.result.now in
     let same_instrs = c.as_slice-instrs.ensures.value ∙ ap (λ code. code.instrs) c.code-code.ensures.same in
     let same_starts = c.as_slice-starts.ensures.value ∙ ap (λ code. code.starts) c.code-code.ensures.same in
-    let begun = begun_state c.begin-head.result c.begin-head.new.self s.machine.slots (last_start s.code.starts) unit_limit (c.begin-head.ensures.place ∙ c.last_start.ensures ∙ ap last_start same_starts) c.begin-head.ensures.line (c.begin-head.ensures.units ∙ c.unit_limit.ensures.same) c.begin-head.ensures.operands c.begin-head.ensures.return_places c.begin-head.ensures.commands c.begin-head.ensures.slots in
+    let begun = begun_state c.begin-head.result c.begin-head.new.self s.machine.slots (last_start s.code.starts) unit_limit
+    (c.begin-head.ensures.place ∙ c.last_start.ensures ∙ ap last_start same_starts) c.begin-head.ensures.line
+    (c.begin-head.ensures.units ∙ c.unit_limit.ensures.same) c.begin-head.ensures.operands c.begin-head.ensures.return_places
+    c.begin-head.ensures.commands c.begin-head.ensures.slots in
     let w = c.requires.0 in
     let r = c.valid_code_runs_well.ensures s.code w (start_of kept) c.code-code.ensures.valid c.self.invariant.0.fits in
-    let is : Done (store_of c.run.new.machine) ≡ machine s.code w (start_of kept) = ap (λ x. end_of x c.run.new.head c.run.new.machine) (sym c.in-End.is) ∙ c.run.ensures.how w c.requires.1 ∙ exec_is kept instrs starts same_instrs same_starts (state_of c.begin-head.result c.begin-head.new.self) begun w in
-    let back : SameSizes c.copy_from.new.self s.machine.slots = record { variables = ap length c.copy_from.ensures.variables; arrays = ap (map length) c.copy_from.ensures.arrays; timers = ap length c.copy_from.ensures.timers } in
-    let on : SameSizes c.run.new.machine.slots s.machine.slots = subst (λ x. SameSizes c.run.new.machine.slots x) c.begin-head.ensures.slots c.run.ensures.keeps.sizes in
-    let cells : c.run.new.machine.wrote_cells ≡ false → c.run.new.machine.slots.arrays ≡ c.copy_from.new.self.arrays = λ none. (c.run.ensures.keeps.cells none).1 ∙ ap (λ x. x.arrays) c.begin-head.ensures.slots ∙ sym c.copy_from.ensures.arrays in
+    let is : Done (store_of c.run.new.machine) ≡ machine s.code w (start_of kept) =
+    ap (λ x. end_of x c.run.new.head c.run.new.machine) (sym c.in-End.is) ∙ c.run.ensures.how w c.requires.1 ∙
+    exec_is kept instrs starts same_instrs same_starts (state_of c.begin-head.result c.begin-head.new.self) begun w in
+    let back : SameSizes c.copy_from.new.self s.machine.slots =
+    record {
+      variables = ap length c.copy_from.ensures.variables;
+      arrays = ap (map length) c.copy_from.ensures.arrays;
+      timers =
+          ap length c.copy_from.ensures.timers;
+    } in
+    let on : SameSizes c.run.new.machine.slots s.machine.slots =
+    subst (λ x. SameSizes c.run.new.machine.slots x) c.begin-head.ensures.slots c.run.ensures.keeps.sizes in
+    let cells : c.run.new.machine.wrote_cells ≡ false → c.run.new.machine.slots.arrays ≡ c.copy_from.new.self.arrays =
+    λ none. (c.run.ensures.keeps.cells none).1 ∙ ap (λ x. x.arrays) c.begin-head.ensures.slots ∙ sym c.copy_from.ensures.arrays in
     (ready_done kept w c.run.new.machine c.self.invariant.0 r is, sizes_on _ _ _ back (sizes_back _ _ on), λ none. sym (cells none))
 
 pub returns-in-End-clause-ready : goal.returns-in-End-clause-ready
@@ -55,22 +76,37 @@ returns-in-End-clause-ready g c =
     let starts = c.as_slice-starts.result.now in
     let same_instrs = c.as_slice-instrs.ensures.value ∙ ap (λ code. code.instrs) c.code-code.ensures.same in
     let same_starts = c.as_slice-starts.ensures.value ∙ ap (λ code. code.starts) c.code-code.ensures.same in
-    let begun = begun_state c.begin-head.result c.begin-head.new.self s.machine.slots (last_start s.code.starts) unit_limit (c.begin-head.ensures.place ∙ c.last_start.ensures ∙ ap last_start same_starts) c.begin-head.ensures.line (c.begin-head.ensures.units ∙ c.unit_limit.ensures.same) c.begin-head.ensures.operands c.begin-head.ensures.return_places c.begin-head.ensures.commands c.begin-head.ensures.slots in
+    let begun = begun_state c.begin-head.result c.begin-head.new.self s.machine.slots (last_start s.code.starts) unit_limit
+    (c.begin-head.ensures.place ∙ c.last_start.ensures ∙ ap last_start same_starts) c.begin-head.ensures.line
+    (c.begin-head.ensures.units ∙ c.unit_limit.ensures.same) c.begin-head.ensures.operands c.begin-head.ensures.return_places
+    c.begin-head.ensures.commands c.begin-head.ensures.slots in
     let w = c.requires.0 in
     let r = c.valid_code_runs_well.ensures s.code w (start_of kept) c.code-code.ensures.valid c.self.invariant.0.fits in
-    let is : Done (store_of c.run.new.machine) ≡ machine s.code w (start_of kept) = ap (λ x. end_of x c.run.new.head c.run.new.machine) (sym c.in-End.is) ∙ c.run.ensures.how w c.requires.1 ∙ exec_is kept instrs starts same_instrs same_starts (state_of c.begin-head.result c.begin-head.new.self) begun w in
+    let is : Done (store_of c.run.new.machine) ≡ machine s.code w (start_of kept) =
+    ap (λ x. end_of x c.run.new.head c.run.new.machine) (sym c.in-End.is) ∙ c.run.ensures.how w c.requires.1 ∙
+    exec_is kept instrs starts same_instrs same_starts (state_of c.begin-head.result c.begin-head.new.self) begun w in
     ready_done kept w c.run.new.machine c.self.invariant.0 r is
 
 pub invariant_of-self-in-Fault : goal.invariant_of-self-in-Fault
 invariant_of-self-in-Fault g c =
     let s = c.self.inside in
     let kept : Kept = record { code = s.code; store = store_of s.machine; seconds = s.seconds } in
-    let back : SameSizes c.copy_from.new.self s.machine.slots = record { variables = ap length c.copy_from.ensures.variables; arrays = ap (map length) c.copy_from.ensures.arrays; timers = ap length c.copy_from.ensures.timers } in
-    let on : SameSizes c.run.new.machine.slots s.machine.slots = subst (λ x. SameSizes c.run.new.machine.slots x) c.begin-head.ensures.slots c.run.ensures.keeps.sizes in
+    let back : SameSizes c.copy_from.new.self s.machine.slots =
+    record {
+      variables = ap length c.copy_from.ensures.variables;
+      arrays = ap (map length) c.copy_from.ensures.arrays;
+      timers =
+          ap length c.copy_from.ensures.timers;
+    } in
+    let on : SameSizes c.run.new.machine.slots s.machine.slots =
+    subst (λ x. SameSizes c.run.new.machine.slots x) c.begin-head.ensures.slots c.run.ensures.keeps.sizes in
     let before = subst (λ x. SameSizes x s.machine.slots) (sym c.swap.ensures.x_after) back in
     let after = subst (λ x. SameSizes x s.machine.slots) (sym c.swap.ensures.y_after) on in
-    let cells : c.run.new.machine.wrote_cells ≡ false → c.run.new.machine.slots.arrays ≡ c.copy_from.new.self.arrays = λ none. (c.run.ensures.keeps.cells none).1 ∙ ap (λ x. x.arrays) c.begin-head.ensures.slots ∙ sym c.copy_from.ensures.arrays in (
-      ready_fault kept _ c.self.invariant.0 (restored (ap (λ x. x.variables.items) c.swap.ensures.x_after ∙ c.copy_from.ensures.variables) (ap (λ x. x.arrays) c.swap.ensures.x_after ∙ c.copy_from.ensures.arrays) (ap (λ x. x.timers.items) c.swap.ensures.x_after ∙ c.copy_from.ensures.timers) c.clear.ensures),
+    let cells : c.run.new.machine.wrote_cells ≡ false → c.run.new.machine.slots.arrays ≡ c.copy_from.new.self.arrays =
+    λ none. (c.run.ensures.keeps.cells none).1 ∙ ap (λ x. x.arrays) c.begin-head.ensures.slots ∙ sym c.copy_from.ensures.arrays in (
+      ready_fault kept _ c.self.invariant.0 (restored (ap (λ x. x.variables.items) c.swap.ensures.x_after ∙ c.copy_from.ensures.variables)
+          (ap (λ x. x.arrays) c.swap.ensures.x_after ∙ c.copy_from.ensures.arrays)
+          (ap (λ x. x.timers.items) c.swap.ensures.x_after ∙ c.copy_from.ensures.timers) c.clear.ensures),
       sizes_on _ _ _ after (sizes_back _ _ before),
       λ none. ap (λ x. x.arrays) c.swap.ensures.y_after ∙ cells none ∙ sym (ap (λ x. x.arrays) c.swap.ensures.x_after),
     )
@@ -83,10 +119,14 @@ unreachable-requires g c =
     let starts = c.as_slice-starts.result.now in
     let same_instrs = c.as_slice-instrs.ensures.value ∙ ap (λ code. code.instrs) c.code-code.ensures.same in
     let same_starts = c.as_slice-starts.ensures.value ∙ ap (λ code. code.starts) c.code-code.ensures.same in
-    let begun = begun_state c.begin-head.result c.begin-head.new.self s.machine.slots (last_start s.code.starts) unit_limit (c.begin-head.ensures.place ∙ c.last_start.ensures ∙ ap last_start same_starts) c.begin-head.ensures.line (c.begin-head.ensures.units ∙ c.unit_limit.ensures.same) c.begin-head.ensures.operands c.begin-head.ensures.return_places c.begin-head.ensures.commands c.begin-head.ensures.slots in
+    let begun = begun_state c.begin-head.result c.begin-head.new.self s.machine.slots (last_start s.code.starts) unit_limit
+    (c.begin-head.ensures.place ∙ c.last_start.ensures ∙ ap last_start same_starts) c.begin-head.ensures.line
+    (c.begin-head.ensures.units ∙ c.unit_limit.ensures.same) c.begin-head.ensures.operands c.begin-head.ensures.return_places
+    c.begin-head.ensures.commands c.begin-head.ensures.slots in
     let w = c.requires.0 in
     let r = c.valid_code_runs_well.ensures s.code w (start_of kept) c.code-code.ensures.valid c.self.invariant.0.fits in
-    let how = c.run.ensures.how w c.requires.1 ∙ exec_is kept instrs starts same_instrs same_starts (state_of c.begin-head.result c.begin-head.new.self) begun w in
+    let how = c.run.ensures.how w c.requires.1 ∙
+    exec_is kept instrs starts same_instrs same_starts (state_of c.begin-head.result c.begin-head.new.self) begun w in
     let goes : Unfinished ≡ end_of c.run.result c.run.new.head c.run.new.machine =
     elim c.in-Following.is [
       | inl on ↦ ap (λ x. end_of x c.run.new.head c.run.new.machine) (sym on)
@@ -102,10 +142,15 @@ returns-in-End-clause-few g c =
     let starts = c.as_slice-starts.result.now in
     let same_instrs = c.as_slice-instrs.ensures.value ∙ ap (λ code. code.instrs) c.code-code.ensures.same in
     let same_starts = c.as_slice-starts.ensures.value ∙ ap (λ code. code.starts) c.code-code.ensures.same in
-    let begun = begun_state c.begin-head.result c.begin-head.new.self s.machine.slots (last_start s.code.starts) unit_limit (c.begin-head.ensures.place ∙ c.last_start.ensures ∙ ap last_start same_starts) c.begin-head.ensures.line (c.begin-head.ensures.units ∙ c.unit_limit.ensures.same) c.begin-head.ensures.operands c.begin-head.ensures.return_places c.begin-head.ensures.commands c.begin-head.ensures.slots in
+    let begun = begun_state c.begin-head.result c.begin-head.new.self s.machine.slots (last_start s.code.starts) unit_limit
+    (c.begin-head.ensures.place ∙ c.last_start.ensures ∙ ap last_start same_starts) c.begin-head.ensures.line
+    (c.begin-head.ensures.units ∙ c.unit_limit.ensures.same) c.begin-head.ensures.operands c.begin-head.ensures.return_places
+    c.begin-head.ensures.commands c.begin-head.ensures.slots in
     let w = c.requires.0 in
     let r = c.valid_code_runs_well.ensures s.code w (start_of kept) c.code-code.ensures.valid c.self.invariant.0.fits in
-    let is : Done (store_of c.run.new.machine) ≡ machine s.code w (start_of kept) = ap (λ x. end_of x c.run.new.head c.run.new.machine) (sym c.in-End.is) ∙ c.run.ensures.how w c.requires.1 ∙ exec_is kept instrs starts same_instrs same_starts (state_of c.begin-head.result c.begin-head.new.self) begun w in
+    let is : Done (store_of c.run.new.machine) ≡ machine s.code w (start_of kept) =
+    ap (λ x. end_of x c.run.new.head c.run.new.machine) (sym c.in-End.is) ∙ c.run.ensures.how w c.requires.1 ∙
+    exec_is kept instrs starts same_instrs same_starts (state_of c.begin-head.result c.begin-head.new.self) begun w in
     few_done kept w c.run.new.machine r is
 
 pub returns-in-End-clause-bounded : goal.returns-in-End-clause-bounded
@@ -116,7 +161,10 @@ returns-in-End-clause-bounded g c =
     let starts = c.as_slice-starts.result.now in
     let same_instrs = c.as_slice-instrs.ensures.value ∙ ap (λ code. code.instrs) c.code-code.ensures.same in
     let same_starts = c.as_slice-starts.ensures.value ∙ ap (λ code. code.starts) c.code-code.ensures.same in
-    let begun = begun_state c.begin-head.result c.begin-head.new.self s.machine.slots (last_start s.code.starts) unit_limit (c.begin-head.ensures.place ∙ c.last_start.ensures ∙ ap last_start same_starts) c.begin-head.ensures.line (c.begin-head.ensures.units ∙ c.unit_limit.ensures.same) c.begin-head.ensures.operands c.begin-head.ensures.return_places c.begin-head.ensures.commands c.begin-head.ensures.slots in
+    let begun = begun_state c.begin-head.result c.begin-head.new.self s.machine.slots (last_start s.code.starts) unit_limit
+    (c.begin-head.ensures.place ∙ c.last_start.ensures ∙ ap last_start same_starts) c.begin-head.ensures.line
+    (c.begin-head.ensures.units ∙ c.unit_limit.ensures.same) c.begin-head.ensures.operands c.begin-head.ensures.return_places
+    c.begin-head.ensures.commands c.begin-head.ensures.slots in
     let w = c.requires.0 in
     let r = c.valid_code_runs_well.ensures s.code w (start_of kept) c.code-code.ensures.valid c.self.invariant.0.fits in
     let steps = steps_is kept instrs starts same_instrs same_starts (state_of c.begin-head.result c.begin-head.new.self) begun w in
@@ -130,7 +178,10 @@ returns-in-Fault-clause-bounded g c =
     let starts = c.as_slice-starts.result.now in
     let same_instrs = c.as_slice-instrs.ensures.value ∙ ap (λ code. code.instrs) c.code-code.ensures.same in
     let same_starts = c.as_slice-starts.ensures.value ∙ ap (λ code. code.starts) c.code-code.ensures.same in
-    let begun = begun_state c.begin-head.result c.begin-head.new.self s.machine.slots (last_start s.code.starts) unit_limit (c.begin-head.ensures.place ∙ c.last_start.ensures ∙ ap last_start same_starts) c.begin-head.ensures.line (c.begin-head.ensures.units ∙ c.unit_limit.ensures.same) c.begin-head.ensures.operands c.begin-head.ensures.return_places c.begin-head.ensures.commands c.begin-head.ensures.slots in
+    let begun = begun_state c.begin-head.result c.begin-head.new.self s.machine.slots (last_start s.code.starts) unit_limit
+    (c.begin-head.ensures.place ∙ c.last_start.ensures ∙ ap last_start same_starts) c.begin-head.ensures.line
+    (c.begin-head.ensures.units ∙ c.unit_limit.ensures.same) c.begin-head.ensures.operands c.begin-head.ensures.return_places
+    c.begin-head.ensures.commands c.begin-head.ensures.slots in
     let w = c.requires.0 in
     let r = c.valid_code_runs_well.ensures s.code w (start_of kept) c.code-code.ensures.valid c.self.invariant.0.fits in
     let steps = steps_is kept instrs starts same_instrs same_starts (state_of c.begin-head.result c.begin-head.new.self) begun w in
