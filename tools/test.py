@@ -24,6 +24,17 @@ def run(script, text, *words):
         return done.returncode, done.stdout, done.stderr.replace(file.name, "FILE")
 
 
+class Examples(unittest.TestCase):
+    def test_the_gate_runs_the_examples_as_they_stand(self):
+        crates = HERE.parent / "crates"
+        data, examples = crates / "test_examples" / "data", crates / "junction" / "examples"
+        copies = [file.relative_to(data) for file in data.glob("**/*") if file.is_file() and file.name != "log.txt"]
+        plans = [plan.relative_to(examples) for plan in examples.glob("**/junction.pua")]
+        self.assertLessEqual(set(plans), set(copies))
+        for file in copies:
+            self.assertEqual((data / file).read_bytes(), (examples / file).read_bytes(), str(file))
+
+
 class Matrix(unittest.TestCase):
     def refused(self, text, said):
         with self.assertRaises(matrix.Refused) as stop:

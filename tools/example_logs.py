@@ -1,0 +1,61 @@
+#!/usr/bin/env python3
+"""tools/example_logs.py PROGRAM
+
+Writes what the gate compares of the examples, after a change of an example or of what a log says: in the crate test_examples, which
+runs and judges them all, copies of their files, their logs, the words and the output. PROGRAM is a built `junction`. It stops where
+a run or an audit fails, or a log isn't safe. Look at the difference before it is committed."""
+import shutil
+import subprocess
+import sys
+from pathlib import Path
+
+CRATES = Path(__file__).resolve().parent.parent / "crates"
+EXAMPLES = CRATES / "junction" / "examples"
+CRATE = CRATES / "test_examples"
+DATA = CRATE / "data"
+TABLES = ["times.csv", "intergreens.csv"]
+
+
+def call(program, words):
+    done = subprocess.run([program, *words], cwd=DATA, stdout=subprocess.PIPE, stderr=subprocess.PIPE)
+    if done.returncode != 0:
+        sys.exit(f"{' '.join(words)}: status {done.returncode} {done.stderr.decode()}")
+    return done.stdout
+
+
+def calls_of(folder):
+    """The words that run the example of a folder, and those that judge its log."""
+    example = folder.relative_to(EXAMPLES)
+    (code,) = folder.glob("*.vap")
+    detectors = folder / "detectors.txt"
+    if not detectors.exists():
+        detectors = folder / "traffic.txt"
+    site = [str(example / name) for name in ["junction.pua", *TABLES]]
+    for name in [code.name, "junction.pua", *TABLES, detectors.name]:
+        (DATA / example).mkdir(parents=True, exist_ok=True)
+        shutil.copyfile(folder / name, DATA / example / name)
+    run = ["run", str(example / code.name), *site, str(example / detectors.name)]
+    return run, ["audit", str(example / "log.txt"), *site]
+
+
+def main():
+    program = str(Path(sys.argv[1]).resolve())
+    shutil.rmtree(DATA, ignore_errors=True)
+    calls, output = [], b""
+    for plan in sorted(EXAMPLES.glob("**/junction.pua")):
+        run, audit = calls_of(plan.parent)
+        log = call(program, run)
+        (DATA / audit[1]).write_bytes(log)
+        verdict = call(program, audit)
+        if not verdict.startswith(b"SAFE "):
+            sys.exit(f"{audit[1]}: {verdict.decode()}")
+        output += log + verdict
+        calls += [run, audit]
+    (CRATE / "args").write_text("\n--\n".join("\n".join(words) for words in calls) + "\n", encoding="utf-8")
+    (CRATE / "stdout").write_bytes(output)
+
+
+if __name__ == "__main__":
+    if len(sys.argv) != 2:
+        sys.exit(__doc__)
+    main()
