@@ -1,0 +1,4 @@
+pub mod FieldLemmas
+pub mod LogLemmas
+pub mod Steps
+pub mod LogLaws
