@@ -1,0 +1,21 @@
+//! A chart of what the groups of a junction show: for each group the spans of seconds in which it shows one aspect.
+//!
+//! `specs/Spans` has the definition over pictures, `specs/Laws` what follows from it.
+#![tactic(auto)]
+
+mod chart;
+pub mod laws;
+mod past;
+mod row;
+mod span;
+mod stay;
+mod sums;
+mod totals;
+
+pub use chart::Chart;
+pub use past::GroupPast;
+pub use row::{show, spans_of};
+pub use span::Span;
+pub use stay::{Stay, add_stay, without_second};
+pub use sums::with_span;
+pub use totals::Totals;
