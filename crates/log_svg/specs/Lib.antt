@@ -1,0 +1,7 @@
+pub mod Layout
+pub mod Svg
+pub mod Axis
+pub mod Band
+pub mod Marks
+pub mod Diagram
+pub mod ShownIn

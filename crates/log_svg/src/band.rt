@@ -1,0 +1,151 @@
+// The band of stages and interstages.
+ghost use Rattle.std.specs.Prelude.{◌≡◌, ◌+◌, ◌-◌, ◌*◌, ◌/◌, ◌^◌, ◌<◌, ◌≤◌, ◌++◌, ℕ, List, Option, All, length};
+ghost use Rattle.sig_io.specs.Draft.{IsDraft, FailsOnly};
+ghost use Rattle.log_svg.specs.Layout.{IsLayout};
+ghost use Rattle.log_svg.specs.Band.{IsStayIn, band_text, is_named, name_letters, place_class, place_name, stage_digits, stay_name, stay_text, stay_width, stay_words};
+
+use crate::layout::{Layout, x_of};
+use crate::pieces::{begin_label, put_box};
+use log_chart::Stay;
+use sig_io::{Draft, Sink};
+use sig_types::{StageNo, StagePlace};
+
+// The class of a place.
+fn place_class(place: StagePlace) -> &'static [u8]
+    ensures class { result.now ≡ place_class place }
+    ensures short { length result.now ≤ 4096 }
+{
+    match place {
+        StagePlace::NoPlan => b"s",
+        StagePlace::Stage(_) => b"s",
+        StagePlace::Inter {
+            from: _,
+            to: _,
+            t: _,
+        } => b"i",
+    }
+}
+
+// How many digits the number of a stage has.
+fn stage_digits(stage: StageNo) -> u32
+    ensures digits { result ≡ stage_digits stage }
+    ensures few { result ≤ 2 }
+{
+    if stage.0 < 10 { 1 } else { 2 }
+}
+
+// How many letters the name of a place has.
+fn name_letters(place: StagePlace) -> u32
+    ensures letters { result ≡ name_letters place }
+    ensures few { result ≤ 5 }
+{
+    match place {
+        StagePlace::NoPlan => 1,
+        StagePlace::Stage(stage) => 1 + stage_digits(stage),
+        StagePlace::Inter { from, to, t: _ } => 1 + stage_digits(from) + stage_digits(to),
+    }
+}
+
+/// Puts the name of a stage or an interstage: `S1`, `1-2`, or a dash where there is no stage.
+pub fn put_place<O: Sink>(draft: &mut Draft, sink: &mut O, place: StagePlace)
+    requires { draft.old.gone < 2 ^ 59 }
+    ensures text { (start : Option (List ℕ)) (text : List ℕ) → IsDraft start (O.taken sink.old) draft.old text →
+        IsDraft start (O.taken sink.new) draft.new (text ++ place_name place) }
+    ensures gone { draft.new.gone ≤ draft.old.gone + 4096 * 3 }
+    ensures cause { FailsOnly (O.faults sink.old) (O.faults sink.new) draft.old.failed draft.new.failed }
+{
+    match place {
+        StagePlace::NoPlan => draft.put(sink, b"-"),
+        StagePlace::Stage(stage) => {
+            draft.put(sink, b"S");
+            draft.put_number(sink, u32::from(stage.0));
+        }
+        StagePlace::Inter { from, to, t: _ } => {
+            draft.put_number(sink, u32::from(from.0));
+            draft.put(sink, b"-");
+            draft.put_number(sink, u32::from(to.0));
+        }
+    }
+}
+
+// How wide a stay is.
+fn stay_width(layout: Layout, stay: &Stay) -> u32
+    requires layout { IsLayout layout }
+    requires stay { IsStayIn layout stay.now }
+    ensures width { result ≡ stay_width layout stay.now }
+    ensures fits { result ≤ 72000 }
+{
+    (stay.last.0 + 1 - stay.first.0) * layout.scale
+}
+
+// Puts the name in the middle of a stay.
+fn put_stay_name<O: Sink>(draft: &mut Draft, sink: &mut O, layout: Layout, stay: &Stay)
+    requires layout { IsLayout layout }
+    requires stay { IsStayIn layout stay.now }
+    requires room { draft.old.gone < 2 ^ 58 }
+    ensures text { (start : Option (List ℕ)) (text : List ℕ) → IsDraft start (O.taken sink.old) draft.old text →
+        IsDraft start (O.taken sink.new) draft.new (text ++ stay_name layout stay.now) }
+    ensures gone { draft.new.gone ≤ draft.old.gone + 4096 * 18 }
+    ensures cause { FailsOnly (O.faults sink.old) (O.faults sink.new) draft.old.failed draft.new.failed }
+{
+    let middle = x_of(layout, stay.first.0) + stay_width(layout, stay) / 2;
+    begin_label(draft, sink, b"m", middle, 73);
+    put_place(draft, sink, stay.place);
+    draft.put(sink, b"</text>\n");
+}
+
+// Whether a stay is wide enough for its name.
+fn is_named(layout: Layout, stay: &Stay) -> bool
+    requires layout { IsLayout layout }
+    requires stay { IsStayIn layout stay.now }
+    ensures { result ≡ is_named layout stay.now }
+{
+    name_letters(stay.place) * 7 + 4 <= stay_width(layout, stay)
+}
+
+// Puts the name of a stay where it is wide enough.
+fn put_stay_words<O: Sink>(draft: &mut Draft, sink: &mut O, layout: Layout, stay: &Stay)
+    requires layout { IsLayout layout }
+    requires stay { IsStayIn layout stay.now }
+    requires room { draft.old.gone < 2 ^ 58 }
+    ensures text { (start : Option (List ℕ)) (text : List ℕ) → IsDraft start (O.taken sink.old) draft.old text →
+        IsDraft start (O.taken sink.new) draft.new (text ++ stay_words layout stay.now) }
+    ensures gone { draft.new.gone ≤ draft.old.gone + 4096 * 18 }
+    ensures cause { FailsOnly (O.faults sink.old) (O.faults sink.new) draft.old.failed draft.new.failed }
+{
+    if is_named(layout, stay) {
+        put_stay_name(draft, sink, layout, stay);
+    }
+}
+
+// Puts a stay: a box, and its name.
+fn put_stay<O: Sink>(draft: &mut Draft, sink: &mut O, layout: Layout, stay: &Stay)
+    requires layout { IsLayout layout }
+    requires stay { IsStayIn layout stay.now }
+    requires room { draft.old.gone < 2 ^ 57 }
+    ensures text { (start : Option (List ℕ)) (text : List ℕ) → IsDraft start (O.taken sink.old) draft.old text →
+        IsDraft start (O.taken sink.new) draft.new (text ++ stay_text layout stay.now) }
+    ensures gone { draft.new.gone ≤ draft.old.gone + 4096 * 42 }
+    ensures cause { FailsOnly (O.faults sink.old) (O.faults sink.new) draft.old.failed draft.new.failed }
+{
+    let width = stay_width(layout, stay);
+    let x = x_of(layout, stay.first.0);
+    put_box(draft, sink, place_class(stay.place), (x, 60), width, 18);
+    put_stay_words(draft, sink, layout, stay);
+}
+
+/// Puts the band of the stays.
+pub fn put_band<O: Sink>(draft: &mut Draft, sink: &mut O, layout: Layout, stays: &[Stay])
+    requires layout { IsLayout layout }
+    requires stays { All (IsStayIn layout) stays.now }
+    requires few { length stays.now ≤ 3600 }
+    requires room { draft.old.gone < 2 ^ 56 }
+    ensures text { (start : Option (List ℕ)) (text : List ℕ) → IsDraft start (O.taken sink.old) draft.old text →
+        IsDraft start (O.taken sink.new) draft.new (text ++ band_text layout stays.now) }
+    ensures gone { draft.new.gone ≤ draft.old.gone + 172032 * length stays.now }
+    ensures cause { FailsOnly (O.faults sink.old) (O.faults sink.new) draft.old.failed draft.new.failed }
+{
+    for stay in stays {
+        put_stay(draft, sink, layout, stay);
+    }
+}

@@ -1,0 +1,185 @@
+// The rows of the detectors.
+ghost use Rattle.std.specs.Prelude.{◌≡◌, ◌+◌, ◌-◌, ◌*◌, ◌^◌, ◌<◌, ◌≤◌, ◌++◌, ◌==◌, min, ℕ, List, Option, All, length};
+ghost use Rattle.sig_io.specs.Draft.{IsDraft, FailsOnly};
+ghost use Rattle.log_svg.specs.Layout.{IsLayout};
+ghost use Rattle.log_svg.specs.Marks.{IsFrontIn, detector_name, detector_text, detectors_text, front_text, fronts_of, has_front, row_count, shown_text, shown_to};
+
+use crate::layout::{Layout, middle_of, right_of};
+use crate::pieces::{begin_label, put_across, put_upright};
+use sig_io::{Draft, Sink};
+use sig_types::DetNo;
+
+/// Fronts of a detector in a second.
+#[derive(Clone, Copy, Debug, PartialEq, Eq)]
+pub struct FrontMark {
+    /// The second.
+    pub second: u32,
+    /// The detector.
+    pub detector: DetNo,
+    /// How many vehicles began to cover it.
+    pub fronts: u32,
+}
+
+// Puts the fronts of a second: the more, the higher.
+fn put_front<O: Sink>(draft: &mut Draft, sink: &mut O, layout: Layout, y: u32, mark: &FrontMark)
+    requires layout { IsLayout layout }
+    requires mark { IsFrontIn layout mark.now }
+    requires y { y ≤ 100000 }
+    requires room { draft.old.gone < 2 ^ 57 }
+    ensures text { (start : Option (List ℕ)) (text : List ℕ) → IsDraft start (O.taken sink.old) draft.old text →
+        IsDraft start (O.taken sink.new) draft.new (text ++ front_text layout y mark.now) }
+    ensures gone { draft.new.gone ≤ draft.old.gone + 4096 * 9 }
+    ensures cause { FailsOnly (O.faults sink.old) (O.faults sink.new) draft.old.failed draft.new.failed }
+{
+    let top = y + 10 - 3 * mark.fronts.min(3);
+    put_upright(
+        draft,
+        sink,
+        b"t",
+        middle_of(layout, mark.second),
+        (top, y + 13),
+    );
+}
+
+// Puts the fronts of one detector.
+fn put_fronts<O: Sink>(
+    draft: &mut Draft,
+    sink: &mut O,
+    layout: Layout,
+    y: u32,
+    detector: DetNo,
+    marks: &[FrontMark],
+)
+    requires layout { IsLayout layout }
+    requires marks { All (IsFrontIn layout) marks.now }
+    requires few { length marks.now ≤ 230400 }
+    requires y { y ≤ 100000 }
+    requires room { draft.old.gone < 2 ^ 56 }
+    ensures text { (start : Option (List ℕ)) (text : List ℕ) → IsDraft start (O.taken sink.old) draft.old text →
+        IsDraft start (O.taken sink.new) draft.new (text ++ fronts_of layout y detector.0 marks.now) }
+    ensures gone { draft.new.gone ≤ draft.old.gone + 36864 * length marks.now }
+    ensures cause { FailsOnly (O.faults sink.old) (O.faults sink.new) draft.old.failed draft.new.failed }
+{
+    for mark in marks {
+        if mark.detector.0 == detector.0 {
+            put_front(draft, sink, layout, y, mark);
+        }
+    }
+}
+
+// Puts a detector's name.
+fn put_name<O: Sink>(draft: &mut Draft, sink: &mut O, layout: Layout, y: u32, detector: DetNo)
+    requires layout { IsLayout layout }
+    requires y { y ≤ 100000 }
+    requires room { draft.old.gone < 2 ^ 57 }
+    ensures text { (start : Option (List ℕ)) (text : List ℕ) → IsDraft start (O.taken sink.old) draft.old text →
+        IsDraft start (O.taken sink.new) draft.new (text ++ detector_name layout y detector.0) }
+    ensures gone { draft.new.gone ≤ draft.old.gone + 4096 * 17 }
+    ensures cause { FailsOnly (O.faults sink.old) (O.faults sink.new) draft.old.failed draft.new.failed }
+{
+    begin_label(draft, sink, b"d", layout.left - 12, y + 11);
+    draft.put(sink, b"D");
+    draft.put_number(sink, u32::from(detector.0));
+    draft.put(sink, b"</text>\n");
+}
+
+// Puts a detector's row at this height: its name, a thin line across and its fronts.
+fn put_detector<O: Sink>(
+    draft: &mut Draft,
+    sink: &mut O,
+    layout: Layout,
+    y: u32,
+    detector: DetNo,
+    marks: &[FrontMark],
+)
+    requires layout { IsLayout layout }
+    requires marks { All (IsFrontIn layout) marks.now }
+    requires few { length marks.now ≤ 230400 }
+    requires y { y ≤ 100000 }
+    requires room { draft.old.gone < 2 ^ 55 }
+    ensures text { (start : Option (List ℕ)) (text : List ℕ) → IsDraft start (O.taken sink.old) draft.old text →
+        IsDraft start (O.taken sink.new) draft.new (text ++ detector_text layout y marks.now detector.0) }
+    ensures gone { draft.new.gone ≤ draft.old.gone + 2 ^ 35 }
+    ensures cause { FailsOnly (O.faults sink.old) (O.faults sink.new) draft.old.failed draft.new.failed }
+{
+    put_name(draft, sink, layout, y, detector);
+    put_across(draft, sink, y + 13, right_of(layout));
+    put_fronts(draft, sink, layout, y, detector, marks);
+}
+
+// Whether a detector has a front in the diagram.
+fn has_front(marks: &[FrontMark], detector: DetNo) -> bool
+    ensures { result ≡ has_front marks.now detector.0 }
+{
+    marks.iter().any(|mark| mark.detector.0 == detector.0)
+}
+
+// How many rows a detector has: one where it has a front.
+fn row_count(marks: &[FrontMark], detector: DetNo) -> u32
+    ensures count { result ≡ row_count marks.now detector.0 }
+    ensures few { result ≤ 1 }
+{
+    if has_front(marks, detector) { 1 } else { 0 }
+}
+
+// Puts a detector's row at this height, where it has a front.
+fn put_shown<O: Sink>(
+    draft: &mut Draft,
+    sink: &mut O,
+    layout: Layout,
+    y: u32,
+    detector: DetNo,
+    marks: &[FrontMark],
+)
+    requires layout { IsLayout layout }
+    requires marks { All (IsFrontIn layout) marks.now }
+    requires few { length marks.now ≤ 230400 }
+    requires y { y ≤ 100000 }
+    requires room { draft.old.gone < 2 ^ 55 }
+    ensures text { (start : Option (List ℕ)) (text : List ℕ) → IsDraft start (O.taken sink.old) draft.old text →
+        IsDraft start (O.taken sink.new) draft.new (text ++ shown_text layout y marks.now detector.0) }
+    ensures gone { draft.new.gone ≤ draft.old.gone + 2 ^ 35 }
+    ensures cause { FailsOnly (O.faults sink.old) (O.faults sink.new) draft.old.failed draft.new.failed }
+{
+    if has_front(marks, detector) {
+        put_detector(draft, sink, layout, y, detector, marks);
+    }
+}
+
+/// How many detectors have a front in the diagram.
+pub fn count_shown(marks: &[FrontMark]) -> u32
+    ensures count { result ≡ shown_to marks.now 64 }
+    ensures fits { result ≤ 64 }
+{
+    let mut count = 0;
+    for place in 0..64u8 {
+        count += row_count(marks, DetNo(place + 1));
+    }
+    count
+}
+
+/// Puts the rows of the detectors that have a front, one below the other from this height on.
+pub fn put_detectors<O: Sink>(
+    draft: &mut Draft,
+    sink: &mut O,
+    layout: Layout,
+    y: u32,
+    marks: &[FrontMark],
+)
+    requires layout { IsLayout layout }
+    requires marks { All (IsFrontIn layout) marks.now }
+    requires few { length marks.now ≤ 230400 }
+    requires y { y ≤ 90000 }
+    requires room { draft.old.gone < 2 ^ 54 }
+    ensures text { (start : Option (List ℕ)) (text : List ℕ) → IsDraft start (O.taken sink.old) draft.old text →
+        IsDraft start (O.taken sink.new) draft.new (text ++ detectors_text layout y marks.now 64) }
+    ensures gone { draft.new.gone ≤ draft.old.gone + 2 ^ 41 }
+    ensures cause { FailsOnly (O.faults sink.old) (O.faults sink.new) draft.old.failed draft.new.failed }
+{
+    let mut shown = 0;
+    for place in 0..64u8 {
+        let detector = DetNo(place + 1);
+        put_shown(draft, sink, layout, y + 14 * shown, detector, marks);
+        shown += row_count(marks, detector);
+    }
+}

@@ -1,0 +1,225 @@
+// The head of a diagram: its size, how things look, and what it is of.
+ghost use Rattle.std.specs.Prelude.{◌≡◌, ◌+◌, ◌*◌, ◌^◌, ◌<◌, ◌≤◌, ◌++◌, ℕ, List, Option};
+ghost use Rattle.sig_io.specs.Draft.{IsDraft, FailsOnly};
+ghost use Rattle.log_svg.specs.Diagram.{amber_pattern, bars_style, ground_text, half_pattern, head_text, interstage_pattern, looks_text, marks_style, open_text, seconds_title, view_text, words_style};
+
+use crate::layout::Layout;
+use crate::pieces::{begin_label, put_attribute};
+use sig_io::{Draft, Sink};
+
+// Puts what part of the plane is shown.
+fn put_view<O: Sink>(draft: &mut Draft, sink: &mut O, width: u32, height: u32)
+    requires { draft.old.gone < 2 ^ 60 }
+    ensures text { (start : Option (List ℕ)) (text : List ℕ) → IsDraft start (O.taken sink.old) draft.old text →
+        IsDraft start (O.taken sink.new) draft.new (text ++ view_text width height) }
+    ensures gone { draft.new.gone ≤ draft.old.gone + 4096 * 4 }
+    ensures cause { FailsOnly (O.faults sink.old) (O.faults sink.new) draft.old.failed draft.new.failed }
+{
+    draft.put(sink, b" viewBox=\"0 0 ");
+    draft.put_number(sink, width);
+    draft.put(sink, b" ");
+    draft.put_number(sink, height);
+}
+
+// Puts the beginning of the text, by the size of the picture.
+fn open_svg<O: Sink>(draft: &mut Draft, sink: &mut O, width: u32, height: u32)
+    requires { draft.old.gone < 2 ^ 59 }
+    ensures text { (start : Option (List ℕ)) (text : List ℕ) → IsDraft start (O.taken sink.old) draft.old text →
+        IsDraft start (O.taken sink.new) draft.new (text ++ open_text width height) }
+    ensures gone { draft.new.gone ≤ draft.old.gone + 4096 * 16 }
+    ensures cause { FailsOnly (O.faults sink.old) (O.faults sink.new) draft.old.failed draft.new.failed }
+{
+    draft.put(sink, b"<svg xmlns=\"http://www.w3.org/2000/svg\"");
+    put_attribute(draft, sink, b"width", width);
+    put_attribute(draft, sink, b"height", height);
+    put_view(draft, sink, width, height);
+    draft.put(
+        sink,
+        b"\" font-family=\"'DejaVu Sans Mono',Consolas,monospace\" font-size=\"12\" style=\"max-width:100%;height:auto\">\n",
+    );
+}
+
+// Puts how bars look.
+fn put_bars_style<O: Sink>(draft: &mut Draft, sink: &mut O)
+    requires { draft.old.gone < 2 ^ 60 }
+    ensures text { (start : Option (List ℕ)) (text : List ℕ) → IsDraft start (O.taken sink.old) draft.old text →
+        IsDraft start (O.taken sink.new) draft.new (text ++ bars_style) }
+    ensures gone { draft.new.gone ≤ draft.old.gone + 4096 * 4 }
+    ensures cause { FailsOnly (O.faults sink.old) (O.faults sink.new) draft.old.failed draft.new.failed }
+{
+    draft.put(
+        sink,
+        b"<style>@page{size:A4 landscape;margin:10mm}@media print{svg{max-height:100vh}}\n",
+    );
+    draft.put(
+        sink,
+        b".r{fill:#c4161c}.u{fill:url(#u);stroke:#000;stroke-width:.4}\n",
+    );
+    draft.put(
+        sink,
+        b".g{fill:#00843d;stroke:#000;stroke-width:.6}.a{fill:url(#a);stroke:#000;stroke-width:.6}\n",
+    );
+    draft.put(
+        sink,
+        b".s{fill:#eef1f4;stroke:#000;stroke-width:.8}.i{fill:url(#i);stroke:#000;stroke-width:.8}\n",
+    );
+}
+
+// Puts how words look.
+fn put_words_style<O: Sink>(draft: &mut Draft, sink: &mut O)
+    requires { draft.old.gone < 2 ^ 60 }
+    ensures text { (start : Option (List ℕ)) (text : List ℕ) → IsDraft start (O.taken sink.old) draft.old text →
+        IsDraft start (O.taken sink.new) draft.new (text ++ words_style) }
+    ensures gone { draft.new.gone ≤ draft.old.gone + 4096 * 3 }
+    ensures cause { FailsOnly (O.faults sink.old) (O.faults sink.new) draft.old.failed draft.new.failed }
+{
+    draft.put(
+        sink,
+        b".n,.d{text-anchor:end}.m,.l,.k{text-anchor:middle}.k{fill:#fff;font-size:10px}.l,.d{font-size:10px}\n",
+    );
+    draft.put(sink, b".h{font-size:13px;font-weight:bold}\n");
+    draft.put(
+        sink,
+        b".m{font-weight:bold;paint-order:stroke;stroke:#fff;stroke-width:4;stroke-linejoin:round}\n",
+    );
+}
+
+// Puts how lines and marks look.
+#[tactic(auto, unfolding(crate::specs::Diagram::marks_style))]
+fn put_marks_style<O: Sink>(draft: &mut Draft, sink: &mut O)
+    requires { draft.old.gone < 2 ^ 60 }
+    ensures text { (start : Option (List ℕ)) (text : List ℕ) → IsDraft start (O.taken sink.old) draft.old text →
+        IsDraft start (O.taken sink.new) draft.new (text ++ marks_style) }
+    ensures gone { draft.new.gone ≤ draft.old.gone + 4096 * 1 }
+    ensures cause { FailsOnly (O.faults sink.old) (O.faults sink.new) draft.old.failed draft.new.failed }
+{
+    draft.put(
+        sink,
+        b".b,.c,.t,.f{fill:none;stroke:#000}.b{stroke:#d5d9dd}.t{stroke-width:1.4}.f{stroke-width:2}.x{fill:#000}</style>\n",
+    );
+}
+
+// Puts the pattern of red-amber, dark over light.
+fn put_half_pattern<O: Sink>(draft: &mut Draft, sink: &mut O)
+    requires { draft.old.gone < 2 ^ 60 }
+    ensures text { (start : Option (List ℕ)) (text : List ℕ) → IsDraft start (O.taken sink.old) draft.old text →
+        IsDraft start (O.taken sink.new) draft.new (text ++ half_pattern) }
+    ensures gone { draft.new.gone ≤ draft.old.gone + 4096 * 2 }
+    ensures cause { FailsOnly (O.faults sink.old) (O.faults sink.new) draft.old.failed draft.new.failed }
+{
+    draft.put(
+        sink,
+        b"<defs><linearGradient id=\"u\" x1=\"0\" y1=\"0\" x2=\"0\" y2=\"1\">",
+    );
+    draft.put(
+        sink,
+        b"<stop offset=\".5\" stop-color=\"#c4161c\"/><stop offset=\".5\" stop-color=\"#ffd500\"/></linearGradient>\n",
+    );
+}
+
+// Puts the pattern of amber, striped.
+fn put_amber_pattern<O: Sink>(draft: &mut Draft, sink: &mut O)
+    requires { draft.old.gone < 2 ^ 60 }
+    ensures text { (start : Option (List ℕ)) (text : List ℕ) → IsDraft start (O.taken sink.old) draft.old text →
+        IsDraft start (O.taken sink.new) draft.new (text ++ amber_pattern) }
+    ensures gone { draft.new.gone ≤ draft.old.gone + 4096 * 2 }
+    ensures cause { FailsOnly (O.faults sink.old) (O.faults sink.new) draft.old.failed draft.new.failed }
+{
+    draft.put(
+        sink,
+        b"<pattern id=\"a\" width=\"5\" height=\"5\" patternUnits=\"userSpaceOnUse\" patternTransform=\"rotate(45)\">",
+    );
+    draft.put(
+        sink,
+        b"<rect width=\"5\" height=\"5\" fill=\"#ffd500\"/><rect width=\"1.6\" height=\"5\" fill=\"#000\"/></pattern>\n",
+    );
+}
+
+// Puts the pattern of interstages, thinly striped.
+fn put_interstage_pattern<O: Sink>(draft: &mut Draft, sink: &mut O)
+    requires { draft.old.gone < 2 ^ 60 }
+    ensures text { (start : Option (List ℕ)) (text : List ℕ) → IsDraft start (O.taken sink.old) draft.old text →
+        IsDraft start (O.taken sink.new) draft.new (text ++ interstage_pattern) }
+    ensures gone { draft.new.gone ≤ draft.old.gone + 4096 * 2 }
+    ensures cause { FailsOnly (O.faults sink.old) (O.faults sink.new) draft.old.failed draft.new.failed }
+{
+    draft.put(
+        sink,
+        b"<pattern id=\"i\" width=\"5\" height=\"5\" patternUnits=\"userSpaceOnUse\" patternTransform=\"rotate(45)\">",
+    );
+    draft.put(
+        sink,
+        b"<rect width=\"5\" height=\"5\" fill=\"#fff\"/><rect width=\"1\" height=\"5\" fill=\"#8a9199\"/></pattern></defs>\n",
+    );
+}
+
+// Puts how everything looks.
+fn put_styles<O: Sink>(draft: &mut Draft, sink: &mut O)
+    requires { draft.old.gone < 2 ^ 59 }
+    ensures text { (start : Option (List ℕ)) (text : List ℕ) → IsDraft start (O.taken sink.old) draft.old text →
+        IsDraft start (O.taken sink.new) draft.new (text ++ (bars_style ++ words_style ++ marks_style)) }
+    ensures gone { draft.new.gone ≤ draft.old.gone + 4096 * 8 }
+    ensures cause { FailsOnly (O.faults sink.old) (O.faults sink.new) draft.old.failed draft.new.failed }
+{
+    put_bars_style(draft, sink);
+    put_words_style(draft, sink);
+    put_marks_style(draft, sink);
+}
+
+// Puts how everything looks, and the patterns.
+fn put_looks<O: Sink>(draft: &mut Draft, sink: &mut O)
+    requires { draft.old.gone < 2 ^ 58 }
+    ensures text { (start : Option (List ℕ)) (text : List ℕ) → IsDraft start (O.taken sink.old) draft.old text →
+        IsDraft start (O.taken sink.new) draft.new (text ++ looks_text) }
+    ensures gone { draft.new.gone ≤ draft.old.gone + 4096 * 14 }
+    ensures cause { FailsOnly (O.faults sink.old) (O.faults sink.new) draft.old.failed draft.new.failed }
+{
+    put_styles(draft, sink);
+    put_half_pattern(draft, sink);
+    put_amber_pattern(draft, sink);
+    put_interstage_pattern(draft, sink);
+}
+
+// Puts a white ground.
+fn put_ground<O: Sink>(draft: &mut Draft, sink: &mut O, width: u32, height: u32)
+    requires { draft.old.gone < 2 ^ 59 }
+    ensures text { (start : Option (List ℕ)) (text : List ℕ) → IsDraft start (O.taken sink.old) draft.old text →
+        IsDraft start (O.taken sink.new) draft.new (text ++ ground_text width height) }
+    ensures gone { draft.new.gone ≤ draft.old.gone + 4096 * 12 }
+    ensures cause { FailsOnly (O.faults sink.old) (O.faults sink.new) draft.old.failed draft.new.failed }
+{
+    draft.put(sink, b"<rect fill=\"#fff\"");
+    put_attribute(draft, sink, b"width", width);
+    put_attribute(draft, sink, b"height", height);
+    draft.put(sink, b"/>\n");
+}
+
+// Puts what the diagram is of.
+fn put_title<O: Sink>(draft: &mut Draft, sink: &mut O, from: u32, to: u32)
+    requires { draft.old.gone < 2 ^ 59 }
+    ensures text { (start : Option (List ℕ)) (text : List ℕ) → IsDraft start (O.taken sink.old) draft.old text →
+        IsDraft start (O.taken sink.new) draft.new (text ++ seconds_title from to) }
+    ensures gone { draft.new.gone ≤ draft.old.gone + 4096 * 5 }
+    ensures cause { FailsOnly (O.faults sink.old) (O.faults sink.new) draft.old.failed draft.new.failed }
+{
+    draft.put(sink, b"Signal timing diagram, seconds ");
+    draft.put_number(sink, from);
+    draft.put(sink, b" to ");
+    draft.put_number(sink, to);
+    draft.put(sink, b"</text>\n");
+}
+
+/// Puts the head of a diagram of this size.
+pub fn put_head<O: Sink>(draft: &mut Draft, sink: &mut O, width: u32, height: u32, layout: Layout)
+    requires { draft.old.gone < 2 ^ 57 }
+    ensures text { (start : Option (List ℕ)) (text : List ℕ) → IsDraft start (O.taken sink.old) draft.old text →
+        IsDraft start (O.taken sink.new) draft.new (text ++ head_text width height layout) }
+    ensures gone { draft.new.gone ≤ draft.old.gone + 4096 * 61 }
+    ensures cause { FailsOnly (O.faults sink.old) (O.faults sink.new) draft.old.failed draft.new.failed }
+{
+    open_svg(draft, sink, width, height);
+    put_looks(draft, sink);
+    put_ground(draft, sink, width, height);
+    begin_label(draft, sink, b"h", 12, 20);
+    put_title(draft, sink, layout.from, layout.to);
+}

@@ -1,0 +1,24 @@
+//! A signal timing diagram as SVG text: the band of stages and interstages, a row for each group with its spans, the fronts of
+//! detectors, and marks for refused commands and faults.
+//!
+//! `specs/Diagram` has the whole text, piece by piece over `specs/Svg`, `specs/Axis`, `specs/Band` and `specs/Marks`.
+#![tactic(auto)]
+
+mod axis;
+mod band;
+mod diagram;
+mod fronts;
+mod groups;
+mod head;
+mod layout;
+mod legend;
+mod marks;
+mod pieces;
+mod row;
+
+pub use band::put_place;
+pub use diagram::{Diagram, put_diagram};
+pub use fronts::FrontMark;
+pub use layout::Layout;
+pub use marks::{FaultMark, RefusalMark, Refused, fault_name, put_fault, put_refused};
+pub use row::put_row;
