@@ -4,7 +4,7 @@ ghost use Rattle.std.specs.Fmt.{decimal};
 ghost use Rattle.sig_io.specs.Draft.{IsDraft, FailsOnly};
 ghost use Rattle.sig_types.specs.Recorded.{IsTurn};
 ghost use Rattle.sig_types.specs.declared.refused.TurnRefusal.{TurnRefusal};
-ghost use Rattle.pua_model.specs.Plan.{groups_in, interstage_at};
+ghost use Rattle.pua_model.specs.Plan.{groups_in};
 ghost use Rattle.sig_guard.specs.Stands.{rules};
 ghost use Rattle.signal_log.specs.Log.{name_of, rule_name};
 ghost use Rattle.sig_audit.specs.Verdict.{IsNamed};
