@@ -22,6 +22,7 @@ pub fn too_long(second: u32) -> StreamWhy
 }
 
 /// Reads a line of at most 1,024 bytes that follows `second` lines: its frame, and the counts so far with it.
+#[inline(always)]
 pub fn read_line(
     second: u32,
     line: &[u8],

@@ -187,6 +187,7 @@ impl LineReader {
     /// Reads the next line; false at the file's end. It takes no memory.
     ///
     /// It answers `Fault` only where a read failed, and after a refusal nothing is told of what is left.
+    #[inline(always)]
     pub fn next_line<F: Files>(&mut self, files: &mut F) -> Result<bool, LineRefusal>
         requires { bytes_given self.old < 2 ^ 61 }
         ensures read { ForSome (F.told files.old) (λ file. ReadsLine (file (name_in self.old)) self.old self.new result) }

@@ -178,6 +178,7 @@ impl<'a> Piece for Beginning<'a> {
 
     ghost text = { λ f. beginning_text f.quiet f.rec.now };
 
+    #[inline(always)]
     fn write(&self, buffer: &mut [u8], at: usize) -> usize {
         let at = put_head(buffer, at, self.rec);
         if self.quiet {
