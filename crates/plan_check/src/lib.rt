@@ -1,0 +1,11 @@
+//! What a plan lacks at its site: ways between its stages, green of its groups, and ends of red that come late.
+//!
+//! `specs/Ways` says which stages and groups lack something, and `specs/Ends` when the red of a group ends in an interstage and when
+//! it could.
+#![tactic(auto)]
+
+mod ends;
+mod ways;
+
+pub use ends::{LateEnd, late_end};
+pub use ways::{is_ever_green, is_left, is_reached};

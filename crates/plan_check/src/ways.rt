@@ -1,0 +1,49 @@
+// Ways between stages, and groups that are green in one.
+ghost use Rattle.std.specs.Prelude.{◌≡◌, ◌<◌, true, false};
+ghost use Rattle.pua_model.specs.Plan.{groups_in};
+ghost use Rattle.plan_check.specs.Ways.{IsLeft, IsNeverLeft, IsReached, IsNeverReached, IsEverGreen, IsNeverGreen};
+
+use pua_model::Plan;
+use sig_types::{GroupNo, InterNo, StageNo};
+
+/// Whether an interstage leads from the stage.
+pub fn is_left(plan: &Plan, stage: StageNo) -> bool
+    ensures left { result ≡ true → IsLeft plan.now stage.0 }
+    ensures never { result ≡ false → IsNeverLeft plan.now stage.0 }
+{
+    for i in 0..plan.interstages() {
+        let (from, _to) = plan.ends(InterNo(i));
+        if from.0 == stage.0 {
+            return true;
+        }
+    }
+    false
+}
+
+/// Whether an interstage leads to the stage.
+pub fn is_reached(plan: &Plan, stage: StageNo) -> bool
+    ensures reached { result ≡ true → IsReached plan.now stage.0 }
+    ensures never { result ≡ false → IsNeverReached plan.now stage.0 }
+{
+    for i in 0..plan.interstages() {
+        let (_from, to) = plan.ends(InterNo(i));
+        if to.0 == stage.0 {
+            return true;
+        }
+    }
+    false
+}
+
+/// Whether a stage has the group green.
+pub fn is_ever_green(plan: &Plan, group: GroupNo) -> bool
+    requires { group.0 < groups_in plan.now }
+    ensures green { result ≡ true → IsEverGreen plan.now group.0 }
+    ensures never { result ≡ false → IsNeverGreen plan.now group.0 }
+{
+    for s in 0..plan.stages() {
+        if plan.in_stage(StageNo(s + 1), group) {
+            return true;
+        }
+    }
+    false
+}
