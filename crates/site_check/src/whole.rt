@@ -1,0 +1,349 @@
+// All files of a junction, one after the other.
+ghost use Rattle.std.specs.Prelude.{◌≤◌, length};
+
+use crate::detectors::{Heard, Heeded, heed};
+use crate::finding::{FileKind, Finding, Refusal, Spot, Told};
+use crate::plan::{warn_of_interstages, warn_of_plan};
+use crate::plan_lines::PlanLines;
+use crate::program::{Judged, ProgramStop, judge_program};
+use crate::program_warnings::{
+    warn_of_detectors, warn_of_parts, warn_of_silence, warn_of_variables,
+};
+use crate::sections::warn_of_sections;
+use crate::spots::Source;
+use crate::uses::uses_of;
+use pua_model::Plan;
+use pua_reader::{PuaRefusal, read_plan};
+use sig_io::{Files, ReadRefusal, read_whole};
+use sig_tables::{Intergreens, TableRefusal, Times, read_intergreens, read_times};
+use std::alloc::{AllocError, Global};
+
+// The bytes that a text may have.
+const TEXT_LIMIT: usize = 1048576;
+
+/// The names of the files.
+#[derive(Drop)]
+pub struct SiteNames<'a> {
+    pub program: &'a str,
+    pub pua: &'a str,
+    pub times: &'a str,
+    pub intergreens: &'a str,
+    pub detectors: Option<&'a str>,
+}
+
+/// What is found, and what its sentences need: the bytes of the files, and the plan where it isn't refused.
+#[derive(Drop)]
+pub struct Examined {
+    pub findings: Vec<Finding>,
+    pub(crate) plan: Option<Plan>,
+    pub(crate) pua: Vec<u8>,
+    pub(crate) times: Vec<u8>,
+    pub(crate) intergreens: Vec<u8>,
+    pub(crate) program: Vec<u8>,
+    pub(crate) detectors: Vec<u8>,
+}
+
+fn tell(
+    findings: &mut Vec<Finding>,
+    file: FileKind,
+    spot: Spot,
+    told: Told,
+) -> Result<(), AllocError> {
+    findings.push(Finding { file, spot, told })?;
+    Ok(())
+}
+
+// Tells of a file that was not read whole.
+fn tell_unread(
+    findings: &mut Vec<Finding>,
+    file: FileKind,
+    refusal: ReadRefusal,
+) -> Result<(), AllocError> {
+    let whole = Spot::line(0);
+    match refusal {
+        ReadRefusal::Memory => Err(AllocError),
+        ReadRefusal::Fault => tell(findings, file, whole, Told::Unread),
+        ReadRefusal::TooLong(_) => tell(findings, file, whole, Told::Refused(Refusal::TooLong)),
+    }
+}
+
+// The plan of a text.
+fn judge_plan(
+    alloc: Global,
+    text: &[u8],
+    findings: &mut Vec<Finding>,
+) -> Result<Option<Plan>, AllocError>
+    requires { length text.now ≤ 1048576 }
+{
+    match read_plan(alloc, text) {
+        Ok(plan) => Ok(Some(plan)),
+        Err(PuaRefusal::Memory) => Err(AllocError),
+        Err(PuaRefusal::At { line, why }) => {
+            let told = Told::Refused(Refusal::Pua(why));
+            tell(findings, FileKind::Pua, Spot::line(line), told)?;
+            Ok(None)
+        }
+    }
+}
+
+// Reads and judges the PUA file.
+fn take_plan<F: Files>(
+    alloc: Global,
+    name: &str,
+    files: &mut F,
+    examined: &mut Examined,
+) -> Result<(), AllocError> {
+    match read_whole(alloc, files, name, TEXT_LIMIT) {
+        Ok(text) => {
+            examined.plan = judge_plan(alloc, &text, &mut examined.findings)?;
+            warn_of_sections(&text, &mut examined.findings)?;
+            examined.pua = text;
+            Ok(())
+        }
+        Err(refusal) => tell_unread(&mut examined.findings, FileKind::Pua, refusal),
+    }
+}
+
+// Tells why a table is refused.
+fn tell_table(
+    findings: &mut Vec<Finding>,
+    file: FileKind,
+    refusal: TableRefusal,
+) -> Result<(), AllocError> {
+    match refusal {
+        TableRefusal::Memory => Err(AllocError),
+        TableRefusal::At { line, why } => {
+            let told = Told::Refused(Refusal::Table(why));
+            tell(findings, file, Spot::line(line), told)
+        }
+    }
+}
+
+// The times of a text; none without a plan.
+fn judge_times(
+    alloc: Global,
+    text: &[u8],
+    plan: &Option<Plan>,
+    findings: &mut Vec<Finding>,
+) -> Result<Option<Times>, AllocError> {
+    let Some(plan) = plan else {
+        tell(findings, FileKind::Times, Spot::line(0), Told::NotJudged)?;
+        return Ok(None);
+    };
+    match read_times(alloc, text, plan) {
+        Ok(times) => Ok(Some(times)),
+        Err(refusal) => {
+            tell_table(findings, FileKind::Times, refusal)?;
+            Ok(None)
+        }
+    }
+}
+
+// Reads and judges the times.
+fn take_times<F: Files>(
+    alloc: Global,
+    name: &str,
+    files: &mut F,
+    examined: &mut Examined,
+) -> Result<Option<Times>, AllocError> {
+    match read_whole(alloc, files, name, TEXT_LIMIT) {
+        Ok(text) => {
+            let times = judge_times(alloc, &text, &examined.plan, &mut examined.findings)?;
+            examined.times = text;
+            Ok(times)
+        }
+        Err(refusal) => {
+            tell_unread(&mut examined.findings, FileKind::Times, refusal)?;
+            Ok(None)
+        }
+    }
+}
+
+// The intergreens of a text; none without a plan.
+fn judge_intergreens(
+    alloc: Global,
+    text: &[u8],
+    plan: &Option<Plan>,
+    findings: &mut Vec<Finding>,
+) -> Result<Option<Intergreens>, AllocError> {
+    let Some(plan) = plan else {
+        tell(
+            findings,
+            FileKind::Intergreens,
+            Spot::line(0),
+            Told::NotJudged,
+        )?;
+        return Ok(None);
+    };
+    match read_intergreens(alloc, text, plan) {
+        Ok(intergreens) => Ok(Some(intergreens)),
+        Err(refusal) => {
+            tell_table(findings, FileKind::Intergreens, refusal)?;
+            Ok(None)
+        }
+    }
+}
+
+// Reads and judges the intergreens.
+fn take_intergreens<F: Files>(
+    alloc: Global,
+    name: &str,
+    files: &mut F,
+    examined: &mut Examined,
+) -> Result<Option<Intergreens>, AllocError> {
+    match read_whole(alloc, files, name, TEXT_LIMIT) {
+        Ok(text) => {
+            let pairs = judge_intergreens(alloc, &text, &examined.plan, &mut examined.findings)?;
+            examined.intergreens = text;
+            Ok(pairs)
+        }
+        Err(refusal) => {
+            tell_unread(&mut examined.findings, FileKind::Intergreens, refusal)?;
+            Ok(None)
+        }
+    }
+}
+
+// Reads and judges the program.
+fn take_program<F: Files>(
+    alloc: Global,
+    name: &str,
+    files: &mut F,
+    examined: &mut Examined,
+) -> Result<Option<Judged>, AllocError> {
+    let text = match read_whole(alloc, files, name, TEXT_LIMIT) {
+        Ok(text) => text,
+        Err(refusal) => {
+            tell_unread(&mut examined.findings, FileKind::Program, refusal)?;
+            return Ok(None);
+        }
+    };
+    let judged = judge_program(alloc, &text);
+    examined.program = text;
+    match judged {
+        Ok(judged) => Ok(Some(judged)),
+        Err(ProgramStop::Memory) => Err(AllocError),
+        Err(ProgramStop::At(spot, refusal)) => {
+            let told = Told::Refused(refusal);
+            tell(&mut examined.findings, FileKind::Program, spot, told)?;
+            Ok(None)
+        }
+    }
+}
+
+// Reads and judges the detector file, where one is named.
+fn take_detectors<F: Files>(
+    alloc: Global,
+    name: Option<&str>,
+    files: &mut F,
+    examined: &mut Examined,
+) -> Result<Option<Heard>, AllocError> {
+    let Some(name) = name else {
+        return Ok(None);
+    };
+    match heed(alloc, files, name)? {
+        Heeded::Heard(heard) => Ok(Some(heard)),
+        Heeded::Refused(spot, refusal, bytes) => {
+            examined.detectors = bytes;
+            let told = Told::Refused(refusal);
+            tell(&mut examined.findings, FileKind::Detectors, spot, told)?;
+            Ok(None)
+        }
+        Heeded::Unread => {
+            let whole = Spot::line(0);
+            tell(
+                &mut examined.findings,
+                FileKind::Detectors,
+                whole,
+                Told::Unread,
+            )?;
+            Ok(None)
+        }
+    }
+}
+
+// Warns of what the plan lacks at its site.
+fn warn_of_site(
+    alloc: Global,
+    plan: &Plan,
+    text: &[u8],
+    tables: (Option<Times>, Option<Intergreens>),
+    findings: &mut Vec<Finding>,
+) -> Result<(), AllocError> {
+    let lines = PlanLines::of(alloc, text, plan)?;
+    warn_of_plan(plan, &lines, findings)?;
+    let (times, intergreens) = tables;
+    if let Some(times) = times {
+        if let Some(intergreens) = intergreens {
+            return warn_of_interstages(alloc, plan, times, intergreens, &lines, findings);
+        }
+    }
+    Ok(())
+}
+
+// Warns of what the program names and never has.
+fn warn_of_program(
+    alloc: Global,
+    source: &Source<'_>,
+    plan: &Option<Plan>,
+    heard: Option<Heard>,
+    findings: &mut Vec<Finding>,
+) -> Result<(), AllocError> {
+    let uses = uses_of(alloc, source.checked)?;
+    warn_of_variables(alloc, source, &uses, findings)?;
+    if let Some(plan) = plan {
+        warn_of_parts(source, plan, &uses.calls, findings)?;
+    }
+    warn_of_detectors(source, &uses.calls, findings)?;
+    match heard {
+        Some(heard) => warn_of_silence(source, &uses.calls, heard, findings),
+        None => Ok(()),
+    }
+}
+
+// Nothing found yet.
+fn nothing(alloc: Global) -> Examined {
+    Examined {
+        findings: Vec::new(alloc),
+        plan: None,
+        pua: Vec::new(alloc),
+        times: Vec::new(alloc),
+        intergreens: Vec::new(alloc),
+        program: Vec::new(alloc),
+        detectors: Vec::new(alloc),
+    }
+}
+
+/// Reads and judges all files of a junction in the order PUA, times, intergreens, program, detectors, and finds what a run would
+/// accept in silence. Its one failure is want of memory.
+pub fn examine<F: Files>(
+    alloc: Global,
+    names: &SiteNames<'_>,
+    files: &mut F,
+) -> Result<Examined, AllocError> {
+    let mut examined = nothing(alloc);
+    take_plan(alloc, names.pua, files, &mut examined)?;
+    let times = take_times(alloc, names.times, files, &mut examined)?;
+    let intergreens = take_intergreens(alloc, names.intergreens, files, &mut examined)?;
+    let judged = take_program(alloc, names.program, files, &mut examined)?;
+    let heard = take_detectors(alloc, names.detectors, files, &mut examined)?;
+    if let Some(plan) = &examined.plan {
+        let tables = (times, intergreens);
+        warn_of_site(alloc, plan, &examined.pua, tables, &mut examined.findings)?;
+    }
+    if let Some(judged) = &judged {
+        let source = Source {
+            text: &examined.program,
+            tokens: judged.tokens.as_slice(),
+            checked: &judged.checked,
+        };
+        warn_of_program(
+            alloc,
+            &source,
+            &examined.plan,
+            heard,
+            &mut examined.findings,
+        )?;
+    }
+    Ok(examined)
+}

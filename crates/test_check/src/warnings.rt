@@ -1,0 +1,101 @@
+// Each warning, with the whole text.
+use crate::cases::{Case, PROGRAM, WARNED, found};
+use std::test::Fail;
+
+const OF_PROGRAMS: [Case<'static>; 6] = [
+    Case {
+        program: b"PROGRAM p;\nwish := 0;\nIF wihs THEN\n  Interstage(1, 2) END;\nIF Detection(1) AND wihs THEN x := 1 END;\nPROG_ENDE: .\n",
+        text: b"p.vap:3: unassigned-variable: the variable `wihs` is read and never assigned, so it is always 0\n  IF wihs THEN\n     ^^^^\nfiles refused: 0, warnings: 1\n",
+        ..WARNED
+    },
+    Case {
+        program: b"PROGRAM p;\nCONST cars = 9;\nIF Detection(1) AND Current_state(cars, green) AND\n  T_red(3) > 1 THEN Sg_red(2) END;\nPROG_ENDE: .\n",
+        text: b"p.vap:3: unknown-group: the plan has no signal group with the number 9; groups go by their numbers in the PUA file\n  IF Detection(1) AND Current_state(cars, green) AND\n                                    ^^^^\np.vap:4: unknown-group: the plan has no signal group with the number 3; groups go by their numbers in the PUA file\n    T_red(3) > 1 THEN Sg_red(2) END;\n          ^\nfiles refused: 0, warnings: 2\n",
+        ..WARNED
+    },
+    Case {
+        program: b"PROGRAM p;\nIF Detection(1) AND Stage_active(3) THEN Interstage(0, 2) END;\nPROG_ENDE: .\n",
+        text: b"p.vap:2: unknown-stage: the plan has no stage 3; stages go by their places in the PUA file, from 1\n  IF Detection(1) AND Stage_active(3) THEN Interstage(0, 2) END;\n                                   ^\np.vap:2: unknown-stage: the plan has no stage 0; stages go by their places in the PUA file, from 1\n  IF Detection(1) AND Stage_active(3) THEN Interstage(0, 2) END;\n                                                      ^\nfiles refused: 0, warnings: 2\n",
+        ..WARNED
+    },
+    Case {
+        program: b"PROGRAM p;\nIF Detection(1) THEN\n  Clear_front_ends(65) END;\nPROG_ENDE: .\n",
+        text: b"p.vap:3: unknown-detector: 65 is no detector; they have the numbers 1 to 64\n    Clear_front_ends(65) END;\n                     ^^\nfiles refused: 0, warnings: 1\n",
+        ..WARNED
+    },
+    Case {
+        program: b"PROGRAM p;\nIF Detection(1) THEN Interstage(2, 2) END;\nPROG_ENDE: .\n",
+        text: b"p.vap:2: missing-interstage: the plan has no interstage from stage 2 to stage 2\n  IF Detection(1) THEN Interstage(2, 2) END;\n                                  ^\nfiles refused: 0, warnings: 1\n",
+        ..WARNED
+    },
+    Case {
+        program: b"PROGRAM p;\nIF Detection(1) THEN x := Headway(12) END;\ny := Occupancy(12);\nPROG_ENDE: .\n",
+        text: b"p.vap:2: silent-detector: the program reads detector 12, and the detector file never has it\n  IF Detection(1) THEN x := Headway(12) END;\n                                    ^^\nfiles refused: 0, warnings: 1\n",
+        ..WARNED
+    },
+];
+
+// Three groups, of which no stage has K3 green; a third stage without ways; and interstages whose K2 is late, and whose K1 is early.
+const LACKING: &[u8] = b"\
+$SIGNAL_GROUPS\n\
+K1 1\n\
+K2 2\n\
+K3 3\n\
+$STAGES\n\
+S1 K1\n\
+S2 K2\n\
+S3 K2\n\
+$STARTING_STAGE\n\
+S1\n\
+$INTERSTAGE1\n\
+length: 8\n\
+from stage: 1\n\
+to stage: 2\n\
+K1 -127 0\n\
+K2 6 127\n\
+$INTERSTAGE2\n\
+length: 5\n\
+from stage: 2\n\
+to stage: 1\n\
+K2 -127 0\n\
+K1 2 127\n\
+$STAGE\n\
+$END\n";
+
+const OF_PLANS: Case<'static> = Case {
+    program: PROGRAM,
+    pua: LACKING,
+    times: b"group,min_green,red_amber,amber\nK1,10,1,3\nK2,8,1,3\nK3,5,0,0\n",
+    text: b"p.pua:23: misspelt-section: this line is a comment, since the word is none of a section; is `$STAGES` meant?
+  $STAGE
+  ^^^^^^
+p.pua:8: stage-without-way: no interstage leads from or to stage 3, so a run never comes to it
+  S3 K2
+  ^^
+p.pua:4: group-never-green: no stage has K3 green
+  K3 3
+  ^^
+p.pua:16: late-red-end: in the interstage from stage 1 to stage 2 the red of K2 ends in second 6, where by red-amber and intergreens second 4 would do
+  K2 6 127
+  ^^
+p.pua:17: interstage-not-clean: the interstage from stage 2 to stage 1 is not carried out as it stands: in its second 2 the guard refuses K1:Intergreen:K2
+  $INTERSTAGE2
+  ^^^^^^^^^^^^
+files refused: 0, warnings: 5
+",
+    ..WARNED
+};
+
+#[test]
+fn programs_are_warned_of(rt: HostRuntime) -> Result<(), Fail> {
+    for case in OF_PROGRAMS {
+        assert_eq!(rt; found(rt.alloc(), &case)?.as_slice(), case.text);
+    }
+    Ok(())
+}
+
+#[test]
+fn plans_are_warned_of(rt: HostRuntime) -> Result<(), Fail> {
+    assert_eq!(rt; found(rt.alloc(), &OF_PLANS)?.as_slice(), OF_PLANS.text);
+    Ok(())
+}
