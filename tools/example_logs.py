@@ -1,9 +1,9 @@
 #!/usr/bin/env python3
-"""tools/example_logs.py PROGRAM
+"""tools/example_logs.py PROGRAM CHECK
 
 Writes what the gate compares of the examples, after a change of an example or of what a log says: in the crate test_examples, which
-runs and judges them all, copies of their files, their logs, the words and the output. PROGRAM is a built `junction`. It stops where
-a run or an audit fails, or a log isn't safe. Look at the difference before it is committed."""
+checks, runs and judges them all, copies of their files, their logs, the words and the output. PROGRAM is a built `junction`, and
+CHECK a built `junction_check`. It stops where a call fails, a log isn't safe, or something is found in the files. Look at the difference before it is committed."""
 import shutil
 import subprocess
 import sys
@@ -24,7 +24,7 @@ def call(program, words):
 
 
 def calls_of(folder):
-    """The words that run the example of a folder, and those that judge its log."""
+    """The words that check the files of the example of a folder, those that run it, and those that judge its log."""
     example = folder.relative_to(EXAMPLES)
     (code,) = folder.glob("*.vap")
     detectors = folder / "detectors.txt"
@@ -34,28 +34,29 @@ def calls_of(folder):
     for name in [code.name, "junction.pua", *TABLES, detectors.name]:
         (DATA / example).mkdir(parents=True, exist_ok=True)
         shutil.copyfile(folder / name, DATA / example / name)
-    run = ["run", str(example / code.name), *site, str(example / detectors.name)]
-    return run, ["audit", str(example / "log.txt"), *site]
+    words = [str(example / code.name), *site, str(example / detectors.name)]
+    return ["check", *words], ["run", *words], ["audit", str(example / "log.txt"), *site]
 
 
 def main():
-    program = str(Path(sys.argv[1]).resolve())
+    program, checker = (str(Path(word).resolve()) for word in sys.argv[1:])
     shutil.rmtree(DATA, ignore_errors=True)
     calls, output = [], b""
     for plan in sorted(EXAMPLES.glob("**/junction.pua")):
-        run, audit = calls_of(plan.parent)
+        check, run, audit = calls_of(plan.parent)
+        found = call(checker, check[1:])
         log = call(program, run)
         (DATA / audit[1]).write_bytes(log)
         verdict = call(program, audit)
         if not verdict.startswith(b"SAFE "):
             sys.exit(f"{audit[1]}: {verdict.decode()}")
-        output += log + verdict
-        calls += [run, audit]
+        output += found + log + verdict
+        calls += [check, run, audit]
     (CRATE / "args").write_text("\n--\n".join("\n".join(words) for words in calls) + "\n", encoding="utf-8")
     (CRATE / "stdout").write_bytes(output)
 
 
 if __name__ == "__main__":
-    if len(sys.argv) != 2:
+    if len(sys.argv) != 3:
         sys.exit(__doc__)
     main()

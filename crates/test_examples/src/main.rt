@@ -1,13 +1,32 @@
-//! Runs the examples: several calls of the program one after another, over the files of the system.
+//! Runs the examples: several calls one after another, over the files of the system.
 //!
-//! The words of a call end at `--` or at the end of all. It stops at the first call that doesn't answer `Status::Done`, with its
-//! exit status, as the program has it.
+//! The words of a call end at `--` or at the end of all. A call whose first word is `check` is one of `junction_check`, with the
+//! words behind it, and any other one is one of `junction`. It stops at the first call that doesn't do all, or finds something in
+//! the files, with its exit status.
 #![tactic(auto)]
 
 use junction_run::{Status, exit_status, junction};
-use sig_io::{DiskFiles, ErrSink, OutSink};
+use sig_io::{DiskFiles, ErrSink, Files, OutSink, Sink};
+use site_check::{check_junction, check_status};
+use std::alloc::Global;
 use std::env;
 use std::process::ExitCode;
+
+// The exit status of a call.
+fn call<F: Files, O: Sink, N: Sink>(
+    alloc: Global,
+    words: &[String],
+    files: &mut F,
+    out: &mut O,
+    notes: &mut N,
+) -> u8 {
+    match words {
+        [first, site @ ..] if first.as_str() == "check" => {
+            check_status(check_junction(alloc, site, files, out, notes))
+        }
+        _ => exit_status(junction(alloc, words, files, out, notes)),
+    }
+}
 
 fn main(rt: HostRuntime) -> ExitCode {
     let alloc = rt.alloc();
@@ -23,10 +42,10 @@ fn main(rt: HostRuntime) -> ExitCode {
         Ok(words) => words,
         Err(_) => return ExitCode::from(exit_status(Status::Memory)),
     };
-    for call in words.split(|word| word.as_str() == "--") {
-        let status = junction(alloc, call, &mut files, &mut out, &mut notes);
-        if status != Status::Done {
-            return ExitCode::from(exit_status(status));
+    for words in words.split(|word| word.as_str() == "--") {
+        let status = call(alloc, words, &mut files, &mut out, &mut notes);
+        if status != 0 {
+            return ExitCode::from(status);
         }
     }
     ExitCode::from(exit_status(Status::Done))
