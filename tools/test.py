@@ -133,6 +133,43 @@ class Reasons(unittest.TestCase):
         self.assertEqual(self.words_of("signal_log/src/words.rt") - set(rules) - set(faults), set())
 
 
+class Sentences(unittest.TestCase):
+    """The sentences of junction_check are those of docs/reasons.md: each reason of its files has its sentences and its row."""
+
+    FILES = {
+        "pua": {"PUA"},
+        "table": {"times", "intergreens", "times, intergreens"},
+        "lex": {"program"},
+        "parse": {"program"},
+        "check": {"program"},
+        "stream": {"detectors"},
+        "too_long": {"any"},
+        "unread": {"any"},
+    }
+
+    def rows_of_the_page(self):
+        notes = (HERE.parent / "docs" / "reasons.md").read_text(encoding="utf-8").split("\n## ")[1]
+        for line in notes.split("\n"):
+            cells = [cell.strip().replace("\\|", "|") for cell in re.split(r"(?<!\\)\|", line)[1:-1]]
+            if line.startswith("| `") and cells[1] in set.union(*self.FILES.values()):
+                reason, of, *sentences = cells
+                word = re.match("`([A-Za-z]+)", reason).group(1)
+                yield word, of, *(re.sub(r"\[([^]]*)\]\([^)]*\)", r"\1", sentence) for sentence in sentences)
+
+    def test_each_has_its_row(self):
+        text = (HERE.parent / "crates" / "site_check" / "src" / "sentences.rt").read_text(encoding="utf-8")
+        string = r'"((?:[^"\\]|\\.)*)"'
+        told = set()
+        for part in re.split(r"pub\(crate\) fn ", text)[1:]:
+            of = self.FILES[re.match("[a-z_]+", part).group(0).removesuffix("_sentences")]
+            for cells in re.findall(r"\brow\(\s*" + r",\s*".join([string] * 4) + r",?\s*\)", part, re.DOTALL):
+                word, *sentences = (re.sub(r"\\\n\s*", "", cell).replace('\\"', '"') for cell in cells)
+                told.add((word, min(of) if len(of) == 1 else "table", *sentences))
+        page = {(word, "table" if of in self.FILES["table"] else of, *rest) for word, of, *rest in self.rows_of_the_page()}
+        self.assertGreater(len(told), 40)
+        self.assertEqual(told, page)
+
+
 class Crates(unittest.TestCase):
     """Each crate of crates.txt stands in both maps, and no other one does."""
 
