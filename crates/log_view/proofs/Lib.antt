@@ -1,0 +1,12 @@
+pub mod Marks
+pub mod Drawing
+pub mod Ranges
+pub mod Showable
+pub mod Reading
+pub mod Blocks
+pub mod SumLines
+pub mod Tallies
+pub mod Places
+pub mod Adding
+pub mod Summing
+pub mod Calls

@@ -1,0 +1,204 @@
+-- What is drawn of records that lines say can be shown.
+use Rattle.std.proofs.Common.{◌≡◌, ℕ, suc, zero, ◌+◌, ◌-◌, ◌*◌, ◌<◌, ◌≤◌, List, [], ◌∷◌, length, get_or, take, drop, map, Option, None, Some, refl, arith, inl, inr, ne_eqb, length-append}
+use Rattle.std.specs.List.{All, flat_map}
+use Rattle.std.proofs.lemmas.Bool.{cases_eq, cases_lt}
+use Rattle.std.proofs.lemmas.List.{length-map, length-take}
+use Rattle.std.proofs.lemmas.List.Elements.{All-append, All-map}
+use Rattle.sig_types.specs.declared.record.Record.{Record}
+use Rattle.sig_types.specs.declared.refused.Fault.{Fault}
+use Rattle.sig_types.specs.declared.refused.StageRefusal.{StageRefusal}
+use Rattle.sig_types.specs.declared.refused.TurnRefusal.{TurnRefusal}
+use Rattle.log_chart.specs.declared.stay.Stay.{Stay}
+use Rattle.log_chart.specs.Stays.{AreStays}
+use Rattle.sig_types.specs.declared.numbers.StagePlace.{StagePlace}
+use Rattle.sig_types.specs.declared.numbers.StagePlace.TheVariants.{NoPlan}
+use Rattle.log_svg.specs.declared.diagram.Diagram.{Diagram}
+use Rattle.log_svg.specs.declared.layout.Layout.{Layout}
+use Rattle.log_svg.specs.declared.marks.RefusalMark.{RefusalMark}
+use Rattle.log_svg.specs.declared.marks.Refused.TheVariants.{Command, Turn}
+use Rattle.log_svg.specs.Diagram.{IsShowable}
+use Rattle.log_svg.specs.Layout.{layout_of}
+use Rattle.log_svg.specs.Marks.{IsFaultIn, IsFrontIn, IsMarked}
+use Rattle.log_svg.specs.ShownIn.{shown_in}
+use Rattle.log_view.specs.declared.form.Window.{Window}
+use Rattle.log_view.specs.Drawn.{AreSaid, IsDrawn}
+use Rattle.log_view.specs.Form.{IsWindow}
+use Rattle.log_view.specs.Gathered.{fault_by, faults_in, front_by, fronts_from, fronts_in, history_of, places_of, refusals_in, window_in}
+use Rattle.log_view.proofs.Ranges.{AreFew, IsRanged, ranged}
+
+none_of : {A : Type 0} (P : A → Type 0) → All P []
+none_of P = λ i d lt. absurd (omega arith)
+
+one_of : {A : Type 0} (P : A → Type 0) (x : A) → P x → All P (x ∷ [])
+one_of P x is = λ i d lt. elim (cases_eq i 0) [
+  | inl first ↦ rw first is
+  | inr other ↦ absurd (omega (arith, lt, other))
+]
+
+-- each record of a list adds only such
+pub all_added : {A : Type 0} (P : A → Type 0) (f : Record → List A) (rs : List Record) → All (λ r. All P (f r)) rs → All P (flat_map f rs)
+all_added P f [] each = none_of P
+all_added P f (r ∷ rs) each = All-append P (f r) (flat_map f rs) (each 0 r (omega arith)) (all_added P f rs (λ i d lt. each (suc i) d (omega arith)))
+
+-- and so many at most
+pub added_most : {A : Type 0} (f : Record → List A) (most : ℕ) (rs : List Record) → All (λ r. length (f r) ≤ most) rs → length (flat_map f rs) ≤ length rs * most
+added_most f most [] each = omega arith
+added_most f most (r ∷ rs) each =
+    let first = each 0 r (omega arith) in
+    let rest = added_most f most rs (λ i d lt. each (suc i) d (omega arith)) in
+    omega (arith, first, rest, length-append (f r) (flat_map f rs))
+
+-- the stays of a chart are at most as many as its seconds
+stays_apart : (a : ℕ → StagePlace) (from past : ℕ) (stays : List Stay) → AreStays a from past stays → (d : Stay) (i : ℕ) → i < length stays → from + i ≤ (get_or stays i d).first.0
+stays_apart a from past stays are d zero lt = omega (arith, (are.each 0 d lt).begin)
+stays_apart a from past stays are d (suc i) lt =
+    let before = stays_apart a from past stays are d i (omega arith) in
+    let order = (are.each i d (omega arith)).order in
+    let apart = are.rises i (suc i) d (omega arith) lt in
+    omega (arith, before, order, apart)
+
+few_stays : (a : ℕ → StagePlace) (from past : ℕ) (stays : List Stay) → AreStays a from past stays → (d : Stay) → length stays ≤ past - from
+few_stays a from past stays are d = elim (cases_lt 0 (length stays)) [
+  | inl some ↦ (
+      let inside : length stays - 1 < length stays = omega arith in
+      let last = stays_apart a from past stays are d (length stays - 1) inside in
+      let each = are.each (length stays - 1) d inside in
+      omega (arith, last, each.order, each.end))
+  | inr none ↦ omega arith
+]
+
+-- a record of the window, by its second
+pub record IsRangedIn (n from to : ℕ) (r : Record) : Type 0 where
+  pub begin : from ≤ r.second.0
+  pub end : r.second.0 ≤ to
+  pub frame : length r.frame ≡ 64
+  pub refused : AreFew n (r.stages, r.turns)
+
+-- the records of a list from place i on, of which the first has second `first`
+abbrev AreRanged : ℕ → ℕ → List Record → Type 0
+AreRanged n first rs = (k : ℕ) (d : Record) → k < length rs → IsRanged n (first + k) (get_or rs k d)
+
+ranged_more : (n first : ℕ) (r : Record) (rs : List Record) → AreRanged n first (r ∷ rs) → AreRanged n (first + 1) rs
+ranged_more n first r rs are k d lt =
+    let place : first + suc k ≡ first + 1 + k = omega arith in
+    rw place at (are (suc k) d (omega arith))
+
+ranged_from : (n i first : ℕ) (rs : List Record) → AreRanged n first rs → AreRanged n (first + i) (drop i rs)
+ranged_from n zero first rs are = let same : first + 0 ≡ first = omega arith in rw same are
+ranged_from n (suc i) first [] are = λ k d lt. absurd (omega arith)
+ranged_from n (suc i) first (r ∷ rs) are =
+    let same : first + 1 + i ≡ first + suc i = omega arith in
+    rw same at (ranged_from n i (first + 1) rs (ranged_more n first r rs are))
+
+ranged_take : (n first k : ℕ) (rs : List Record) → AreRanged n first rs → All (IsRangedIn n first (first + k - 1)) (take k rs)
+ranged_take n first zero rs are = none_of (IsRangedIn n first (first + 0 - 1))
+ranged_take n first (suc k) [] are = none_of (IsRangedIn n first (first + suc k - 1))
+ranged_take n first (suc k) (r ∷ rs) are = λ i d lt. elim (cases_eq i 0) [
+  | inl none ↦ (
+      let is = are 0 r (omega arith) in
+      rw none record { begin = omega (arith, is.second); end = omega (arith, is.second); frame = is.frame; refused = is.refused })
+  | inr some ↦ (
+      let rest = ranged_take n (first + 1) k rs (ranged_more n first r rs are) (i - 1) d (omega (arith, some)) in
+      let place : i ≡ suc (i - 1) = omega (arith, some) in
+      rw place record { begin = omega (arith, rest.begin); end = omega (arith, rest.end); frame = rest.frame; refused = rest.refused })
+]
+
+-- the records of a window are in it
+window_ranged : (names : List (List ℕ)) (records : List Record) (from to : ℕ) → 1 ≤ from → from ≤ to → AreSaid names records → All (IsRangedIn (length names) from to) (window_in from to records)
+window_ranged names records from to least order said =
+    let all : AreRanged (length names) 1 records = λ k d lt.
+    let s = said k d lt in
+    let place : k + 1 ≡ 1 + k = omega arith in
+    rw place at (ranged names (k + 1) s.0 (get_or records k d) s.1) in
+    let first : 1 + (from - 1) ≡ from = omega arith in
+    let last : from + (to + 1 - from) - 1 ≡ to = omega arith in
+    rw last at (ranged_take (length names) from (to + 1 - from) (drop (from - 1) records) (rw first at (ranged_from (length names) (from - 1) 1 records all)))
+
+window_most : (records : List Record) (from to : ℕ) → length (window_in from to records) ≤ to + 1 - from
+window_most records from to = omega (arith, length-take (to + 1 - from) (drop (from - 1) records))
+
+-- the marks of a record
+fronts_ok : (layout : Layout) (s d : ℕ) (cs : List (ℕ × ℕ)) → layout.from ≤ s → s ≤ layout.to → 1 ≤ d → d + length cs ≤ 65 → All (IsFrontIn layout) (fronts_from s d cs)
+fronts_ok layout s d [] begin end least most = none_of (IsFrontIn layout)
+fronts_ok layout s d (c ∷ cs) begin end least most =
+    All-append (IsFrontIn layout) (front_by s d c.0) (fronts_from s (d + 1) cs) (front_ok c.0) (fronts_ok layout s (d + 1) cs begin end (omega arith) (omega (arith, most)))
+  where
+    front_ok : (fronts : ℕ) → All (IsFrontIn layout) (front_by s d fronts)
+    front_ok fronts = elim (cases_eq fronts 0) [
+      | inl none ↦ rw none (none_of (IsFrontIn layout))
+      | inr some ↦ rw (ne_eqb fronts 0 some)
+          (one_of (IsFrontIn layout) (record { second = s; detector = record { 0 = d }; fronts = fronts }) record { begin = begin; end = end; least = least; most = omega (arith, most) })
+    ]
+
+fronts_most : (s d : ℕ) (cs : List (ℕ × ℕ)) → length (fronts_from s d cs) ≤ length cs
+fronts_most s d [] = omega arith
+fronts_most s d (c ∷ cs) =
+    let rest = fronts_most s (d + 1) cs in
+    let first = front_most c.0 in
+    omega (arith, rest, first, length-append (front_by s d c.0) (fronts_from s (d + 1) cs))
+  where
+    front_most : (fronts : ℕ) → length (front_by s d fronts) ≤ 1
+    front_most fronts = elim (cases_eq fronts 0) [
+      | inl none ↦ rw none (omega arith)
+      | inr some ↦ rw (ne_eqb fronts 0 some) (omega arith)
+    ]
+
+fault_ok : (layout : Layout) (s : ℕ) (fault : Option Fault) → layout.from ≤ s → s ≤ layout.to → All (IsFaultIn layout) (fault_by s fault)
+fault_ok layout s None begin end = none_of (IsFaultIn layout)
+fault_ok layout s (Some f) begin end = one_of (IsFaultIn layout) _ (begin, end)
+
+fault_most : (s : ℕ) (fault : Option Fault) → length (fault_by s fault) ≤ 1
+fault_most s None = omega arith
+fault_most s (Some f) = omega arith
+
+refusals_ok : (n : ℕ) (layout : Layout) (r : Record) → layout.from ≤ r.second.0 → r.second.0 ≤ layout.to → AreFew n (r.stages, r.turns) → All (IsMarked n layout) (refusals_in r)
+refusals_ok n layout r begin end few =
+    All-append (IsMarked n layout) _ _
+    (All-map (IsMarked n layout) (λ (x : StageRefusal). record { second = r.second.0; refused = Command x }) r.stages
+    (λ i d lt. record { begin = begin; end = end; groups_are = tt }))
+    (All-map (IsMarked n layout) (λ (x : TurnRefusal). record { second = r.second.0; refused = Turn x }) r.turns
+    (λ i d lt. record { begin = begin; end = end; groups_are = few.groups i d lt }))
+
+refusals_most : (n : ℕ) (r : Record) → AreFew n (r.stages, r.turns) → length (refusals_in r) ≤ 10064
+refusals_most n r few =
+    let stages : List RefusalMark = map (λ (x : StageRefusal). record { second = r.second.0; refused = Command x }) r.stages in
+    let turns : List RefusalMark = map (λ (x : TurnRefusal). record { second = r.second.0; refused = Turn x }) r.turns in
+    omega (
+      arith,
+      few.stages,
+      few.turns,
+      length-append stages turns,
+      length-map {B = RefusalMark} r.stages (λ (x : StageRefusal). record { second = r.second.0; refused = Command x }),
+      length-map {B = RefusalMark} r.turns (λ (x : TurnRefusal). record { second = r.second.0; refused = Turn x }),
+    )
+
+-- a diagram of a whole window can be shown
+pub showable : (names : List (List ℕ)) (records : List Record) (window : Window) (d : Diagram) → IsWindow window → length names ≤ 64 → AreSaid names records → window.to ≤ length records →
+    IsDrawn names records window.from window.to d → IsShowable (shown_in d)
+showable names records window d is few said long drawn =
+    let from = window.from in
+    let to = window.to in
+    let layout : Layout = layout_of names from to in
+    let past : d.chart.past ≡ to + 1 = omega (arith, drawn.past_is, long, is.order) in
+    let inside = window_ranged names records from to is.least is.order said in
+    let seconds = window_most records from to in
+    let stays : AreStays (places_of records) from (to + 1) d.stays.items = rw past at (drawn.stays (places_of records) (λ t le. refl)) in
+    rw (drawn.names_are, drawn.from_is, drawn.to_is, drawn.fronts, drawn.refusals, drawn.faults) record {
+      order = is.order;
+      hour = is.hour;
+      last = omega (arith, is.last);
+      few = few;
+      history = history_of (length names) records;
+      chart = rw past at (drawn.chart (history_of (length names) records) (λ t le. refl));
+      stays = λ i s lt. let each = stays.each i s lt in record { begin = each.begin; order = each.order; end = omega (arith, each.end) };
+      few_stays = omega (arith, few_stays (places_of records) from (to + 1) d.stays.items stays (record { place = NoPlan; first = record { 0 = 0 }; last = record { 0 = 0 } }), is.hour);
+      fronts = all_added (IsFrontIn layout) fronts_in (window_in from to records) (λ i r lt. let each = inside i r lt in
+          fronts_ok layout (get_or (window_in from to records) i r).second.0 1 (get_or (window_in from to records) i r).frame each.begin each.end (omega arith) (omega (arith, each.frame)));
+      few_fronts = omega (arith, added_most fronts_in 64 (window_in from to records) (λ i r lt. omega (arith, fronts_most (get_or (window_in from to records) i r).second.0 1 (get_or (window_in from to records) i r).frame, (inside i r lt).frame)), seconds, is.hour);
+      refusals = all_added (IsMarked (length names) layout) refusals_in (window_in from to records) (λ i r lt. let each = inside i r lt in
+          refusals_ok (length names) layout (get_or (window_in from to records) i r) each.begin each.end each.refused);
+      few_refusals = omega (arith, added_most refusals_in 10064 (window_in from to records) (λ i r lt. refusals_most (length names) (get_or (window_in from to records) i r) (inside i r lt).refused), seconds, is.hour);
+      faults = all_added (IsFaultIn layout) faults_in (window_in from to records) (λ i r lt. let each = inside i r lt in
+          fault_ok layout (get_or (window_in from to records) i r).second.0 (get_or (window_in from to records) i r).fault each.begin each.end);
+      few_faults = omega (arith, added_most faults_in 1 (window_in from to records) (λ i r lt. fault_most (get_or (window_in from to records) i r).second.0 (get_or (window_in from to records) i r).fault), seconds, is.hour);
+    }

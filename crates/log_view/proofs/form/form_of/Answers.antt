@@ -1,0 +1,36 @@
+use Rattle.std.proofs.Common.{◌≡◌, ◌<◌, ◌≤◌, rules, ℕ, List, [], ◌∷◌, length, map, Err, string_bytes, Global, refl, arith}
+use Rattle.std.proofs.lemmas.List.{length-map}
+use Rattle.log_view.specs.declared.stop.Stop.TheVariants.{Words}
+use Rattle.log_view.specs.Form.{form_of}
+use Rattle.log_view.proofs.form.form_of.Goals.{
+  in_default-via-then-words-lt1,
+  in_default-via-else-words-lt1+else-words-lt2+else-words-lt3+then-words-lt4,
+  in_default-via-else-words-lt1+else-words-lt2+else-words-lt3+else-words-lt4+else-words-lt5,
+}
+use Rattle.log_view.proofs.form.form_of.Goals as goal
+
+-- no form has another number of words
+no_form : (words : List (List ℕ)) → (length words ≡ 1 → ⊥) → (length words ≡ 2 → ⊥) → (length words ≡ 4 → ⊥) → Err Words ≡ form_of words
+no_form [] one two four = refl
+no_form (a ∷ []) one two four = absurd (one refl)
+no_form (a ∷ b ∷ []) one two four = absurd (two refl)
+no_form (a ∷ b ∷ c ∷ []) one two four = refl
+no_form (a ∷ b ∷ c ∷ d ∷ []) one two four = absurd (four refl)
+no_form (a ∷ b ∷ c ∷ d ∷ e ∷ words) one two four = refl
+
+pub returns-in_default-clause-form : goal.returns-in_default-clause-form
+returns-in_default-clause-form c =
+    let words : List (List ℕ) = map (string_bytes {Z = Global}) c.args.words.now in
+    let same : length words ≡ length c.args.words.now = length-map c.args.words.now (string_bytes {Z = Global}) in
+    elim c.in_default.branch [
+      | in_default-via-then-words-lt1 w ↦
+          let less : length c.args.words.now < 1 = search rules in
+          no_form words (λ e. omega (arith, e, same, less)) (λ e. omega (arith, e, same, less)) (λ e. omega (arith, e, same, less))
+      | in_default-via-else-words-lt1+else-words-lt2+else-words-lt3+then-words-lt4 w ↦
+          let more : 3 ≤ length c.args.words.now = search rules in
+          let less : length c.args.words.now < 4 = search rules in
+          no_form words (λ e. omega (arith, e, same, more)) (λ e. omega (arith, e, same, more)) (λ e. omega (arith, e, same, less))
+      | in_default-via-else-words-lt1+else-words-lt2+else-words-lt3+else-words-lt4+else-words-lt5 w ↦
+          let more : 5 ≤ length c.args.words.now = search rules in
+          no_form words (λ e. omega (arith, e, same, more)) (λ e. omega (arith, e, same, more)) (λ e. omega (arith, e, same, more))
+    ]

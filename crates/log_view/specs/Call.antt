@@ -1,0 +1,100 @@
+-- What a call of `log_report` answers.
+use Rattle.std.specs.Prelude.{◌≡◌, ◌++◌, ℕ, List, codes, Option, Result, Ok, Err}
+use Rattle.std.specs.Option.{ForSome}
+use Rattle.std.specs.Io.KnownBytes.{append_known}
+use Rattle.sig_io.specs.Draft.{IsCut}
+use Rattle.sig_io.specs.Outside.{Contents, Rose}
+use Rattle.log_svg.specs.declared.diagram.Diagram.{Diagram as Drawn}
+use Rattle.log_svg.specs.Diagram.{diagram_text}
+use Rattle.log_svg.specs.ShownIn.{shown_in}
+use Rattle.log_view.specs.declared.stop.Status.{Status}
+use Rattle.log_view.specs.declared.stop.Status.TheVariants.{Done}
+use Rattle.log_view.specs.declared.stop.Stop.{Stop}
+use Rattle.log_view.specs.declared.stop.Stop.TheVariants.{Memory, Words, TooManySeconds, ReadFault, WriteFault, Line, LogEnds}
+use Rattle.log_view.specs.declared.sums.Sums.{Sums as Summed}
+use Rattle.log_view.specs.Answers.{IsDiagramOf, IsSumsOf, IsUndrawn, IsUnsummed}
+use Rattle.log_view.specs.Form.{Asked, Diagram, Help, Sums, Text, Version, form_of}
+use Rattle.log_view.specs.Letters.{letters_text}
+use Rattle.log_view.specs.Notes.{status_of, stop_note}
+use Rattle.log_view.specs.SumsText.{sums_text}
+
+-- how it is called
+unfoldable pub usage_text : List ℕ
+usage_text =
+    codes "log_report diagram LOG FROM TO   an SVG signal timing diagram of these seconds, at most 3600\n"
+    ++ codes "log_report text LOG FROM TO      the same as characters\n"
+    ++ codes "log_report sums LOG              what groups, stages, refusals, faults and detectors add up to\n"
+    ++ codes "log_report --help | --version    this text; the version\n"
+
+abbrev pub version_text : List ℕ
+version_text = codes "log_report 0.1.0\n"
+
+-- the text that is asked for, of files with these contents
+abbrev pub IsTextOf : Asked → Contents → List ℕ → Type 0
+IsTextOf Help file text = text ≡ usage_text
+IsTextOf Version file text = text ≡ version_text
+IsTextOf (Diagram log window) file text = (d : Drawn) × IsDiagramOf (file log) window d × (text ≡ diagram_text (shown_in d))
+IsTextOf (Text log window) file text = (d : Drawn) × IsDiagramOf (file log) window d × (text ≡ letters_text (shown_in d))
+IsTextOf (Sums log) file text = (s : Summed) × IsSumsOf (file log) s × (text ≡ sums_text s)
+
+-- why there is no such text
+abbrev pub HasNoText : Asked → Contents → Stop → Type 0
+HasNoText Help file stop = ⊥
+HasNoText Version file stop = ⊥
+HasNoText (Diagram log window) file stop = IsUndrawn (file log) window.to stop
+HasNoText (Text log window) file stop = IsUndrawn (file log) window.to stop
+HasNoText (Sums log) file stop = IsUnsummed (file log) stop
+
+-- a sink has taken the text, or only its first bytes, and failed
+abbrev pub IsWritten : List ℕ → Result (Unit {0}) Stop → Option (List ℕ) → Option (List ℕ) → Type 0
+IsWritten text (Ok x) old new = new ≡ append_known old text
+IsWritten text (Err stop) old new = (stop ≡ WriteFault) × ((n : ℕ) × IsCut old new n text)
+
+-- where a call stops: nothing is written, but where the sink fails while the text is written
+abbrev pub IsStopped : Asked → Contents → Stop → Option (List ℕ) → Option (List ℕ) → Type 0
+IsStopped asked file Memory old new = (new ≡ old) × HasNoText asked file Memory
+IsStopped asked file Words old new = ⊥
+IsStopped asked file TooManySeconds old new = ⊥
+IsStopped asked file ReadFault old new = (new ≡ old) × HasNoText asked file ReadFault
+IsStopped asked file WriteFault old new = (text : List ℕ) × IsTextOf asked file text × ((n : ℕ) × IsCut old new n text)
+IsStopped asked file (Line line why) old new = (new ≡ old) × HasNoText asked file (Line line why)
+IsStopped asked file (LogEnds last) old new = (new ≡ old) × HasNoText asked file (LogEnds last)
+
+-- what a call gives that asks for this, of files with these contents
+abbrev pub IsAnswered : Asked → Contents → Result (Unit {0}) Stop → Option (List ℕ) → Option (List ℕ) → Type 0
+IsAnswered asked file (Ok x) old new = (text : List ℕ) × IsTextOf asked file text × (new ≡ append_known old text)
+IsAnswered asked file (Err stop) old new = IsStopped asked file stop old new
+
+-- what an object of the outside tells, and its count of faults, before a call and after it
+pub record Seen (T : Type 0) : Type 0 where
+  pub old : Option T
+  pub new : Option T
+  pub before : ℕ
+  pub after : ℕ
+
+abbrev pub seen : {T : Type 0} → (old new : Option T) → (before after : ℕ) → Seen T
+seen old new before after = record { old = old; new = new; before = before; after = after }
+
+-- how a call ends that gives this
+abbrev pub status_by : Result (Unit {0}) Stop → Status
+status_by (Ok x) = Done
+status_by (Err stop) = status_of stop
+
+-- the note of a call that gives this: none where all was done
+abbrev pub IsNoted : Result (Unit {0}) Stop → Seen (List ℕ) → Type 0
+IsNoted (Ok x) notes = notes.new ≡ notes.old
+IsNoted (Err stop) notes = (Rose notes.before notes.after → ⊥) → notes.new ≡ append_known notes.old (stop_note stop)
+
+-- words that are no form are not answered; what a form asks for is answered where the files tell what they hold
+abbrev pub IsAnswerTo : Result Asked Stop → Seen Contents → Seen (List ℕ) → Result (Unit {0}) Stop → Type 0
+IsAnswerTo (Err stop) files out given = (given ≡ Err stop) × (out.new ≡ out.old)
+IsAnswerTo (Ok asked) files out given = ForSome files.old (λ file. IsAnswered asked file given out.old out.new)
+
+-- what the top call answers to these words, over files, a sink for the text and one for the note
+pub record IsReported (words : List (List ℕ)) (files : Seen Contents) (out notes : Seen (List ℕ)) (status : Status) : Type 0 where
+  pub given : Result (Unit {0}) Stop
+  pub answer : IsAnswerTo (form_of words) files out given
+  pub status_is : status ≡ status_by given
+  pub note : IsNoted given notes
+  pub read_fault : given ≡ Err ReadFault → Rose files.before files.after
+  pub write_fault : given ≡ Err WriteFault → Rose out.before out.after

@@ -1,0 +1,11 @@
+pub mod Form
+pub mod Asked
+pub mod Notes
+pub mod Gathered
+pub mod Drawn
+pub mod Summed
+pub mod SumsText
+pub mod Letters
+pub mod Answers
+pub mod Call
+pub mod Adding

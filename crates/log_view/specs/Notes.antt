@@ -1,0 +1,63 @@
+-- How a call that stopped ends, and its note.
+use Rattle.std.specs.Prelude.{ℕ, List, ◌++◌, codes}
+use Rattle.std.specs.Fmt.{decimal}
+use Rattle.log_records.specs.declared.refusal.LogWhy.{LogWhy}
+use Rattle.log_records.specs.declared.refusal.LogWhy.TheVariants as why
+use Rattle.log_records.specs.declared.refusal.LogStop.{LogStop}
+use Rattle.log_records.specs.declared.refusal.LogStop.TheVariants as log
+use Rattle.log_view.specs.declared.stop.Status.{Status}
+use Rattle.log_view.specs.declared.stop.Status.TheVariants as status
+use Rattle.log_view.specs.declared.stop.Stop.{Stop}
+use Rattle.log_view.specs.declared.stop.Stop.TheVariants.{Memory, Words, TooManySeconds, ReadFault, WriteFault, Line, LogEnds}
+
+-- how a call ends that stopped so
+abbrev pub status_of : Stop → Status
+status_of Memory = status.Memory
+status_of Words = status.Words
+status_of TooManySeconds = status.Words
+status_of ReadFault = status.ReadFault
+status_of WriteFault = status.WriteFault
+status_of (Line line why) = status.Refused
+status_of (LogEnds last) = status.Refused
+
+-- the exit status
+abbrev pub exit_number : Status → ℕ
+exit_number status.Done = 0
+exit_number status.Memory = 1
+exit_number status.Words = 2
+exit_number status.ReadFault = 3
+exit_number status.WriteFault = 4
+exit_number status.Refused = 5
+
+-- where reading a log stops, as a stop of the call
+abbrev pub stop_of : LogStop → Stop
+stop_of log.Memory = Memory
+stop_of log.Fault = ReadFault
+stop_of (log.At line why) = Line line why
+
+-- the name of a reason
+abbrev pub reason_name : LogWhy → List ℕ
+reason_name why.Header = codes "Header"
+reason_name why.Fields = codes "Fields"
+reason_name why.Second = codes "Second"
+reason_name why.Stage = codes "Stage"
+reason_name why.Aspects = codes "Aspects"
+reason_name why.Counts = codes "Counts"
+reason_name why.Refused = codes "Refused"
+reason_name why.Fault = codes "Fault"
+reason_name why.LineTooLong = codes "LineTooLong"
+reason_name why.TooManySeconds = codes "TooManySeconds"
+
+-- what the note says of a stop
+abbrev pub stop_words : Stop → List ℕ
+stop_words Memory = codes "Memory"
+stop_words Words = codes "Words"
+stop_words TooManySeconds = codes "TooManySeconds 3600"
+stop_words ReadFault = codes "ReadFault"
+stop_words WriteFault = codes "WriteFault"
+stop_words (Line line why) = decimal line ++ codes ": " ++ reason_name why
+stop_words (LogEnds last) = codes "LogEnds " ++ decimal last
+
+-- the note of a stop
+unfoldable pub stop_note : Stop → List ℕ
+stop_note stop = codes "log_report: " ++ stop_words stop ++ codes "\n"

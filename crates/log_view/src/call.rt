@@ -1,0 +1,187 @@
+// The top call.
+ghost use Rattle.std.specs.Prelude.{◌≡◌, ◌+◌, ◌*◌, ◌^◌, ◌<◌, ◌≤◌, ◌++◌, ℕ, List, Option, Err, IfErr, OnErr, IsTrue, ◌⊎◌, map, string_bytes};
+ghost use Rattle.std.specs.Option.{ForSome};
+ghost use Rattle.sig_io.specs.Draft.{IsDraft, FailsOnly};
+ghost use Rattle.sig_io.specs.Outside.{Rose};
+ghost use Rattle.log_svg.specs.Diagram.{IsShowable, diagram_text};
+ghost use Rattle.log_svg.specs.ShownIn.{shown_in};
+ghost use Rattle.log_view.specs.Asked.{IsInOrder, asked_in};
+ghost use Rattle.log_view.specs.Call.{IsAnswered, IsReported, IsWritten, seen, usage_text, version_text};
+ghost use Rattle.log_view.specs.Letters.{letters_text};
+ghost use Rattle.log_view.specs.Summed.{IsTextual};
+ghost use Rattle.log_view.specs.SumsText.{sums_text};
+
+use crate::form::{Form, form_of};
+use crate::gathering::gather;
+use crate::letters::put_text;
+use crate::stop::{Status, Stop, status_of, write_stop};
+use crate::sums::{Sums, sum_up};
+use crate::sums_text::put_sums;
+use log_svg::{Diagram, put_diagram};
+use sig_io::{Draft, Files, Sink};
+use std::alloc::Global;
+
+// Puts how it is called.
+#[tactic(auto, unfolding(crate::specs::Call::usage_text))]
+fn put_usage<O: Sink>(draft: &mut Draft, sink: &mut O)
+    requires { draft.old.gone < 2 ^ 59 }
+    ensures text { (start : Option (List ℕ)) (text : List ℕ) → IsDraft start (O.taken sink.old) draft.old text →
+        IsDraft start (O.taken sink.new) draft.new (text ++ usage_text) }
+    ensures gone { draft.new.gone ≤ draft.old.gone + 4096 * 4 }
+    ensures cause { FailsOnly (O.faults sink.old) (O.faults sink.new) draft.old.failed draft.new.failed }
+{
+    draft.put(
+        sink,
+        b"log_report diagram LOG FROM TO   an SVG signal timing diagram of these seconds, at most 3600\n",
+    );
+    draft.put(
+        sink,
+        b"log_report text LOG FROM TO      the same as characters\n",
+    );
+    draft.put(
+        sink,
+        b"log_report sums LOG              what groups, stages, refusals, faults and detectors add up to\n",
+    );
+    draft.put(
+        sink,
+        b"log_report --help | --version    this text; the version\n",
+    );
+}
+
+// Gives a sink the rest of a text.
+fn end<O: Sink>(draft: Draft, out: &mut O) -> Result<(), Stop>
+    requires { draft.gone < 2 ^ 62 }
+    ensures written { (start : Option (List ℕ)) (text : List ℕ) → IsDraft start (O.taken out.old) draft text →
+        IsWritten text result start (O.taken out.new) }
+    ensures stop { IfErr result (λ stop. stop ≡ Stop.WriteFault) }
+    ensures later { O.faults out.old ≤ O.faults out.new }
+    ensures cause { OnErr result (IsTrue draft.failed ⊎ Rose (O.faults out.old) (O.faults out.new)) }
+{
+    match draft.finish(out) {
+        Ok(()) => Ok(()),
+        Err(_fault) => Err(Stop::WriteFault),
+    }
+}
+
+// Writes how it is called.
+fn write_usage<O: Sink>(out: &mut O) -> Result<(), Stop>
+    ensures written { IsWritten usage_text result (O.taken out.old) (O.taken out.new) }
+    ensures cause { OnErr result (Rose (O.faults out.old) (O.faults out.new)) }
+{
+    let mut draft = Draft::new();
+    put_usage(&mut draft, out);
+    end(draft, out)
+}
+
+// Writes the version.
+fn write_version<O: Sink>(out: &mut O) -> Result<(), Stop>
+    ensures written { IsWritten version_text result (O.taken out.old) (O.taken out.new) }
+    ensures cause { OnErr result (Rose (O.faults out.old) (O.faults out.new)) }
+{
+    let mut draft = Draft::new();
+    draft.put(out, b"log_report 0.1.0\n");
+    end(draft, out)
+}
+
+// Writes a diagram.
+fn write_diagram<O: Sink>(diagram: &Diagram, out: &mut O) -> Result<(), Stop>
+    requires { IsShowable (shown_in diagram.now) }
+    ensures written { IsWritten (diagram_text (shown_in diagram.now)) result (O.taken out.old) (O.taken out.new) }
+    ensures cause { OnErr result (Rose (O.faults out.old) (O.faults out.new)) }
+{
+    let mut draft = Draft::new();
+    put_diagram(&mut draft, out, diagram);
+    end(draft, out)
+}
+
+// Writes a diagram of characters.
+fn write_letters<O: Sink>(diagram: &Diagram, out: &mut O) -> Result<(), Stop>
+    requires { IsShowable (shown_in diagram.now) }
+    ensures written { IsWritten (letters_text (shown_in diagram.now)) result (O.taken out.old) (O.taken out.new) }
+    ensures cause { OnErr result (Rose (O.faults out.old) (O.faults out.new)) }
+{
+    let mut draft = Draft::new();
+    put_text(&mut draft, out, diagram);
+    end(draft, out)
+}
+
+// Writes sums.
+fn write_sums<O: Sink>(sums: &Sums, out: &mut O) -> Result<(), Stop>
+    requires { IsTextual sums.now }
+    ensures written { IsWritten (sums_text sums.now) result (O.taken out.old) (O.taken out.new) }
+    ensures cause { OnErr result (Rose (O.faults out.old) (O.faults out.new)) }
+{
+    let mut draft = Draft::new();
+    put_sums(&mut draft, out, sums);
+    end(draft, out)
+}
+
+// Does what is asked for.
+fn do_form<F: Files, O: Sink>(
+    alloc: Global,
+    form: Form<'_>,
+    files: &mut F,
+    out: &mut O,
+) -> Result<(), Stop>
+    requires { IsInOrder form }
+    ensures answered { ForSome (F.told files.old) (λ file.
+        IsAnswered (asked_in form.entry) file result (O.taken out.old) (O.taken out.new)) }
+    ensures contents_stay { F.told files.new ≡ F.told files.old }
+    ensures read { result ≡ Err Stop.ReadFault → Rose (F.faults files.old) (F.faults files.new) }
+    ensures write { result ≡ Err Stop.WriteFault → Rose (O.faults out.old) (O.faults out.new) }
+{
+    match form {
+        Form::Help => write_usage(out),
+        Form::Version => write_version(out),
+        Form::Diagram(log, window) => match gather(alloc, files, log, window) {
+            Ok(diagram) => write_diagram(&diagram, out),
+            Err(stop) => Err(stop),
+        },
+        Form::Text(log, window) => match gather(alloc, files, log, window) {
+            Ok(diagram) => write_letters(&diagram, out),
+            Err(stop) => Err(stop),
+        },
+        Form::Sums(log) => match sum_up(alloc, files, log) {
+            Ok(sums) => write_sums(&sums, out),
+            Err(stop) => Err(stop),
+        },
+    }
+}
+
+/// Does what the words of the command line after the program's name say, and tells in a note why it stopped where it did.
+///
+/// - `diagram LOG FROM TO` writes an SVG signal timing diagram of 1 to 3,600 seconds of a log.
+/// - `text LOG FROM TO` writes the same as characters.
+/// - `sums LOG` writes what groups, stages, refusals, faults and detectors of a whole log add up to.
+/// - `--help` and `--version` write how it is called, and the version.
+///
+/// A log is read to its end before the first byte is written. Nothing is written where it is refused, or ends before TO.
+pub fn report<F: Files, O: Sink, N: Sink>(
+    alloc: Global,
+    words: &[String],
+    files: &mut F,
+    out: &mut O,
+    notes: &mut N,
+) -> Status
+    ensures reported { IsReported (map string_bytes words.now)
+        (seen (F.told files.old) (F.told files.new) (F.faults files.old) (F.faults files.new))
+        (seen (O.taken out.old) (O.taken out.new) (O.faults out.old) (O.faults out.new))
+        (seen (N.taken notes.old) (N.taken notes.new) (N.faults notes.old) (N.faults notes.new))
+        result }
+    ensures contents_stay { F.told files.new ≡ F.told files.old }
+{
+    let form = match form_of(words) {
+        Ok(form) => form,
+        Err(stop) => {
+            write_stop(notes, &stop);
+            return status_of(&stop);
+        }
+    };
+    match do_form(alloc, form, files, out) {
+        Ok(()) => Status::Done,
+        Err(stop) => {
+            write_stop(notes, &stop);
+            status_of(&stop)
+        }
+    }
+}

@@ -1,0 +1,608 @@
+// A diagram of characters, in blocks of 60 seconds.
+ghost use Rattle.std.specs.Prelude.{◌≡◌, ◌+◌, ◌-◌, ◌*◌, ◌/◌, ◌^◌, ◌<◌, ◌≤◌, ◌++◌, ℕ, List, Option, length, replicate};
+ghost use Rattle.std.specs.Fmt.{decimal};
+ghost use Rattle.sig_io.specs.Draft.{IsDraft, FailsOnly};
+ghost use Rattle.log_svg.specs.Diagram.{IsShowable};
+ghost use Rattle.log_svg.specs.ShownIn.{shown_in};
+ghost use Rattle.log_view.specs.Letters.{IsBlock, band_row, block_at, block_head, block_rows, block_text, detector_word, empty_row, faults_row, filler_of, free_after, front_letter, fronts_row, fronts_rows, group_row, group_rows, groups_rows, is_numbered, is_of, letter_of, letters_in, letters_text, margin_of, marks_text, name_text, number_cell, numbers_row, refusals_row, seconds_in, span_text, stay_cells, stay_text, tick_of, ticks_row, with_front, with_letter, with_refusal};
+
+use itoa::Buffer;
+use log_chart::{Span, Stay};
+use log_svg::{Diagram, FaultMark, FrontMark, RefusalMark, Refused, put_place};
+use sig_io::{Draft, Sink};
+use sig_types::{Aspect, GroupNo, ShortName, StagePlace};
+
+// How many seconds stand in a row.
+const BLOCK: u32 = 60;
+
+// A block's first second, how many seconds it has, and how many columns stand before them.
+#[derive(Clone, Copy)]
+struct Block {
+    first: u32,
+    count: u32,
+    margin: usize,
+}
+
+// Puts the same character so many times.
+fn put_times<O: Sink>(draft: &mut Draft, sink: &mut O, letter: u8, count: u32)
+    requires { draft.old.gone < 2 ^ 61 }
+    ensures text { (start : Option (List ℕ)) (text : List ℕ) → IsDraft start (O.taken sink.old) draft.old text →
+        IsDraft start (O.taken sink.new) draft.new (text ++ replicate count letter) }
+    ensures gone { draft.new.gone ≤ draft.old.gone + 4096 * count }
+    ensures cause { FailsOnly (O.faults sink.old) (O.faults sink.new) draft.old.failed draft.new.failed }
+{
+    for _time in 0..count {
+        draft.put(sink, &[letter]);
+    }
+}
+
+// Puts what stands at the beginning of a row.
+fn put_name<O: Sink>(draft: &mut Draft, sink: &mut O, block: Block, name: &[u8])
+    requires block { IsBlock block }
+    requires name { length name.now ≤ 32 }
+    requires room { draft.old.gone < 2 ^ 60 }
+    ensures text { (start : Option (List ℕ)) (text : List ℕ) → IsDraft start (O.taken sink.old) draft.old text →
+        IsDraft start (O.taken sink.new) draft.new (text ++ name_text block.margin name.now) }
+    ensures gone { draft.new.gone ≤ draft.old.gone + 4096 * 41 }
+    ensures cause { FailsOnly (O.faults sink.old) (O.faults sink.new) draft.old.failed draft.new.failed }
+{
+    draft.put(sink, name);
+    put_times(
+        draft,
+        sink,
+        b' ',
+        block.margin.saturating_sub(name.len()) as u32,
+    );
+}
+
+// How many of the seconds from `first` to `last` the block has.
+fn seconds_in(block: Block, first: u32, last: u32) -> u32
+    requires { IsBlock block }
+    ensures seconds { result ≡ seconds_in block first last }
+    ensures few { result ≤ 60 }
+{
+    let past = last.min(block.first + block.count - 1) + 1;
+    past.saturating_sub(first.max(block.first))
+}
+
+// How many digits a number has.
+fn digits(n: u32) -> u32
+    ensures digits { result ≡ length (decimal n) }
+    ensures few { result ≤ 10 }
+{
+    Buffer::new().format(n).len() as u32
+}
+
+// Whether the number of a second stands above it: it is a tenth one, or the first of the block with room before the next tenth.
+fn is_numbered(block: Block, second: u32) -> bool
+    ensures { result ≡ is_numbered block.first second }
+{
+    second % 10 == 0 || second == block.first && second % 10 + digits(second) < 10
+}
+
+// Puts what stands above a second, where nothing stands yet from second `free` on.
+fn put_number_cell<O: Sink>(draft: &mut Draft, sink: &mut O, block: Block, free: u32, second: u32)
+    requires { draft.old.gone < 2 ^ 60 }
+    ensures text { (start : Option (List ℕ)) (text : List ℕ) → IsDraft start (O.taken sink.old) draft.old text →
+        IsDraft start (O.taken sink.new) draft.new (text ++ number_cell block.first free second) }
+    ensures gone { draft.new.gone ≤ draft.old.gone + 4096 }
+    ensures cause { FailsOnly (O.faults sink.old) (O.faults sink.new) draft.old.failed draft.new.failed }
+{
+    if second >= free {
+        if is_numbered(block, second) {
+            draft.put_number(sink, second);
+        } else {
+            draft.put(sink, b" ");
+        }
+    }
+}
+
+// The first second above which nothing stands after it.
+fn free_after(block: Block, free: u32, second: u32) -> u32
+    requires { second < 1000000 }
+    ensures { result ≡ free_after block.first free second }
+{
+    if second < free {
+        free
+    } else if is_numbered(block, second) {
+        second + digits(second)
+    } else {
+        second + 1
+    }
+}
+
+// Puts the numbers of the seconds.
+fn put_numbers<O: Sink>(draft: &mut Draft, sink: &mut O, block: Block)
+    requires block { IsBlock block }
+    requires room { draft.old.gone < 2 ^ 59 }
+    ensures text { (start : Option (List ℕ)) (text : List ℕ) → IsDraft start (O.taken sink.old) draft.old text →
+        IsDraft start (O.taken sink.new) draft.new (text ++ numbers_row block) }
+    ensures gone { draft.new.gone ≤ draft.old.gone + 4096 * 102 }
+    ensures cause { FailsOnly (O.faults sink.old) (O.faults sink.new) draft.old.failed draft.new.failed }
+{
+    put_name(draft, sink, block, b"");
+    let mut free = block.first;
+    for place in 0..block.count {
+        put_number_cell(draft, sink, block, free, block.first + place);
+        free = free_after(block, free, block.first + place);
+    }
+    draft.put(sink, b"\n");
+}
+
+// The tick of a second.
+fn tick_of(second: u32) -> &'static [u8]
+    ensures tick { result.now ≡ tick_of second }
+    ensures short { length result.now ≤ 1 }
+{
+    if second % 10 == 0 {
+        b"|"
+    } else if second % 5 == 0 {
+        b"+"
+    } else {
+        b"."
+    }
+}
+
+// Puts the ticks of the seconds.
+fn put_ticks<O: Sink>(draft: &mut Draft, sink: &mut O, block: Block)
+    requires block { IsBlock block }
+    requires room { draft.old.gone < 2 ^ 59 }
+    ensures text { (start : Option (List ℕ)) (text : List ℕ) → IsDraft start (O.taken sink.old) draft.old text →
+        IsDraft start (O.taken sink.new) draft.new (text ++ ticks_row block) }
+    ensures gone { draft.new.gone ≤ draft.old.gone + 4096 * 102 }
+    ensures cause { FailsOnly (O.faults sink.old) (O.faults sink.new) draft.old.failed draft.new.failed }
+{
+    put_name(draft, sink, block, b"");
+    for place in 0..block.count {
+        draft.put(sink, tick_of(block.first + place));
+    }
+    draft.put(sink, b"\n");
+}
+
+// How many letters the name of a stage or an interstage has.
+fn letters_in(place: StagePlace) -> u32
+    ensures { result ≡ letters_in place }
+{
+    match place {
+        StagePlace::NoPlan => 1,
+        StagePlace::Stage(stage) => 1 + digits(u32::from(stage.0)),
+        StagePlace::Inter { from, to, t: _ } => {
+            1 + digits(u32::from(from.0)) + digits(u32::from(to.0))
+        }
+    }
+}
+
+// What fills the seconds of a stage or an interstage behind its name.
+fn filler_of(place: StagePlace) -> u8
+    ensures { result ≡ filler_of place }
+{
+    match place {
+        StagePlace::NoPlan => b'.',
+        StagePlace::Stage(_) => b'.',
+        StagePlace::Inter {
+            from: _,
+            to: _,
+            t: _,
+        } => b'>',
+    }
+}
+
+// Puts so many seconds of a stage or an interstage.
+#[tactic(auto, unfolding(crate::specs::Letters::stay_cells))]
+fn put_cells<O: Sink>(draft: &mut Draft, sink: &mut O, place: StagePlace, seconds: u32)
+    requires seconds { seconds ≤ 60 }
+    requires room { draft.old.gone < 2 ^ 58 }
+    ensures text { (start : Option (List ℕ)) (text : List ℕ) → IsDraft start (O.taken sink.old) draft.old text →
+        IsDraft start (O.taken sink.new) draft.new (text ++ stay_cells place seconds) }
+    ensures gone { draft.new.gone ≤ draft.old.gone + 4096 * 63 }
+    ensures cause { FailsOnly (O.faults sink.old) (O.faults sink.new) draft.old.failed draft.new.failed }
+{
+    let letters = letters_in(place);
+    if seconds < letters {
+        put_times(draft, sink, filler_of(place), seconds);
+    } else {
+        put_place(draft, sink, place);
+        put_times(draft, sink, filler_of(place), seconds - letters);
+    }
+}
+
+// Puts the seconds of a stay that are in the block.
+#[tactic(auto, unfolding(crate::specs::Letters::stay_text))]
+fn put_stay<O: Sink>(draft: &mut Draft, sink: &mut O, block: Block, stay: &Stay)
+    requires block { IsBlock block }
+    requires room { draft.old.gone < 2 ^ 58 }
+    ensures text { (start : Option (List ℕ)) (text : List ℕ) → IsDraft start (O.taken sink.old) draft.old text →
+        IsDraft start (O.taken sink.new) draft.new (text ++ stay_text block stay.now) }
+    ensures gone { draft.new.gone ≤ draft.old.gone + 4096 * 63 }
+    ensures cause { FailsOnly (O.faults sink.old) (O.faults sink.new) draft.old.failed draft.new.failed }
+{
+    let seconds = seconds_in(block, stay.first.0, stay.last.0);
+    if seconds > 0 {
+        put_cells(draft, sink, stay.place, seconds);
+    }
+}
+
+// Puts the stages.
+fn put_band<O: Sink>(draft: &mut Draft, sink: &mut O, block: Block, stays: &[Stay])
+    requires block { IsBlock block }
+    requires few { length stays.now ≤ 3600 }
+    requires room { draft.old.gone < 2 ^ 57 }
+    ensures text { (start : Option (List ℕ)) (text : List ℕ) → IsDraft start (O.taken sink.old) draft.old text →
+        IsDraft start (O.taken sink.new) draft.new (text ++ band_row block stays.now) }
+    ensures gone { draft.new.gone ≤ draft.old.gone + 2 ^ 30 }
+    ensures cause { FailsOnly (O.faults sink.old) (O.faults sink.new) draft.old.failed draft.new.failed }
+{
+    put_name(draft, sink, block, b"stage");
+    for stay in stays {
+        put_stay(draft, sink, block, stay);
+    }
+    draft.put(sink, b"\n");
+}
+
+// The character of an aspect.
+fn letter_of(aspect: Aspect) -> u8
+    ensures { result ≡ letter_of aspect }
+{
+    match aspect {
+        Aspect::Red => b'-',
+        Aspect::RedAmber => b'/',
+        Aspect::Green => b'#',
+        Aspect::Amber => b'\\',
+    }
+}
+
+// Puts the seconds of a span that are in the block.
+fn put_span<O: Sink>(draft: &mut Draft, sink: &mut O, block: Block, span: &Span)
+    requires block { IsBlock block }
+    requires room { draft.old.gone < 2 ^ 58 }
+    ensures text { (start : Option (List ℕ)) (text : List ℕ) → IsDraft start (O.taken sink.old) draft.old text →
+        IsDraft start (O.taken sink.new) draft.new (text ++ span_text block span.now) }
+    ensures gone { draft.new.gone ≤ draft.old.gone + 4096 * 60 }
+    ensures cause { FailsOnly (O.faults sink.old) (O.faults sink.new) draft.old.failed draft.new.failed }
+{
+    let seconds = seconds_in(block, span.first.0, span.last.0);
+    put_times(draft, sink, letter_of(span.aspect), seconds);
+}
+
+// Puts the spans of a group.
+fn put_row<O: Sink>(draft: &mut Draft, sink: &mut O, block: Block, name: &[u8], spans: &[Span])
+    requires block { IsBlock block }
+    requires name { length name.now ≤ 32 }
+    requires few { length spans.now ≤ 3600 }
+    requires room { draft.old.gone < 2 ^ 57 }
+    ensures text { (start : Option (List ℕ)) (text : List ℕ) → IsDraft start (O.taken sink.old) draft.old text →
+        IsDraft start (O.taken sink.new) draft.new (text ++ group_row block name.now spans.now) }
+    ensures gone { draft.new.gone ≤ draft.old.gone + 2 ^ 30 }
+    ensures cause { FailsOnly (O.faults sink.old) (O.faults sink.new) draft.old.failed draft.new.failed }
+{
+    put_name(draft, sink, block, name);
+    for span in spans {
+        put_span(draft, sink, block, span);
+    }
+    draft.put(sink, b"\n");
+}
+
+// A row of marks: its cells, and how many they are up to the last mark.
+#[derive(Clone, Copy)]
+struct MarkRow {
+    cells: [u8; 60],
+    end: usize,
+}
+
+// A row of spaces.
+fn empty_row() -> MarkRow
+    ensures { result ≡ empty_row }
+{
+    MarkRow {
+        cells: [b' '; 60],
+        end: 0,
+    }
+}
+
+// The row with a letter in a second, if that is in the block.
+fn with_letter(block: Block, row: MarkRow, second: u32, letter: u8) -> MarkRow
+    requires block { IsBlock block }
+    requires end { row.end ≤ 60 }
+    ensures row { result ≡ with_letter block row second letter }
+    ensures end { result.end ≤ 60 }
+{
+    if second < block.first || block.first + block.count <= second {
+        return row;
+    }
+    let place = (second - block.first) as usize;
+    let mut row = row;
+    row.cells[place] = letter;
+    row.end = row.end.max(place + 1);
+    row
+}
+
+// Puts a row with its name, where it has a mark.
+#[tactic(auto, unfolding(crate::specs::Letters::marks_text))]
+fn put_marks<O: Sink>(draft: &mut Draft, sink: &mut O, block: Block, name: &[u8], row: MarkRow)
+    requires block { IsBlock block }
+    requires name { length name.now ≤ 32 }
+    requires end { row.end ≤ 60 }
+    requires room { draft.old.gone < 2 ^ 59 }
+    ensures text { (start : Option (List ℕ)) (text : List ℕ) → IsDraft start (O.taken sink.old) draft.old text →
+        IsDraft start (O.taken sink.new) draft.new (text ++ marks_text block name.now row) }
+    ensures gone { draft.new.gone ≤ draft.old.gone + 4096 * 43 }
+    ensures cause { FailsOnly (O.faults sink.old) (O.faults sink.new) draft.old.failed draft.new.failed }
+{
+    if row.end > 0 {
+        put_name(draft, sink, block, name);
+        draft.put(sink, &row.cells[..row.end]);
+        draft.put(sink, b"\n");
+    }
+}
+
+// A refused stage command where no group is asked for, and else a refused turn of the group.
+fn is_of(group: Option<GroupNo>, refused: Refused) -> bool
+    ensures { result ≡ is_of group refused }
+{
+    match group {
+        None => match refused {
+            Refused::Command(_) => true,
+            Refused::Turn(_) => false,
+        },
+        Some(group) => match refused {
+            Refused::Command(_) => false,
+            Refused::Turn(turn) => turn.group.0 == group.0,
+        },
+    }
+}
+
+// The row with the mark of a refusal.
+fn with_refusal(block: Block, group: Option<GroupNo>, row: MarkRow, mark: &RefusalMark) -> MarkRow
+    requires block { IsBlock block }
+    requires end { row.end ≤ 60 }
+    ensures row { result ≡ with_refusal block group row mark.now }
+    ensures end { result.end ≤ 60 }
+{
+    if is_of(group, mark.refused) {
+        with_letter(block, row, mark.second, b'!')
+    } else {
+        row
+    }
+}
+
+// Puts the marks of refused stage commands, or of the refused turns of a group.
+fn put_refusals<O: Sink>(
+    draft: &mut Draft,
+    sink: &mut O,
+    block: Block,
+    marks: &[RefusalMark],
+    group: Option<GroupNo>,
+)
+    requires block { IsBlock block }
+    requires room { draft.old.gone < 2 ^ 58 }
+    ensures text { (start : Option (List ℕ)) (text : List ℕ) → IsDraft start (O.taken sink.old) draft.old text →
+        IsDraft start (O.taken sink.new) draft.new (text ++ refusals_row block marks.now group) }
+    ensures gone { draft.new.gone ≤ draft.old.gone + 4096 * 43 }
+    ensures cause { FailsOnly (O.faults sink.old) (O.faults sink.new) draft.old.failed draft.new.failed }
+{
+    let mut row = empty_row();
+    for mark in marks {
+        row = with_refusal(block, group, row, mark);
+    }
+    put_marks(draft, sink, block, b" refused", row);
+}
+
+// Puts the marks of faults.
+fn put_faults<O: Sink>(draft: &mut Draft, sink: &mut O, block: Block, marks: &[FaultMark])
+    requires block { IsBlock block }
+    requires room { draft.old.gone < 2 ^ 58 }
+    ensures text { (start : Option (List ℕ)) (text : List ℕ) → IsDraft start (O.taken sink.old) draft.old text →
+        IsDraft start (O.taken sink.new) draft.new (text ++ faults_row block marks.now) }
+    ensures gone { draft.new.gone ≤ draft.old.gone + 4096 * 43 }
+    ensures cause { FailsOnly (O.faults sink.old) (O.faults sink.new) draft.old.failed draft.new.failed }
+{
+    let mut row = empty_row();
+    for mark in marks {
+        row = with_letter(block, row, mark.second, b'X');
+    }
+    put_marks(draft, sink, block, b"fault", row);
+}
+
+// The name of a detector's row.
+fn detector_name(number: u8) -> [u8; 3]
+    requires { number < 100 }
+    ensures { result ≡ detector_word number }
+{
+    if number < 10 {
+        [b'D', b'0' + number, b' ']
+    } else {
+        [b'D', b'0' + number / 10, b'0' + number % 10]
+    }
+}
+
+// The digit of some fronts; a star stands for ten or more.
+fn front_letter(fronts: u32) -> u8
+    ensures { result ≡ front_letter fronts }
+{
+    if fronts < 10 {
+        b'0' + fronts as u8
+    } else {
+        b'*'
+    }
+}
+
+// The row with the fronts of a detector in a second.
+fn with_front(block: Block, number: u8, row: MarkRow, mark: &FrontMark) -> MarkRow
+    requires block { IsBlock block }
+    requires end { row.end ≤ 60 }
+    ensures row { result ≡ with_front block number row mark.now }
+    ensures end { result.end ≤ 60 }
+{
+    if mark.detector.0 == number {
+        with_letter(block, row, mark.second, front_letter(mark.fronts))
+    } else {
+        row
+    }
+}
+
+// Puts the fronts of a detector in their seconds.
+fn put_fronts<O: Sink>(
+    draft: &mut Draft,
+    sink: &mut O,
+    block: Block,
+    marks: &[FrontMark],
+    number: u8,
+)
+    requires block { IsBlock block }
+    requires number { number < 100 }
+    requires room { draft.old.gone < 2 ^ 58 }
+    ensures text { (start : Option (List ℕ)) (text : List ℕ) → IsDraft start (O.taken sink.old) draft.old text →
+        IsDraft start (O.taken sink.new) draft.new (text ++ fronts_row block marks.now number) }
+    ensures gone { draft.new.gone ≤ draft.old.gone + 4096 * 43 }
+    ensures cause { FailsOnly (O.faults sink.old) (O.faults sink.new) draft.old.failed draft.new.failed }
+{
+    let mut row = empty_row();
+    for mark in marks {
+        row = with_front(block, number, row, mark);
+    }
+    put_marks(draft, sink, block, &detector_name(number), row);
+}
+
+// Puts the fronts of all detectors.
+fn put_detectors<O: Sink>(draft: &mut Draft, sink: &mut O, block: Block, marks: &[FrontMark])
+    requires block { IsBlock block }
+    requires room { draft.old.gone < 2 ^ 57 }
+    ensures text { (start : Option (List ℕ)) (text : List ℕ) → IsDraft start (O.taken sink.old) draft.old text →
+        IsDraft start (O.taken sink.new) draft.new (text ++ fronts_rows block marks.now 64) }
+    ensures gone { draft.new.gone ≤ draft.old.gone + 4096 * 2752 }
+    ensures cause { FailsOnly (O.faults sink.old) (O.faults sink.new) draft.old.failed draft.new.failed }
+{
+    for place in 0..64u8 {
+        put_fronts(draft, sink, block, marks, place + 1);
+    }
+}
+
+// Puts the rows of a group.
+fn put_group<O: Sink>(
+    draft: &mut Draft,
+    sink: &mut O,
+    diagram: &Diagram,
+    block: Block,
+    place: usize,
+)
+    requires diagram { IsShowable (shown_in diagram.now) }
+    requires block { IsBlock block }
+    requires place { place < length diagram.now.names.items }
+    requires room { draft.old.gone < 2 ^ 56 }
+    ensures text { (start : Option (List ℕ)) (text : List ℕ) → IsDraft start (O.taken sink.old) draft.old text →
+        IsDraft start (O.taken sink.new) draft.new (text ++ group_rows block (shown_in diagram.now) place) }
+    ensures gone { draft.new.gone ≤ draft.old.gone + 2 ^ 31 }
+    ensures cause { FailsOnly (O.faults sink.old) (O.faults sink.new) draft.old.failed draft.new.failed }
+{
+    let group = GroupNo(place as u8);
+    let name = &diagram.names[place];
+    put_row(draft, sink, block, name.bytes(), diagram.chart.row(group));
+    put_refusals(draft, sink, block, &diagram.refusals, Some(group));
+}
+
+// Puts the rows of the groups.
+fn put_groups<O: Sink>(draft: &mut Draft, sink: &mut O, diagram: &Diagram, block: Block)
+    requires diagram { IsShowable (shown_in diagram.now) }
+    requires block { IsBlock block }
+    requires room { draft.old.gone < 2 ^ 55 }
+    ensures text { (start : Option (List ℕ)) (text : List ℕ) → IsDraft start (O.taken sink.old) draft.old text →
+        IsDraft start (O.taken sink.new) draft.new (text ++ groups_rows block (shown_in diagram.now) (length diagram.now.names.items)) }
+    ensures gone { draft.new.gone ≤ draft.old.gone + 2 ^ 37 }
+    ensures cause { FailsOnly (O.faults sink.old) (O.faults sink.new) draft.old.failed draft.new.failed }
+{
+    for place in 0..diagram.names.len() {
+        put_group(draft, sink, diagram, block, place);
+    }
+}
+
+// Puts the seconds, the stages and the refused stage commands of a block.
+fn put_block_head<O: Sink>(draft: &mut Draft, sink: &mut O, diagram: &Diagram, block: Block)
+    requires diagram { IsShowable (shown_in diagram.now) }
+    requires block { IsBlock block }
+    requires room { draft.old.gone < 2 ^ 54 }
+    ensures text { (start : Option (List ℕ)) (text : List ℕ) → IsDraft start (O.taken sink.old) draft.old text →
+        IsDraft start (O.taken sink.new) draft.new (text ++ block_head block (shown_in diagram.now)) }
+    ensures gone { draft.new.gone ≤ draft.old.gone + 2 ^ 31 }
+    ensures cause { FailsOnly (O.faults sink.old) (O.faults sink.new) draft.old.failed draft.new.failed }
+{
+    draft.put(sink, b"\n");
+    put_numbers(draft, sink, block);
+    put_ticks(draft, sink, block);
+    put_band(draft, sink, block, &diagram.stays);
+    put_refusals(draft, sink, block, &diagram.refusals, None);
+}
+
+// Puts the groups, the faults and the detectors of a block.
+fn put_block_rows<O: Sink>(draft: &mut Draft, sink: &mut O, diagram: &Diagram, block: Block)
+    requires diagram { IsShowable (shown_in diagram.now) }
+    requires block { IsBlock block }
+    requires room { draft.old.gone < 2 ^ 54 }
+    ensures text { (start : Option (List ℕ)) (text : List ℕ) → IsDraft start (O.taken sink.old) draft.old text →
+        IsDraft start (O.taken sink.new) draft.new (text ++ block_rows block (shown_in diagram.now)) }
+    ensures gone { draft.new.gone ≤ draft.old.gone + 2 ^ 38 }
+    ensures cause { FailsOnly (O.faults sink.old) (O.faults sink.new) draft.old.failed draft.new.failed }
+{
+    put_groups(draft, sink, diagram, block);
+    put_faults(draft, sink, block, &diagram.faults);
+    put_detectors(draft, sink, block, &diagram.fronts);
+}
+
+// Puts a block.
+#[tactic(auto, unfolding(crate::specs::Letters::block_text))]
+fn put_block<O: Sink>(draft: &mut Draft, sink: &mut O, diagram: &Diagram, block: Block)
+    requires diagram { IsShowable (shown_in diagram.now) }
+    requires block { IsBlock block }
+    requires room { draft.old.gone < 2 ^ 53 }
+    ensures text { (start : Option (List ℕ)) (text : List ℕ) → IsDraft start (O.taken sink.old) draft.old text →
+        IsDraft start (O.taken sink.new) draft.new (text ++ block_text block (shown_in diagram.now)) }
+    ensures gone { draft.new.gone ≤ draft.old.gone + 2 ^ 39 }
+    ensures cause { FailsOnly (O.faults sink.old) (O.faults sink.new) draft.old.failed draft.new.failed }
+{
+    put_block_head(draft, sink, diagram, block);
+    put_block_rows(draft, sink, diagram, block);
+}
+
+// How many columns stand before the seconds: those of the longest name and a space.
+fn margin_of(names: &[ShortName]) -> usize
+    ensures margin { result ≡ margin_of names.now }
+    ensures fits { result ≤ 40 }
+{
+    let mut margin = 9;
+    for name in names {
+        margin = margin.max(name.bytes().len() + 1);
+    }
+    margin
+}
+
+// Block `number` of a diagram.
+fn block_at(diagram: &Diagram, number: u32) -> Block
+    requires diagram { IsShowable (shown_in diagram.now) }
+    requires number { number ≤ (diagram.now.to - diagram.now.from) / 60 }
+    ensures block { result ≡ block_at (shown_in diagram.now) number }
+    ensures fits { IsBlock result }
+{
+    let first = diagram.from + number * BLOCK;
+    Block {
+        first,
+        count: BLOCK.min(diagram.to + 1 - first),
+        margin: margin_of(&diagram.names),
+    }
+}
+
+/// Puts the diagram as characters, a row for each group, in blocks of 60 seconds.
+pub fn put_text<O: Sink>(draft: &mut Draft, sink: &mut O, diagram: &Diagram)
+    requires diagram { IsShowable (shown_in diagram.now) }
+    requires room { draft.old.gone < 2 ^ 51 }
+    ensures text { (start : Option (List ℕ)) (text : List ℕ) → IsDraft start (O.taken sink.old) draft.old text →
+        IsDraft start (O.taken sink.new) draft.new (text ++ letters_text (shown_in diagram.now)) }
+    ensures gone { draft.new.gone ≤ draft.old.gone + 2 ^ 50 }
+    ensures cause { FailsOnly (O.faults sink.old) (O.faults sink.new) draft.old.failed draft.new.failed }
+{
+    draft.put(
+        sink,
+        b"- red  / red-amber  # green  \\ amber  ! refused  X fault  1 to 9, * fronts\n",
+    );
+    for number in 0..(diagram.to - diagram.from) / BLOCK + 1 {
+        put_block(draft, sink, diagram, block_at(diagram, number));
+    }
+}

@@ -1,0 +1,19 @@
+//! What a call of `log_report` does: its words, the log that it reads, the diagram, the text or the sums that it writes, and the
+//! note where it stops.
+#![tactic(auto)]
+
+mod call;
+mod form;
+mod gathering;
+mod letters;
+mod stop;
+mod sums;
+mod sums_text;
+
+pub use call::report;
+pub use form::{Form, Window, form_of};
+pub use gathering::gather;
+pub use letters::put_text;
+pub use stop::{Status, Stop, exit_status, status_of, write_stop};
+pub use sums::{FaultTally, PlaceSum, RefusalTally, Sums, sum_up};
+pub use sums_text::put_sums;

@@ -1,0 +1,337 @@
+// The text of sums.
+ghost use Rattle.std.specs.Prelude.{◌≡◌, ◌+◌, ◌-◌, ◌*◌, ◌/◌, ◌%◌, ◌^◌, ◌<◌, ◌≤◌, ◌++◌, ℕ, List, All, Option, codes, length};
+ghost use Rattle.std.specs.List.{flat_map};
+ghost use Rattle.std.specs.Fmt.{decimal};
+ghost use Rattle.sig_io.specs.Draft.{IsDraft, FailsOnly};
+ghost use Rattle.log_svg.specs.Marks.{IsRefused};
+ghost use Rattle.log_view.specs.Summed.{IsTextual};
+ghost use Rattle.log_view.specs.SumsText.{detector_text, detectors_to, fault_line, green_by, greens_of, greens_text, group_text, groups_text, longest_red_of, place_text, red_by, refusal_text, shown_text, sum_place, sums_text, tenths_text, times_text};
+
+use crate::sums::{FaultTally, PlaceSum, RefusalTally, Sums};
+use log_chart::{GroupPast, Totals};
+use log_svg::{put_fault, put_refused};
+use sig_io::{Draft, Sink};
+use sig_types::{Aspect, ShortName, StagePlace};
+
+// Puts a word and a number.
+fn put_sum<O: Sink>(draft: &mut Draft, sink: &mut O, word: &[u8], n: u32)
+    requires word { length word.now ≤ 20 }
+    requires room { draft.old.gone < 2 ^ 61 }
+    ensures text { (start : Option (List ℕ)) (text : List ℕ) → IsDraft start (O.taken sink.old) draft.old text →
+        IsDraft start (O.taken sink.new) draft.new (text ++ (word.now ++ decimal n)) }
+    ensures gone { draft.new.gone ≤ draft.old.gone + 4096 * 2 }
+    ensures cause { FailsOnly (O.faults sink.old) (O.faults sink.new) draft.old.failed draft.new.failed }
+{
+    draft.put(sink, word);
+    draft.put_number(sink, n);
+}
+
+// Puts tenths of a second, with a point before the last one.
+fn put_tenths<O: Sink>(draft: &mut Draft, sink: &mut O, tenths: u64)
+    requires { draft.old.gone < 2 ^ 61 }
+    ensures text { (start : Option (List ℕ)) (text : List ℕ) → IsDraft start (O.taken sink.old) draft.old text →
+        IsDraft start (O.taken sink.new) draft.new (text ++ tenths_text tenths) }
+    ensures gone { draft.new.gone ≤ draft.old.gone + 4096 * 3 }
+    ensures cause { FailsOnly (O.faults sink.old) (O.faults sink.new) draft.old.failed draft.new.failed }
+{
+    draft.put_long_number(sink, tenths / 10);
+    draft.put(sink, b".");
+    draft.put_long_number(sink, tenths % 10);
+}
+
+// Puts the shortest, the mean and the longest of some greens. The mean is rounded down to a tenth of a second.
+#[tactic(auto, unfolding(crate::specs::SumsText::greens_text))]
+fn put_greens<O: Sink>(draft: &mut Draft, sink: &mut O, ended: Totals)
+    requires { draft.old.gone < 2 ^ 60 }
+    ensures text { (start : Option (List ℕ)) (text : List ℕ) → IsDraft start (O.taken sink.old) draft.old text →
+        IsDraft start (O.taken sink.new) draft.new (text ++ greens_text ended) }
+    ensures gone { draft.new.gone ≤ draft.old.gone + 4096 * 8 }
+    ensures cause { FailsOnly (O.faults sink.old) (O.faults sink.new) draft.old.failed draft.new.failed }
+{
+    if ended.greens == 0 {
+        return;
+    }
+    put_sum(draft, sink, b" shortest:", ended.shortest);
+    draft.put(sink, b" mean:");
+    put_tenths(
+        draft,
+        sink,
+        u64::from(ended.total) * 10 / u64::from(ended.greens),
+    );
+    put_sum(draft, sink, b" longest:", ended.longest);
+}
+
+// How many seconds of a green run at the log's end.
+fn green_by(aspect: Aspect, seconds: u32) -> u32
+    ensures { result ≡ green_by aspect seconds }
+{
+    match aspect {
+        Aspect::Red => 0,
+        Aspect::RedAmber => 0,
+        Aspect::Green => seconds,
+        Aspect::Amber => 0,
+    }
+}
+
+// How many seconds of a red run at the log's end.
+fn red_by(aspect: Aspect, seconds: u32) -> u32
+    ensures { result ≡ red_by aspect seconds }
+{
+    match aspect {
+        Aspect::Red => seconds,
+        Aspect::RedAmber => 0,
+        Aspect::Green => 0,
+        Aspect::Amber => 0,
+    }
+}
+
+// How many greens a group had, with the one that runs at the end.
+fn greens_of(past: &GroupPast) -> u32
+    ensures { result ≡ greens_of past.now }
+{
+    let running = green_by(past.aspect, past.next - past.since);
+    if running == 0 {
+        past.ended.greens
+    } else {
+        past.ended.greens + 1
+    }
+}
+
+// The longest red, with the one that runs at the end.
+fn longest_red_of(past: &GroupPast) -> u32
+    ensures { result ≡ longest_red_of past.now }
+{
+    past.ended
+        .longest_red
+        .max(red_by(past.aspect, past.next - past.since))
+}
+
+// Puts the line of a group.
+#[tactic(auto, unfolding(crate::specs::SumsText::group_text))]
+fn put_group<O: Sink>(draft: &mut Draft, sink: &mut O, name: &ShortName, past: &GroupPast)
+    requires { draft.old.gone < 2 ^ 59 }
+    ensures text { (start : Option (List ℕ)) (text : List ℕ) → IsDraft start (O.taken sink.old) draft.old text →
+        IsDraft start (O.taken sink.new) draft.new (text ++ group_text name.now past.now) }
+    ensures gone { draft.new.gone ≤ draft.old.gone + 4096 * 17 }
+    ensures cause { FailsOnly (O.faults sink.old) (O.faults sink.new) draft.old.failed draft.new.failed }
+{
+    draft.put(sink, b"GROUP ");
+    draft.put(sink, name.bytes());
+    put_sum(draft, sink, b" greens:", greens_of(past));
+    put_sum(draft, sink, b" ended:", past.ended.greens);
+    put_greens(draft, sink, past.ended);
+    put_sum(draft, sink, b" longest_red:", longest_red_of(past));
+    draft.put(sink, b"\n");
+}
+
+// Puts the lines of the groups with these names.
+fn put_groups<O: Sink>(
+    draft: &mut Draft,
+    sink: &mut O,
+    names: &[ShortName],
+    pasts: &[GroupPast; 64],
+)
+    requires few { length names.now ≤ 64 }
+    requires room { draft.old.gone < 2 ^ 58 }
+    ensures text { (start : Option (List ℕ)) (text : List ℕ) → IsDraft start (O.taken sink.old) draft.old text →
+        IsDraft start (O.taken sink.new) draft.new (text ++ groups_text names.now pasts.now) }
+    ensures gone { draft.new.gone ≤ draft.old.gone + 2 ^ 24 }
+    ensures cause { FailsOnly (O.faults sink.old) (O.faults sink.new) draft.old.failed draft.new.failed }
+{
+    for (place, name) in names.iter().enumerate() {
+        put_group(draft, sink, name, &pasts[place]);
+    }
+}
+
+// Puts the name of a stage or an interstage.
+fn put_name<O: Sink>(draft: &mut Draft, sink: &mut O, place: StagePlace)
+    requires { draft.old.gone < 2 ^ 60 }
+    ensures text { (start : Option (List ℕ)) (text : List ℕ) → IsDraft start (O.taken sink.old) draft.old text →
+        IsDraft start (O.taken sink.new) draft.new (text ++ sum_place place) }
+    ensures gone { draft.new.gone ≤ draft.old.gone + 4096 * 4 }
+    ensures cause { FailsOnly (O.faults sink.old) (O.faults sink.new) draft.old.failed draft.new.failed }
+{
+    match place {
+        StagePlace::NoPlan => draft.put(sink, b"NO_STAGE"),
+        StagePlace::Stage(stage) => put_sum(draft, sink, b"STAGE ", u32::from(stage.0)),
+        StagePlace::Inter { from, to, t: _ } => {
+            put_sum(draft, sink, b"INTERSTAGE ", u32::from(from.0));
+            put_sum(draft, sink, b"-", u32::from(to.0));
+        }
+    }
+}
+
+// Puts the line of a stage or an interstage.
+#[tactic(auto, unfolding(crate::specs::SumsText::place_text))]
+fn put_place<O: Sink>(draft: &mut Draft, sink: &mut O, sum: &PlaceSum)
+    requires { draft.old.gone < 2 ^ 59 }
+    ensures text { (start : Option (List ℕ)) (text : List ℕ) → IsDraft start (O.taken sink.old) draft.old text →
+        IsDraft start (O.taken sink.new) draft.new (text ++ place_text sum.now) }
+    ensures gone { draft.new.gone ≤ draft.old.gone + 4096 * 9 }
+    ensures cause { FailsOnly (O.faults sink.old) (O.faults sink.new) draft.old.failed draft.new.failed }
+{
+    put_name(draft, sink, sum.place);
+    put_sum(draft, sink, b" times:", sum.times);
+    put_sum(draft, sink, b" seconds:", sum.seconds);
+    draft.put(sink, b"\n");
+}
+
+// Puts how often something came.
+fn put_times<O: Sink>(draft: &mut Draft, sink: &mut O, times: u64)
+    requires { draft.old.gone < 2 ^ 61 }
+    ensures text { (start : Option (List ℕ)) (text : List ℕ) → IsDraft start (O.taken sink.old) draft.old text →
+        IsDraft start (O.taken sink.new) draft.new (text ++ times_text times) }
+    ensures gone { draft.new.gone ≤ draft.old.gone + 4096 * 3 }
+    ensures cause { FailsOnly (O.faults sink.old) (O.faults sink.new) draft.old.failed draft.new.failed }
+{
+    draft.put(sink, b" times:");
+    draft.put_long_number(sink, times);
+    draft.put(sink, b"\n");
+}
+
+// Puts the line of a refusal.
+#[tactic(auto, unfolding(crate::specs::SumsText::refusal_text))]
+fn put_refusal<O: Sink>(draft: &mut Draft, sink: &mut O, names: &[ShortName], tally: &RefusalTally)
+    requires groups { IsRefused (length names.now) tally.now.refused }
+    requires room { draft.old.gone < 2 ^ 57 }
+    ensures text { (start : Option (List ℕ)) (text : List ℕ) → IsDraft start (O.taken sink.old) draft.old text →
+        IsDraft start (O.taken sink.new) draft.new (text ++ refusal_text names.now tally.now) }
+    ensures gone { draft.new.gone ≤ draft.old.gone + 4096 * 9 }
+    ensures cause { FailsOnly (O.faults sink.old) (O.faults sink.new) draft.old.failed draft.new.failed }
+{
+    draft.put(sink, b"REFUSED ");
+    put_refused(draft, sink, names, tally.refused);
+    put_times(draft, sink, tally.times);
+}
+
+// Puts the line of a fault.
+#[tactic(auto, unfolding(crate::specs::SumsText::fault_line))]
+fn put_fault_line<O: Sink>(draft: &mut Draft, sink: &mut O, tally: &FaultTally)
+    requires { draft.old.gone < 2 ^ 57 }
+    ensures text { (start : Option (List ℕ)) (text : List ℕ) → IsDraft start (O.taken sink.old) draft.old text →
+        IsDraft start (O.taken sink.new) draft.new (text ++ fault_line tally.now) }
+    ensures gone { draft.new.gone ≤ draft.old.gone + 4096 * 7 }
+    ensures cause { FailsOnly (O.faults sink.old) (O.faults sink.new) draft.old.failed draft.new.failed }
+{
+    draft.put(sink, b"FAULT ");
+    put_fault(draft, sink, tally.fault);
+    put_times(draft, sink, tally.times);
+}
+
+// Puts the line of a detector that had vehicles.
+#[tactic(auto, unfolding(crate::specs::SumsText::detector_text))]
+fn put_detector<O: Sink>(draft: &mut Draft, sink: &mut O, number: u32, vehicles: u64)
+    requires { draft.old.gone < 2 ^ 60 }
+    ensures text { (start : Option (List ℕ)) (text : List ℕ) → IsDraft start (O.taken sink.old) draft.old text →
+        IsDraft start (O.taken sink.new) draft.new (text ++ detector_text number vehicles) }
+    ensures gone { draft.new.gone ≤ draft.old.gone + 4096 * 5 }
+    ensures cause { FailsOnly (O.faults sink.old) (O.faults sink.new) draft.old.failed draft.new.failed }
+{
+    if vehicles == 0 {
+        return;
+    }
+    put_sum(draft, sink, b"DETECTOR ", number);
+    draft.put(sink, b" vehicles:");
+    draft.put_long_number(sink, vehicles);
+    draft.put(sink, b"\n");
+}
+
+// Puts the lines of the stages and interstages.
+fn put_places<O: Sink>(draft: &mut Draft, sink: &mut O, sums: &[PlaceSum])
+    requires few { length sums.now ≤ 2 ^ 32 }
+    requires room { draft.old.gone < 2 ^ 56 }
+    ensures text { (start : Option (List ℕ)) (text : List ℕ) → IsDraft start (O.taken sink.old) draft.old text →
+        IsDraft start (O.taken sink.new) draft.new (text ++ flat_map place_text sums.now) }
+    ensures gone { draft.new.gone ≤ draft.old.gone + 36864 * length sums.now }
+    ensures cause { FailsOnly (O.faults sink.old) (O.faults sink.new) draft.old.failed draft.new.failed }
+{
+    for sum in sums {
+        put_place(draft, sink, sum);
+    }
+}
+
+// Puts the lines of the refusals.
+fn put_refusals<O: Sink>(
+    draft: &mut Draft,
+    sink: &mut O,
+    names: &[ShortName],
+    tallies: &[RefusalTally],
+)
+    requires groups { All (λ t. IsRefused (length names.now) t.refused) tallies.now }
+    requires few { length tallies.now ≤ 2 ^ 34 }
+    requires room { draft.old.gone < 2 ^ 56 }
+    ensures text { (start : Option (List ℕ)) (text : List ℕ) → IsDraft start (O.taken sink.old) draft.old text →
+        IsDraft start (O.taken sink.new) draft.new (text ++ flat_map (refusal_text names.now) tallies.now) }
+    ensures gone { draft.new.gone ≤ draft.old.gone + 36864 * length tallies.now }
+    ensures cause { FailsOnly (O.faults sink.old) (O.faults sink.new) draft.old.failed draft.new.failed }
+{
+    for tally in tallies {
+        put_refusal(draft, sink, names, tally);
+    }
+}
+
+// Puts the lines of the faults.
+fn put_faults<O: Sink>(draft: &mut Draft, sink: &mut O, tallies: &[FaultTally])
+    requires few { length tallies.now ≤ 2 ^ 32 }
+    requires room { draft.old.gone < 2 ^ 56 }
+    ensures text { (start : Option (List ℕ)) (text : List ℕ) → IsDraft start (O.taken sink.old) draft.old text →
+        IsDraft start (O.taken sink.new) draft.new (text ++ flat_map fault_line tallies.now) }
+    ensures gone { draft.new.gone ≤ draft.old.gone + 28672 * length tallies.now }
+    ensures cause { FailsOnly (O.faults sink.old) (O.faults sink.new) draft.old.failed draft.new.failed }
+{
+    for tally in tallies {
+        put_fault_line(draft, sink, tally);
+    }
+}
+
+// Puts the lines of the detectors.
+fn put_detectors<O: Sink>(draft: &mut Draft, sink: &mut O, vehicles: &[u64; 64])
+    requires { draft.old.gone < 2 ^ 58 }
+    ensures text { (start : Option (List ℕ)) (text : List ℕ) → IsDraft start (O.taken sink.old) draft.old text →
+        IsDraft start (O.taken sink.new) draft.new (text ++ detectors_to vehicles.now 64) }
+    ensures gone { draft.new.gone ≤ draft.old.gone + 20480 * 64 }
+    ensures cause { FailsOnly (O.faults sink.old) (O.faults sink.new) draft.old.failed draft.new.failed }
+{
+    for place in 0..64u8 {
+        put_detector(
+            draft,
+            sink,
+            u32::from(place) + 1,
+            vehicles[usize::from(place)],
+        );
+    }
+}
+
+// Puts the line of the seconds, and those of the groups where there is a second.
+#[tactic(auto, unfolding(crate::specs::SumsText::shown_text))]
+fn put_shown<O: Sink>(draft: &mut Draft, sink: &mut O, sums: &Sums)
+    requires sums { IsTextual sums.now }
+    requires room { draft.old.gone < 2 ^ 57 }
+    ensures text { (start : Option (List ℕ)) (text : List ℕ) → IsDraft start (O.taken sink.old) draft.old text →
+        IsDraft start (O.taken sink.new) draft.new (text ++ shown_text sums.now) }
+    ensures gone { draft.new.gone ≤ draft.old.gone + 2 ^ 25 }
+    ensures cause { FailsOnly (O.faults sink.old) (O.faults sink.new) draft.old.failed draft.new.failed }
+{
+    put_sum(draft, sink, b"SECONDS ", sums.seconds);
+    draft.put(sink, b"\n");
+    if sums.seconds > 0 {
+        put_groups(draft, sink, &sums.names, &sums.groups);
+    }
+}
+
+/// Puts the text of the sums: a line for each group, stage, interstage, refusal, fault and detector.
+#[tactic(auto, unfolding(crate::specs::SumsText::sums_text))]
+pub fn put_sums<O: Sink>(draft: &mut Draft, sink: &mut O, sums: &Sums)
+    requires sums { IsTextual sums.now }
+    requires room { draft.old.gone < 2 ^ 52 }
+    ensures text { (start : Option (List ℕ)) (text : List ℕ) → IsDraft start (O.taken sink.old) draft.old text →
+        IsDraft start (O.taken sink.new) draft.new (text ++ sums_text sums.now) }
+    ensures gone { draft.new.gone ≤ draft.old.gone + 2 ^ 51 }
+    ensures cause { FailsOnly (O.faults sink.old) (O.faults sink.new) draft.old.failed draft.new.failed }
+{
+    put_shown(draft, sink, sums);
+    put_places(draft, sink, &sums.places);
+    put_refusals(draft, sink, &sums.names, &sums.refusals);
+    put_faults(draft, sink, &sums.faults);
+    put_detectors(draft, sink, &sums.vehicles);
+}
