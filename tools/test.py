@@ -182,5 +182,14 @@ class Crates(unittest.TestCase):
         self.assertEqual(sorted(listed), sorted(told))
 
 
+class Pictures(unittest.TestCase):
+    """The picture of the page is what the gate expects of the program."""
+
+    def test_the_four_arms(self):
+        folder = HERE.parent / "crates" / "log_report"
+        picture = (folder / "examples" / "four_arms_minute.svg").read_bytes()
+        self.assertEqual(picture, (folder / "stdout").read_bytes())
+
+
 if __name__ == "__main__":
     unittest.main()
