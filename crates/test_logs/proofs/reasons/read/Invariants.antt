@@ -1,0 +1,6 @@
+use Rattle.std.proofs.Common.{◌≡◌, true}
+use Rattle.log_records.specs.Answers.{is_live}
+use Rattle.test_logs.proofs.reasons.read.Given as goal
+
+abbrev pub invariant-loop : goal.invariant-loop
+invariant-loop l = is_live l.records ≡ true

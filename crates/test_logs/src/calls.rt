@@ -1,0 +1,147 @@
+// Whole calls of `log_report` over a log in memory.
+use log_view::{Status, report};
+use sig_io::{MemFiles, MemSink};
+use std::alloc::{AllocError, Global};
+use std::test::Fail;
+
+const LOG: &str = "VAPLOG 1 K1 K2\n\
+1|S1|RR|-|1-3:NoInterstage K2:Conflict:K1|-\n\
+2|S1|UR|2:1:0|-|-\n\
+3|S1|GR|-|K2:Conflict:K1|-\n\
+4|I1-2+0|AR|2:12:0 3:0:1|-|Number@7\n\
+5|I1-2+1|RU|-|-|Number@7\n\
+6|S2|RG|-|-|-\n";
+
+const TEXT: &str = "- red  / red-amber  # green  \\ amber  ! refused  X fault  1 to 9, * fronts\n\
+\n\
+\x20        1     \n\
+\x20        ....+.\n\
+stage    S1.>>.\n\
+\x20refused !\n\
+K1       -/#\\--\n\
+K2       ----/#\n\
+\x20refused ! !\n\
+fault       XX\n\
+D2        1 *\n";
+
+const SUMS: &str = "SECONDS 6\n\
+GROUP K1 greens:1 ended:1 shortest:1 mean:1.0 longest:1 longest_red:2\n\
+GROUP K2 greens:1 ended:0 longest_red:4\n\
+STAGE 1 times:1 seconds:3\n\
+INTERSTAGE 1-2 times:1 seconds:2\n\
+STAGE 2 times:1 seconds:1\n\
+REFUSED 1-3:NoInterstage times:1\n\
+REFUSED K2:Conflict:K1 times:2\n\
+FAULT Number@7 times:2\n\
+DETECTOR 2 vehicles:13\n";
+
+// What a call told: its status, what it wrote, and its note.
+#[derive(Drop)]
+struct Told {
+    status: Status,
+    out: MemSink,
+    notes: MemSink,
+}
+
+// Calls `log_report` with these words, over the log as the file `l`.
+fn call(alloc: Global, words: &[&str], log: &str) -> Result<Told, Fail> {
+    let item = (String::from_str(alloc, "l")?, log.as_bytes().to_vec(alloc)?);
+    let mut files = MemFiles::new(vec![in alloc; item]?, Vec::new(alloc), 4096);
+    let mut list = Vec::new(alloc);
+    for word in words {
+        list.push(String::from_str(alloc, word)?)?;
+    }
+    let mut out = MemSink::new(alloc, 65536, Vec::new(alloc))?;
+    let mut notes = MemSink::new(alloc, 4096, Vec::new(alloc))?;
+    let status = report(alloc, &list, &mut files, &mut out, &mut notes);
+    Ok(Told { status, out, notes })
+}
+
+#[test]
+fn six_seconds_as_characters(rt: HostRuntime) -> Result<(), Fail> {
+    let told = call(rt.alloc(), &["text", "l", "1", "6"], LOG)?;
+    assert_eq!(rt; told.status, Status::Done);
+    assert_eq!(rt; told.out.bytes(), TEXT.as_bytes());
+    Ok(())
+}
+
+#[test]
+fn six_seconds_add_up(rt: HostRuntime) -> Result<(), Fail> {
+    let told = call(rt.alloc(), &["sums", "l"], LOG)?;
+    assert_eq!(rt; told.status, Status::Done);
+    assert_eq!(rt; told.out.bytes(), SUMS.as_bytes());
+    Ok(())
+}
+
+#[test]
+fn a_diagram_ends_whole(rt: HostRuntime) -> Result<(), Fail> {
+    let told = call(rt.alloc(), &["diagram", "l", "2", "5"], LOG)?;
+    assert_eq!(rt; told.status, Status::Done);
+    assert!(rt; told.out.bytes().ends_with(b"</svg>\n"));
+    Ok(())
+}
+
+// Words of a call over the log, the status and the note.
+type Stopped = (&'static [&'static str], Status, &'static str);
+
+const STOPPED: [Stopped; 6] = [
+    (&["sum", "l"], Status::Words, "log_report: Words\n"),
+    (
+        &["text", "l", "0", "6"],
+        Status::Words,
+        "log_report: Words\n",
+    ),
+    (
+        &["text", "l", "6", "5"],
+        Status::Words,
+        "log_report: Words\n",
+    ),
+    (
+        &["text", "l", "1", "3601"],
+        Status::Words,
+        "log_report: TooManySeconds 3600\n",
+    ),
+    (
+        &["text", "l", "1", "7"],
+        Status::Refused,
+        "log_report: LogEnds 6\n",
+    ),
+    (&["sums", "m"], Status::ReadFault, "log_report: ReadFault\n"),
+];
+
+#[test]
+fn stops(rt: HostRuntime) -> Result<(), Fail> {
+    for (words, status, note) in &STOPPED {
+        let told = call(rt.alloc(), words, LOG)?;
+        assert_eq!(rt; told.status, *status);
+        assert_eq!(rt; told.out.bytes().len(), 0);
+        assert_eq!(rt; told.notes.bytes(), note.as_bytes());
+    }
+    Ok(())
+}
+
+#[test]
+fn a_refused_line_is_named(rt: HostRuntime) -> Result<(), Fail> {
+    let told = call(
+        rt.alloc(),
+        &["sums", "l"],
+        "VAPLOG 1 K1\n1|S1|R|-|-|-\n2|S1|B|-|-|-\n",
+    )?;
+    assert_eq!(rt; told.status, Status::Refused);
+    assert_eq!(rt; told.notes.bytes(), b"log_report: 3: Aspects\n".as_slice());
+    Ok(())
+}
+
+#[test]
+fn help_and_version(rt: HostRuntime) -> Result<(), Fail> {
+    let help = call(rt.alloc(), &["--help"], LOG)?;
+    assert_eq!(rt; help.status, Status::Done);
+    assert!(rt;
+        help.out
+            .bytes()
+            .starts_with(b"log_report diagram LOG FROM TO")
+    );
+    let version = call(rt.alloc(), &["--version"], LOG)?;
+    assert_eq!(rt; version.out.bytes(), b"log_report 0.1.0\n".as_slice());
+    Ok(())
+}
