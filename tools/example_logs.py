@@ -1,9 +1,9 @@
 #!/usr/bin/env python3
-"""tools/example_logs.py PROGRAM CHECK
+"""tools/example_logs.py PROGRAM CHECK REPORT
 
 Writes what the gate compares of the examples, after a change of an example or of what a log says: in the crate test_examples, which
 checks, runs and judges them all, copies of their files, their logs, the words and the output. PROGRAM is a built `junction`, and
-CHECK a built `junction_check`. It stops where a call fails, a log isn't safe, or something is found in the files. Look at the difference before it is committed."""
+CHECK and REPORT are a built `junction_check` and `log_report`. It stops where a call fails, a log isn't safe, or something is found in the files. Look at the difference before it is committed."""
 import shutil
 import subprocess
 import sys
@@ -39,7 +39,7 @@ def calls_of(folder):
 
 
 def main():
-    program, checker = (str(Path(word).resolve()) for word in sys.argv[1:])
+    program, checker, reporter = (str(Path(word).resolve()) for word in sys.argv[1:])
     shutil.rmtree(DATA, ignore_errors=True)
     calls, output = [], b""
     for plan in sorted(EXAMPLES.glob("**/junction.pua")):
@@ -50,13 +50,14 @@ def main():
         verdict = call(program, audit)
         if not verdict.startswith(b"SAFE "):
             sys.exit(f"{audit[1]}: {verdict.decode()}")
-        output += found + log + verdict
-        calls += [check, run, audit]
+        reports = [["report", "text", audit[1], "1", "40"], ["report", "sums", audit[1]]]
+        output += found + log + verdict + b"".join(call(reporter, words[1:]) for words in reports)
+        calls += [check, run, audit, *reports]
     (CRATE / "args").write_text("\n--\n".join("\n".join(words) for words in calls) + "\n", encoding="utf-8")
     (CRATE / "stdout").write_bytes(output)
 
 
 if __name__ == "__main__":
-    if len(sys.argv) != 3:
+    if len(sys.argv) != 4:
         sys.exit(__doc__)
     main()

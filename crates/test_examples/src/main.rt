@@ -1,11 +1,12 @@
 //! Runs the examples: several calls one after another, over the files of the system.
 //!
 //! The words of a call end at `--` or at the end of all. A call whose first word is `check` is one of `junction_check`, with the
-//! words behind it, and any other one is one of `junction`. It stops at the first call that doesn't do all, or finds something in
-//! the files, with its exit status.
+//! words behind it, one whose first word is `report` is one of `log_report`, and any other one is one of `junction`. It stops at
+//! the first call that doesn't do all, or finds something in the files, with its exit status.
 #![tactic(auto)]
 
 use junction_run::{Status, exit_status, junction};
+use log_view::report;
 use sig_io::{DiskFiles, ErrSink, Files, OutSink, Sink};
 use site_check::{check_junction, check_status};
 use std::alloc::Global;
@@ -23,6 +24,9 @@ fn call<F: Files, O: Sink, N: Sink>(
     match words {
         [first, site @ ..] if first.as_str() == "check" => {
             check_status(check_junction(alloc, site, files, out, notes))
+        }
+        [first, asked @ ..] if first.as_str() == "report" => {
+            log_view::exit_status(report(alloc, asked, files, out, notes))
         }
         _ => exit_status(junction(alloc, words, files, out, notes)),
     }
