@@ -21,10 +21,10 @@ use Rattle.log_chart.proofs.StayRows.{longer, none_yet, one_more}
 use Rattle.log_svg.specs.declared.marks.Refused.{Refused}
 use Rattle.log_view.specs.declared.sums.PlaceSum.{PlaceSum}
 use Rattle.log_view.specs.declared.sums.Sums.{Sums}
-use Rattle.log_view.specs.Adding.{AddsUp, AreApart, AreSmall, HasPlace, IsPlaceAdded, IsRaised, IsRun, IsRunSummed}
+use Rattle.log_view.specs.Adding.{AddsUp, AreSmall, IsPlaceAdded, IsRaised, IsRun, IsRunSummed}
 use Rattle.log_view.specs.Drawn.{IsAtTo}
 use Rattle.log_view.specs.Gathered.{places_of}
-use Rattle.log_view.specs.Summed.{AreTallies, IsPlaceSum, fault_items, fault_tallies, refusal_tallies, refused_in, stay_seconds}
+use Rattle.log_view.specs.Summed.{AreApart, AreTallies, HasPlace, IsPlaceSum, fault_items, fault_tallies, refusal_tallies, refused_in, stay_seconds}
 use Rattle.log_view.proofs.Drawing.{at_last, at_still, shown_last, shown_still}
 use Rattle.log_view.proofs.Places.{all_behind, apart_added, begins_again, begins_first, closed_sum, few_added, goes_on, has_added, has_new, within_added}
 use Rattle.log_view.proofs.Showable.{added_most}

@@ -12,8 +12,8 @@ use Rattle.std.proofs.Math.Seq.{get_or-append_seam}
 use Rattle.sig_types.specs.declared.numbers.StagePlace.{StagePlace}
 use Rattle.log_chart.specs.declared.stay.Stay.{Stay}
 use Rattle.log_view.specs.declared.sums.PlaceSum.{PlaceSum}
-use Rattle.log_view.specs.Adding.{AreApart, HasPlace, IsFirst, IsPlaceAdded, IsPlaceTally, IsRaised}
-use Rattle.log_view.specs.Summed.{IsPlaceSum, stay_seconds}
+use Rattle.log_view.specs.Adding.{IsFirst, IsPlaceAdded, IsPlaceTally, IsRaised}
+use Rattle.log_view.specs.Summed.{AreApart, HasPlace, IsPlaceSum, stay_seconds}
 
 all_one : {A : Type 0} (P : A → Type 0) (x : A) → P x → All P (x ∷ [])
 all_one P x is = λ i d lt. elim (cases_eq i 0) [

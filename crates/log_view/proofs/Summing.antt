@@ -31,9 +31,9 @@ use Rattle.log_view.specs.Answers.{IsSumsOf, IsUnsummed}
 use Rattle.log_view.specs.Drawn.{AreSaid}
 use Rattle.log_view.specs.Gathered.{history_of, places_of}
 use Rattle.log_view.specs.Notes.{stop_of}
-use Rattle.log_view.specs.Summed.{IsPlaceSum, IsSummed, IsTextual, fault_items, fault_tallies, refusal_tallies, refused_in}
+use Rattle.log_view.specs.Summed.{HasPlace, IsPlaceSum, IsSummed, IsTextual, fault_items, fault_tallies, refusal_tallies, refused_in}
 use Rattle.log_view.proofs.Adding.{few_faults}
-use Rattle.log_view.proofs.Places.{closed_sum}
+use Rattle.log_view.proofs.Places.{all_behind, closed_sum}
 use Rattle.log_view.proofs.Ranges.{AreFew, IsRanged, ranged}
 use Rattle.log_view.proofs.Reading.{said_more}
 use Rattle.log_view.proofs.Showable.{added_most, all_added}
@@ -97,12 +97,16 @@ sum_next told name old new s t named names given next said take summed =
       sums = take (names_of new) summed.records is.picture is.refused.stages is.refused.turns (few_refused (names_of new) summed.records before) (is.second ∙ place) (rw (← names) at summed.sums);
     }
 
--- the stays of a whole run
+-- the stays of a whole run, none of which lacks its sums
 run_stays : (records : List Record) (at : StagePlace) (places : List PlaceSum) → IsRunSummed records at places →
-    (stays : List Stay) × (AreStays (places_of records) 1 (length records + 1) stays × All (IsPlaceSum stays) places)
-run_stays records at places (inl none) = rw (none.0, none.1) ([], (none_yet (places_of []) 1, λ i d lt. absurd (omega (arith, lt))))
+    (stays : List Stay) × (AreStays (places_of records) 1 (length records + 1) stays × (All (IsPlaceSum stays) places
+    × All (λ s. HasPlace places s.place) stays))
+run_stays records at places (inl none) = rw (none.0, none.1)
+    ([], (none_yet (places_of []) 1, ((λ i d lt. absurd (omega (arith, lt))), (λ i d lt. absurd (omega (arith, lt))))))
 run_stays records at places (inr run) =
-    (run.closed ++ run.last ∷ [], (run.stays (places_of records) (λ t le. refl), λ i d lt. closed_sum run.closed run.last (get_or places i d) (run.sums i d lt)))
+    let sums : All (IsPlaceSum (run.closed ++ run.last ∷ [])) places = λ i d lt. closed_sum run.closed run.last (get_or places i d) (run.sums i d lt) in
+    let covered = all_behind (λ s. HasPlace places s.place) run.closed run.last run.covered run.covers in
+    (run.closed ++ run.last ∷ [], (run.stays (places_of records) (λ t le. refl), (sums, covered)))
 
 pub summed : (names : List (List ℕ)) (records : List Record) (s : Sums) → AddsUp names records s → IsSummed names records s
 summed names records s is =
@@ -113,7 +117,9 @@ summed names records s is =
       groups = λ g d inside some. is.groups (history_of (length names) records) g d (λ t le. refl) inside some;
       stays = run.0;
       stays_are = run.1.0;
-      places = run.1.1;
+      places = run.1.1.0;
+      covered = run.1.1.1;
+      apart = is.apart;
       refusals = is.refusals;
       faults = is.faults;
       vehicles = is.vehicles;

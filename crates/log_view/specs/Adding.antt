@@ -14,16 +14,7 @@ use Rattle.log_view.specs.declared.sums.PlaceSum.{PlaceSum}
 use Rattle.log_view.specs.declared.sums.Sums.{Sums}
 use Rattle.log_view.specs.Drawn.{IsAtTo, ShowsTo}
 use Rattle.log_view.specs.Gathered.{history_of, places_of}
-use Rattle.log_view.specs.Summed.{AreTallies, fault_items, fault_tallies, refusal_tallies, refused_in, stay_seconds}
-
--- there are sums of this place
-abbrev pub HasPlace : List PlaceSum → StagePlace → Type 0
-HasPlace places x = (i : ℕ) × ((i < length places) × ((d : PlaceSum) → (slice_index_or places i d).place ≡ x))
-
--- no place has sums twice
-abbrev pub AreApart : List PlaceSum → Type 0
-AreApart places =
-    (i j : ℕ) (d : PlaceSum) → i < j → j < length places → (slice_index_or places i d).place ≡ (slice_index_or places j d).place → ⊥
+use Rattle.log_view.specs.Summed.{AreApart, AreTallies, HasPlace, fault_items, fault_tallies, refusal_tallies, refused_in, stay_seconds}
 
 -- small enough to count one more
 abbrev pub AreSmall : List PlaceSum → Type 0

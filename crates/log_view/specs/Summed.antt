@@ -2,6 +2,7 @@
 use Rattle.std.specs.Prelude.{◌≡◌, ℕ, ◌+◌, ◌-◌, ◌^◌, ◌<◌, ◌≤◌, List, [], ◌∷◌, ◌++◌, length, map, replicate, slice_index_or, sum_by, Option, Some, None, All}
 use Rattle.std.specs.List.{flat_map}
 use Rattle.std.specs.List.Sorted.{IsPermutation}
+use Rattle.sig_types.specs.declared.numbers.StagePlace.{StagePlace}
 use Rattle.sig_types.specs.declared.record.Record.{Record}
 use Rattle.sig_types.specs.declared.refused.Fault.{Fault}
 use Rattle.sig_types.specs.Counts.{count_in, fronts}
@@ -48,6 +49,15 @@ pub record IsPlaceSum (stays : List Stay) (p : PlaceSum) : Type 0 where
   pub times : p.times ≡ length own
   pub seconds : p.seconds ≡ sum_by stay_seconds own
 
+-- there are sums of this place
+abbrev pub HasPlace : List PlaceSum → StagePlace → Type 0
+HasPlace places x = (i : ℕ) × ((i < length places) × ((d : PlaceSum) → (slice_index_or places i d).place ≡ x))
+
+-- no place has sums twice
+abbrev pub AreApart : List PlaceSum → Type 0
+AreApart places =
+    (i j : ℕ) (d : PlaceSum) → i < j → j < length places → (slice_index_or places i d).place ≡ (slice_index_or places j d).place → ⊥
+
 -- tallies, as pairs of what is counted and how often it came
 abbrev pub refusal_tallies : List RefusalTally → List (Refused × ℕ)
 refusal_tallies ts = map (λ t. (t.refused, t.times)) ts
@@ -64,6 +74,8 @@ pub record IsSummed (names : List (List ℕ)) (records : List Record) (s : Sums)
   pub stays : List Stay
   pub stays_are : AreStays (places_of records) 1 (length records + 1) stays
   pub places : All (IsPlaceSum stays) s.places.items
+  pub covered : All (λ stay. HasPlace s.places.items stay.place) stays
+  pub apart : AreApart s.places.items
   pub refusals : AreTallies (flat_map refused_in records) (refusal_tallies s.refusals.items)
   pub faults : AreTallies (flat_map (λ r. fault_items r.fault) records) (fault_tallies s.faults.items)
   pub vehicles : (p : ℕ) → p < 64 → slice_index_or s.vehicles p 0 ≡ sum_by (λ r. count_in fronts (p + 1) r.frame) records
