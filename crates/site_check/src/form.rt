@@ -1,5 +1,5 @@
 // What the words of the command line ask for.
-use crate::whole::SiteNames;
+use site_findings::SiteNames;
 
 /// What is asked for.
 #[derive(Drop)]

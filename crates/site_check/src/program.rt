@@ -4,8 +4,9 @@ ghost use Rattle.vap_ast.specs.Parsed.{Parsed, IsLine};
 ghost use Rattle.vap_ast.specs.Tree.{program_of};
 ghost use Rattle.vap_lex.specs.Kept.{HasLine};
 
-use crate::finding::{Refusal, Spot};
 use crate::places::spot_at;
+use pua_lines::Spot;
+use site_findings::Refusal;
 use std::alloc::Global;
 use vap_ast::Program;
 use vap_check::{CheckRefusal, Checked, check};

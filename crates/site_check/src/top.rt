@@ -1,9 +1,8 @@
 // The top call.
-use crate::finding::{Finding, Told};
 use crate::form::{Asked, form_of};
-use crate::text::write_findings;
-use crate::whole::{SiteNames, examine};
+use crate::whole::examine;
 use sig_io::{Files, Sink, put_all};
+use site_findings::{Finding, SiteNames, Told, write_findings};
 use std::alloc::{AllocError, Global};
 
 /// How a call ended.

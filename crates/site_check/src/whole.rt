@@ -1,47 +1,22 @@
 // All files of a junction, one after the other.
 ghost use Rattle.std.specs.Prelude.{◌≤◌, length};
 
-use crate::detectors::{Heard, Heeded, heed};
-use crate::finding::{FileKind, Finding, Refusal, Spot, Told};
-use crate::plan::{warn_of_interstages, warn_of_plan};
-use crate::plan_lines::PlanLines;
+use crate::detectors::{Heeded, heed};
 use crate::program::{Judged, ProgramStop, judge_program};
-use crate::program_warnings::{
-    warn_of_detectors, warn_of_parts, warn_of_silence, warn_of_variables,
-};
-use crate::sections::warn_of_sections;
-use crate::spots::Source;
-use crate::uses::uses_of;
+use crate::spots::{Source, warned_spot};
+use det_stream::Frames;
+use plan_check::{PlanWarning, interstage_warnings, plan_warnings};
+use program_check::program_warnings;
+use pua_lines::{PlanLines, Spot, misspelt_sections};
 use pua_model::Plan;
 use pua_reader::{PuaRefusal, read_plan};
 use sig_io::{Files, ReadRefusal, read_whole};
 use sig_tables::{Intergreens, TableRefusal, Times, read_intergreens, read_times};
+use site_findings::{Examined, FileKind, Finding, Refusal, SiteNames, Told, Warning};
 use std::alloc::{AllocError, Global};
 
 // The bytes that a text may have.
 const TEXT_LIMIT: usize = 1048576;
-
-/// The names of the files.
-#[derive(Drop)]
-pub struct SiteNames<'a> {
-    pub program: &'a str,
-    pub pua: &'a str,
-    pub times: &'a str,
-    pub intergreens: &'a str,
-    pub detectors: Option<&'a str>,
-}
-
-/// What is found, and what its sentences need: the bytes of the files, and the plan where it isn't refused.
-#[derive(Drop)]
-pub struct Examined {
-    pub findings: Vec<Finding>,
-    pub(crate) plan: Option<Plan>,
-    pub(crate) pua: Vec<u8>,
-    pub(crate) times: Vec<u8>,
-    pub(crate) intergreens: Vec<u8>,
-    pub(crate) program: Vec<u8>,
-    pub(crate) detectors: Vec<u8>,
-}
 
 fn tell(
     findings: &mut Vec<Finding>,
@@ -86,6 +61,19 @@ fn judge_plan(
     }
 }
 
+// Warns of the lines of a PUA file that nearly begin a section.
+fn warn_of_sections(
+    alloc: Global,
+    text: &[u8],
+    findings: &mut Vec<Finding>,
+) -> Result<(), AllocError> {
+    for misspelt in misspelt_sections(alloc, text)? {
+        let told = Told::Warned(Warning::MisspeltSection(misspelt.word));
+        tell(findings, FileKind::Pua, misspelt.spot, told)?;
+    }
+    Ok(())
+}
+
 // Reads and judges the PUA file.
 fn take_plan<F: Files>(
     alloc: Global,
@@ -96,7 +84,7 @@ fn take_plan<F: Files>(
     match read_whole(alloc, files, name, TEXT_LIMIT) {
         Ok(text) => {
             examined.plan = judge_plan(alloc, &text, &mut examined.findings)?;
-            warn_of_sections(&text, &mut examined.findings)?;
+            warn_of_sections(alloc, &text, &mut examined.findings)?;
             examined.pua = text;
             Ok(())
         }
@@ -237,12 +225,12 @@ fn take_detectors<F: Files>(
     name: Option<&str>,
     files: &mut F,
     examined: &mut Examined,
-) -> Result<Option<Heard>, AllocError> {
+) -> Result<Option<Frames>, AllocError> {
     let Some(name) = name else {
         return Ok(None);
     };
     match heed(alloc, files, name)? {
-        Heeded::Heard(heard) => Ok(Some(heard)),
+        Heeded::Heard(frames) => Ok(Some(frames)),
         Heeded::Refused(spot, refusal, bytes) => {
             examined.detectors = bytes;
             let told = Told::Refused(refusal);
@@ -262,6 +250,30 @@ fn take_detectors<F: Files>(
     }
 }
 
+// Where what a warning of a plan means stands.
+fn plan_spot(lines: &PlanLines, warning: &PlanWarning) -> Spot {
+    match warning {
+        PlanWarning::StageWithoutWay(stage, _) => lines.stage(*stage),
+        PlanWarning::GroupNeverGreen(group) => lines.group(*group),
+        PlanWarning::InterstageNotClean(inter, _) => lines.inter(*inter),
+        PlanWarning::LateRedEnd { inter, group, .. } => lines.group_in(*inter, *group),
+    }
+}
+
+// Tells warnings of a plan.
+fn tell_of_plan(
+    lines: &PlanLines,
+    warnings: Vec<PlanWarning>,
+    findings: &mut Vec<Finding>,
+) -> Result<(), AllocError> {
+    for warning in warnings {
+        let spot = plan_spot(lines, &warning);
+        let told = Told::Warned(Warning::Plan(warning));
+        tell(findings, FileKind::Pua, spot, told)?;
+    }
+    Ok(())
+}
+
 // Warns of what the plan lacks at its site.
 fn warn_of_site(
     alloc: Global,
@@ -271,11 +283,12 @@ fn warn_of_site(
     findings: &mut Vec<Finding>,
 ) -> Result<(), AllocError> {
     let lines = PlanLines::of(alloc, text, plan)?;
-    warn_of_plan(plan, &lines, findings)?;
+    tell_of_plan(&lines, plan_warnings(alloc, plan)?, findings)?;
     let (times, intergreens) = tables;
     if let Some(times) = times {
         if let Some(intergreens) = intergreens {
-            return warn_of_interstages(alloc, plan, times, intergreens, &lines, findings);
+            let warnings = interstage_warnings(alloc, plan, times, intergreens)?;
+            tell_of_plan(&lines, warnings, findings)?;
         }
     }
     Ok(())
@@ -286,19 +299,15 @@ fn warn_of_program(
     alloc: Global,
     source: &Source<'_>,
     plan: &Option<Plan>,
-    heard: Option<Heard>,
+    frames: &Option<Frames>,
     findings: &mut Vec<Finding>,
 ) -> Result<(), AllocError> {
-    let uses = uses_of(alloc, source.checked)?;
-    warn_of_variables(alloc, source, &uses, findings)?;
-    if let Some(plan) = plan {
-        warn_of_parts(source, plan, &uses.calls, findings)?;
+    for warned in program_warnings(alloc, source.checked, plan.as_ref(), frames.as_ref())? {
+        let spot = warned_spot(source, &warned);
+        let told = Told::Warned(Warning::Program(warned.warning));
+        tell(findings, FileKind::Program, spot, told)?;
     }
-    warn_of_detectors(source, &uses.calls, findings)?;
-    match heard {
-        Some(heard) => warn_of_silence(source, &uses.calls, heard, findings),
-        None => Ok(()),
-    }
+    Ok(())
 }
 
 // Nothing found yet.
@@ -326,7 +335,7 @@ pub fn examine<F: Files>(
     let times = take_times(alloc, names.times, files, &mut examined)?;
     let intergreens = take_intergreens(alloc, names.intergreens, files, &mut examined)?;
     let judged = take_program(alloc, names.program, files, &mut examined)?;
-    let heard = take_detectors(alloc, names.detectors, files, &mut examined)?;
+    let frames = take_detectors(alloc, names.detectors, files, &mut examined)?;
     if let Some(plan) = &examined.plan {
         let tables = (times, intergreens);
         warn_of_site(alloc, plan, &examined.pua, tables, &mut examined.findings)?;
@@ -341,7 +350,7 @@ pub fn examine<F: Files>(
             alloc,
             &source,
             &examined.plan,
-            heard,
+            &frames,
             &mut examined.findings,
         )?;
     }

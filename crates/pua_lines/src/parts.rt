@@ -1,7 +1,7 @@
 // Where the parts of a plan stand in its PUA file, which is not refused.
-use crate::finding::{SectionWord, Spot};
-use crate::places::{first_word, without_return, word_of};
-use crate::sections::{dollar_word, section_named};
+use crate::section::{SectionWord, dollar_word, section_named};
+use crate::spot::Spot;
+use crate::words::{first_word, without_return, word_of};
 use pua_model::Plan;
 use sig_types::text::{is_digit, same_name};
 use sig_types::{GroupNo, InterNo, StageNo};
@@ -17,7 +17,7 @@ struct GroupRow {
 
 /// The places of a plan's groups, stages and interstages, and of the rows of its interstages.
 #[derive(Drop)]
-pub(crate) struct PlanLines {
+pub struct PlanLines {
     section: Option<SectionWord>,
     rows: Vec<GroupRow>,
     stages: Vec<Spot>,
@@ -88,7 +88,7 @@ impl PlanLines {
     }
 
     /// The places of the plan that this text is.
-    pub(crate) fn of(alloc: Global, text: &[u8], plan: &Plan) -> Result<PlanLines, AllocError> {
+    pub fn of(alloc: Global, text: &[u8], plan: &Plan) -> Result<PlanLines, AllocError> {
         let mut lines = PlanLines {
             section: None,
             rows: Vec::new(alloc),
@@ -114,23 +114,23 @@ impl PlanLines {
     }
 
     /// The row of a group.
-    pub(crate) fn group(&self, group: GroupNo) -> Spot {
+    pub fn group(&self, group: GroupNo) -> Spot {
         self.row(None, group)
     }
 
     /// The row of a group in an interstage.
-    pub(crate) fn group_in(&self, inter: InterNo, group: GroupNo) -> Spot {
+    pub fn group_in(&self, inter: InterNo, group: GroupNo) -> Spot {
         self.row(Some(usize::from(inter.0)), group)
     }
 
     /// The row of a stage.
-    pub(crate) fn stage(&self, stage: StageNo) -> Spot {
+    pub fn stage(&self, stage: StageNo) -> Spot {
         let place = usize::from(stage.0).saturating_sub(1);
         self.stages.get(place).copied().unwrap_or(Spot::line(0))
     }
 
     /// The line with which an interstage begins.
-    pub(crate) fn inter(&self, inter: InterNo) -> Spot {
+    pub fn inter(&self, inter: InterNo) -> Spot {
         let place = usize::from(inter.0);
         self.inters.get(place).copied().unwrap_or(Spot::line(0))
     }

@@ -1,26 +1,40 @@
 // The names and the sentences of warnings.
-use crate::finding::{SectionWord, Warning, Way};
+use crate::finding::Warning;
 use crate::text::Text;
-use plan_check::LateEnd;
+use plan_check::{LateEnd, PlanWarning, Way};
+use program_check::ProgramWarning;
+use pua_lines::SectionWord;
 use pua_model::Plan;
 use sig_audit::InterEnd;
 use sig_types::{GroupNo, InterNo, Rule, StageNo, TurnRefusal};
 use std::alloc::AllocError;
 
+fn plan_warning_name(warning: &PlanWarning) -> &'static str {
+    match warning {
+        PlanWarning::StageWithoutWay(_, _) => "stage-without-way",
+        PlanWarning::GroupNeverGreen(_) => "group-never-green",
+        PlanWarning::InterstageNotClean(_, _) => "interstage-not-clean",
+        PlanWarning::LateRedEnd { .. } => "late-red-end",
+    }
+}
+
+fn program_warning_name(warning: &ProgramWarning) -> &'static str {
+    match warning {
+        ProgramWarning::UnassignedVariable(_) => "unassigned-variable",
+        ProgramWarning::UnknownGroup(_) => "unknown-group",
+        ProgramWarning::UnknownStage(_) => "unknown-stage",
+        ProgramWarning::UnknownDetector(_) => "unknown-detector",
+        ProgramWarning::MissingInterstage(_, _) => "missing-interstage",
+        ProgramWarning::SilentDetector(_) => "silent-detector",
+    }
+}
+
 /// The name of a warning.
 pub(crate) fn warning_name(warning: &Warning) -> &'static str {
     match warning {
-        Warning::UnassignedVariable(_) => "unassigned-variable",
-        Warning::UnknownGroup(_) => "unknown-group",
-        Warning::UnknownStage(_) => "unknown-stage",
-        Warning::UnknownDetector(_) => "unknown-detector",
-        Warning::MissingInterstage(_, _) => "missing-interstage",
-        Warning::StageWithoutWay(_, _) => "stage-without-way",
-        Warning::GroupNeverGreen(_) => "group-never-green",
-        Warning::InterstageNotClean(_, _) => "interstage-not-clean",
-        Warning::LateRedEnd { .. } => "late-red-end",
+        Warning::Plan(warning) => plan_warning_name(warning),
+        Warning::Program(warning) => program_warning_name(warning),
         Warning::MisspeltSection(_) => "misspelt-section",
-        Warning::SilentDetector(_) => "silent-detector",
     }
 }
 
@@ -144,31 +158,47 @@ fn put_around(text: &mut Text, before: &str, number: i32, after: &str) -> Result
     text.say(after)
 }
 
-/// Puts the sentence of a warning.
-pub(crate) fn put_warning(
+// Puts the sentence of a warning of a plan.
+fn put_plan_warning(
     text: &mut Text,
     plan: &Option<Plan>,
-    warning: &Warning,
+    warning: &PlanWarning,
 ) -> Result<(), AllocError> {
     match warning {
-        Warning::UnassignedVariable(name) => {
+        PlanWarning::StageWithoutWay(stage, way) => put_way(text, *stage, *way),
+        PlanWarning::GroupNeverGreen(group) => {
+            text.say("no stage has ")?;
+            text.put_group(plan, *group)?;
+            text.say(" green")
+        }
+        PlanWarning::InterstageNotClean(inter, end) => put_end(text, plan, *inter, *end),
+        PlanWarning::LateRedEnd { inter, group, late } => {
+            put_late(text, plan, *inter, *group, *late)
+        }
+    }
+}
+
+// Puts the sentence of a warning of a program.
+fn put_program_warning(text: &mut Text, warning: &ProgramWarning) -> Result<(), AllocError> {
+    match warning {
+        ProgramWarning::UnassignedVariable(name) => {
             text.say("the variable `")?;
             text.put(name.bytes())?;
             text.say("` is read and never assigned, so it is always 0")
         }
-        Warning::UnknownGroup(number) => put_around(
+        ProgramWarning::UnknownGroup(number) => put_around(
             text,
             "the plan has no signal group with the number ",
             *number,
             "; groups go by their numbers in the PUA file",
         ),
-        Warning::UnknownStage(number) => put_around(
+        ProgramWarning::UnknownStage(number) => put_around(
             text,
             "the plan has no stage ",
             *number,
             "; stages go by their places in the PUA file, from 1",
         ),
-        Warning::UnknownDetector(number) => {
+        ProgramWarning::UnknownDetector(number) => {
             put_around(
                 text,
                 "",
@@ -176,24 +206,28 @@ pub(crate) fn put_warning(
                 " is no detector; they have the numbers 1 to 64",
             )
         }
-        Warning::MissingInterstage(from, to) => {
+        ProgramWarning::MissingInterstage(from, to) => {
             text.say("the plan has no interstage ")?;
             put_pair(text, *from, *to)
         }
-        Warning::StageWithoutWay(stage, way) => put_way(text, *stage, *way),
-        Warning::GroupNeverGreen(group) => {
-            text.say("no stage has ")?;
-            text.put_group(plan, *group)?;
-            text.say(" green")
-        }
-        Warning::InterstageNotClean(inter, end) => put_end(text, plan, *inter, *end),
-        Warning::LateRedEnd { inter, group, late } => put_late(text, plan, *inter, *group, *late),
-        Warning::MisspeltSection(word) => put_section(text, *word),
-        Warning::SilentDetector(detector) => put_around(
+        ProgramWarning::SilentDetector(detector) => put_around(
             text,
             "the program reads detector ",
             i32::from(detector.0),
             ", and the detector file never has it",
         ),
+    }
+}
+
+/// Puts the sentence of a warning.
+pub(crate) fn put_warning(
+    text: &mut Text,
+    plan: &Option<Plan>,
+    warning: &Warning,
+) -> Result<(), AllocError> {
+    match warning {
+        Warning::Plan(warning) => put_plan_warning(text, plan, warning),
+        Warning::Program(warning) => put_program_warning(text, warning),
+        Warning::MisspeltSection(word) => put_section(text, *word),
     }
 }

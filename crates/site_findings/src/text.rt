@@ -1,11 +1,11 @@
 // The text of findings: a sentence each, with the text of the line and carets below what is meant.
-use crate::finding::{FileKind, Finding, Spot, Told};
-use crate::places::{line_of, part_of, record_of};
+use crate::finding::{Examined, FileKind, Finding, SiteNames, Told};
+use crate::lines::{line_of, part_of, record_of};
 use crate::reasons::put_refusal;
 use crate::sentences::{Sentences, unread};
 use crate::warned::{put_warning, warning_name};
-use crate::whole::{Examined, SiteNames};
 use itoa::Buffer;
+use pua_lines::Spot;
 use pua_model::Plan;
 use sig_types::GroupNo;
 use std::alloc::{AllocError, Global};

@@ -1,5 +1,6 @@
 // What a program assigns, reads and calls.
 use crate::calls::{Call, CallKind};
+use crate::marks::Marks;
 use std::alloc::{AllocError, Global};
 use vap_ast::{Expr, Item, Meaning, Name, Program, Routine, Stmt};
 use vap_check::Checked;
@@ -15,8 +16,8 @@ pub(crate) struct FirstRead {
 /// What a program does with its variables and with the controller.
 #[derive(Drop)]
 pub(crate) struct Uses {
-    assigned: [bool; 256],
-    seen: [bool; 256],
+    assigned: Marks,
+    seen: Marks,
     pub(crate) reads: Vec<FirstRead>,
     pub(crate) calls: Vec<Call>,
 }
@@ -56,29 +57,12 @@ fn known_at(checked: &Checked, args: &[Expr], place: usize) -> Option<i32> {
 impl Uses {
     /// Whether the variable with this number is assigned anywhere.
     pub(crate) fn is_assigned(&self, number: u16) -> bool {
-        self.assigned
-            .get(usize::from(number))
-            .copied()
-            .unwrap_or(false)
+        self.assigned.has(usize::from(number))
     }
 
     fn note_assigned(&mut self, checked: &Checked, name: &Name) {
         if let Some(number) = variable(checked, name) {
-            if let Some(place) = self.assigned.get_mut(usize::from(number)) {
-                *place = true;
-            }
-        }
-    }
-
-    // Whether a variable is read for the first time; it is no more from now on.
-    fn is_new(&mut self, number: u16) -> bool {
-        match self.seen.get_mut(usize::from(number)) {
-            Some(place) => {
-                let new = !*place;
-                *place = true;
-                new
-            }
-            None => false,
+            self.assigned.mark(usize::from(number));
         }
     }
 
@@ -92,7 +76,7 @@ impl Uses {
         let Some(number) = variable(checked, name) else {
             return Ok(());
         };
-        if !self.is_new(number) {
+        if !self.seen.is_new(usize::from(number)) {
             return Ok(());
         }
         match name.copy(alloc) {
@@ -228,8 +212,8 @@ fn take_subs(
 /// What a checked program does.
 pub(crate) fn uses_of(alloc: Global, checked: &Checked) -> Result<Uses, AllocError> {
     let mut uses = Uses {
-        assigned: [false; 256],
-        seen: [false; 256],
+        assigned: Marks::none(),
+        seen: Marks::none(),
         reads: Vec::new(alloc),
         calls: Vec::new(alloc),
     };
