@@ -2,7 +2,7 @@
 use Rattle.std.specs.Prelude.{ℕ, zero, suc, ◌+◌, ◌-◌, Bool, true, false, not, max, Option, None, Some, if◌then◌else◌, nat_lt}
 use Rattle.sig_types.specs.Words.{least_below}
 use Rattle.pua_model.specs.Plan.{PlanOf, groups_in, in_stage, interstage_at, wish_in}
-use Rattle.sig_tables.specs.Pairs.{Pairs, between}
+use Rattle.plan_check.specs.declared.ends.LateEnd.{LateEnd}
 
 -- the first second of an interstage in which the group is wished green
 unfoldable pub first_green : PlanOf → ℕ → ℕ → Option ℕ
@@ -41,18 +41,19 @@ later None b = b
 later (Some a) None = Some a
 later (Some a) (Some b) = Some (max a b)
 
--- when the red of group g may end in an interstage after the ends of the first n groups in conflict with it; None where none ends
-unfoldable pub needed_after : PlanOf → Pairs → ℕ → ℕ → ℕ → ℕ → Option ℕ
-needed_after p pairs red_amber i g zero = None
-needed_after p pairs red_amber i g (suc n) =
-    later (needed_after p pairs red_amber i g n) (after_end (green_end p i n) (between pairs n g) red_amber)
+-- when the red of group g may end in an interstage after the ends of the first n groups in conflict with it, by the seconds between
+-- two groups that conflict; None where none ends
+unfoldable pub needed_after : PlanOf → (ℕ → ℕ → Option ℕ) → ℕ → ℕ → ℕ → ℕ → Option ℕ
+needed_after p between red_amber i g zero = None
+needed_after p between red_amber i g (suc n) =
+    later (needed_after p between red_amber i g n) (after_end (green_end p i n) (between n g) red_amber)
 
 -- a second and an earlier one that would do
-abbrev pub late : Option ℕ → Option ℕ → Option (ℕ × ℕ)
-late (Some second) (Some needed) = if nat_lt needed second then Some (second, needed) else None
+abbrev pub late : Option ℕ → Option ℕ → Option LateEnd
+late (Some second) (Some needed) = if nat_lt needed second then Some (record { second = second; needed = needed }) else None
 late (Some second) None = None
 late None needed = None
 
 -- the second in which the red of a group ends in an interstage later than it needs to, and the second that would do
-unfoldable pub late_end : PlanOf → Pairs → ℕ → ℕ → ℕ → Option (ℕ × ℕ)
-late_end p pairs red_amber i g = late (red_end p i g) (needed_after p pairs red_amber i g (groups_in p))
+unfoldable pub late_end : PlanOf → (ℕ → ℕ → Option ℕ) → ℕ → ℕ → ℕ → Option LateEnd
+late_end p between red_amber i g = late (red_end p i g) (needed_after p between red_amber i g (groups_in p))

@@ -1,7 +1,8 @@
 // When the red of a group ends in an interstage, and when it could.
-ghost use Rattle.std.specs.Prelude.{◌≡◌, ◌<◌, None, Some, MatchOption, length};
+ghost use Rattle.std.specs.Prelude.{◌≡◌, ◌<◌, length};
 ghost use Rattle.pua_model.specs.Plan.{groups_in};
 ghost use Rattle.sig_tables.specs.TimesTable.{row_of};
+ghost use Rattle.sig_tables.specs.Pairs.{between};
 ghost use Rattle.plan_check.specs.Ends as ends;
 
 use pua_model::Plan;
@@ -116,7 +117,7 @@ fn needed_end(
     requires inter { inter.0 < length plan.now.interstages }
     requires group { group.0 < groups_in plan.now }
     requires intergreens { intergreens.now.count ≡ groups_in plan.now }
-    ensures { result ≡ ends.needed_after plan.now intergreens.now red_amber inter.0 group.0 (groups_in plan.now) }
+    ensures { result ≡ ends.needed_after plan.now (between intergreens.now) red_amber inter.0 group.0 (groups_in plan.now) }
 {
     let mut needed = None;
     for o in 0..plan.groups() {
@@ -127,9 +128,9 @@ fn needed_end(
     needed
 }
 
-/// Whether the red of a group ends in an interstage later than red-amber and the intergreens after the groups that end in it need.
+// Where the red of a group ends in an interstage later than red-amber and the intergreens after the groups that end in it need.
 #[tactic(auto, unfolding(crate::specs::Ends::late_end))]
-pub fn late_end(
+pub(crate) fn late_end(
     plan: &Plan,
     times: &Times,
     intergreens: &Intergreens,
@@ -140,10 +141,7 @@ pub fn late_end(
     requires group { group.0 < groups_in plan.now }
     requires times { length times.now ≡ groups_in plan.now }
     requires intergreens { intergreens.now.count ≡ groups_in plan.now }
-    ensures { MatchOption result
-        (ends.late_end plan.now intergreens.now (row_of times.now group.0).red_amber inter.0 group.0 ≡ None)
-        (λ late. ends.late_end plan.now intergreens.now (row_of times.now group.0).red_amber inter.0 group.0
-        ≡ Some (late.second, late.needed)) }
+    ensures { result ≡ ends.late_end plan.now (between intergreens.now) (row_of times.now group.0).red_amber inter.0 group.0 }
 {
     let red_amber = times.red_amber(group);
     let Some(second) = red_end(plan, inter, group) else {

@@ -8,6 +8,5 @@ mod ends;
 mod warnings;
 mod ways;
 
-pub use ends::{LateEnd, late_end};
+pub use ends::LateEnd;
 pub use warnings::{PlanWarning, Way, interstage_warnings, plan_warnings};
-pub use ways::{is_ever_green, is_left, is_reached};

@@ -1,7 +1,10 @@
 // What a plan lacks, and what its interstages are worth.
-ghost use Rattle.std.specs.Prelude.{◌≡◌, ◌<◌, length};
-ghost use Rattle.pua_model.specs.Plan.{groups_in};
-ghost use Rattle.sig_guard.specs.Stands.{rules};
+ghost use Rattle.std.specs.Prelude.{◌≡◌, ◌<◌, ◌++◌, length, option_to_list, IfOk, OnOk};
+ghost use Rattle.pua_model.specs.Plan.{HasStage, groups_in};
+ghost use Rattle.sig_tables.specs.Pairs.{between};
+ghost use Rattle.sig_tables.specs.SiteRules.{rules_of};
+ghost use Rattle.sig_guard.specs.Stands.{rules, tables};
+ghost use Rattle.plan_check.specs.Warnings as listed;
 
 use crate::ends::{LateEnd, late_end};
 use crate::ways::{is_ever_green, is_left, is_reached};
@@ -41,7 +44,10 @@ pub enum PlanWarning {
 }
 
 // The way that a stage lacks. The stage in which a run starts needs none to it.
-fn way_lacking(plan: &Plan, stage: StageNo) -> Option<Way> {
+#[tactic(auto, unfolding(crate::specs::Warnings::way_lacking))]
+fn way_lacking(plan: &Plan, stage: StageNo) -> Option<Way>
+    ensures { result ≡ listed.way_lacking plan.now stage.0 }
+{
     let reached = is_reached(plan, stage) || stage == plan.start();
     match (is_left(plan, stage), reached) {
         (true, true) => None,
@@ -52,12 +58,15 @@ fn way_lacking(plan: &Plan, stage: StageNo) -> Option<Way> {
 }
 
 // Warns of the stages that lack a way. A plan of one stage needs none.
-fn warn_of_stages(plan: &Plan, warnings: &mut Vec<PlanWarning>) -> Result<(), AllocError> {
+#[tactic(auto, unfolding(crate::specs::Warnings::stage_warnings), using(crate::proofs::Listed::none_below, crate::proofs::Listed::one_more, crate::proofs::Listed::no_more))]
+fn warn_of_stages(plan: &Plan, warnings: &mut Vec<PlanWarning>) -> Result<(), AllocError>
+    ensures { OnOk result (warnings.new.items ≡ warnings.old.items ++ listed.stage_warnings plan.now) }
+{
     if plan.stages() == 1 {
         return Ok(());
     }
-    for number in 0..plan.stages() {
-        let stage = StageNo(number.saturating_add(1));
+    for s in 0..plan.stages() {
+        let stage = StageNo(s + 1);
         if let Some(way) = way_lacking(plan, stage) {
             warnings.push(PlanWarning::StageWithoutWay(stage, way))?;
         }
@@ -65,7 +74,11 @@ fn warn_of_stages(plan: &Plan, warnings: &mut Vec<PlanWarning>) -> Result<(), Al
     Ok(())
 }
 
-fn warn_of_groups(plan: &Plan, warnings: &mut Vec<PlanWarning>) -> Result<(), AllocError> {
+// Warns of the groups that no stage has green.
+#[tactic(auto, unfolding(crate::specs::Warnings::group_warnings), using(crate::proofs::Listed::none_below, crate::proofs::Listed::one_more, crate::proofs::Listed::no_more))]
+fn warn_of_groups(plan: &Plan, warnings: &mut Vec<PlanWarning>) -> Result<(), AllocError>
+    ensures { OnOk result (warnings.new.items ≡ warnings.old.items ++ listed.group_warnings plan.now) }
+{
     for g in 0..plan.groups() {
         let group = GroupNo(g);
         if !is_ever_green(plan, group) {
@@ -76,33 +89,14 @@ fn warn_of_groups(plan: &Plan, warnings: &mut Vec<PlanWarning>) -> Result<(), Al
 }
 
 /// What the plan alone lacks: stages without a way, and groups that are never green. Its one failure is want of memory.
-pub fn plan_warnings(alloc: Global, plan: &Plan) -> Result<Vec<PlanWarning>, AllocError> {
+#[tactic(auto, unfolding(crate::specs::Warnings::plan_warnings))]
+pub fn plan_warnings(alloc: Global, plan: &Plan) -> Result<Vec<PlanWarning>, AllocError>
+    ensures { IfOk result (λ v. v.items ≡ listed.plan_warnings plan.now) }
+{
     let mut warnings = Vec::new(alloc);
     warn_of_stages(plan, &mut warnings)?;
     warn_of_groups(plan, &mut warnings)?;
     Ok(warnings)
-}
-
-// Warns of the groups whose red ends late in an interstage.
-fn warn_of_ends(
-    plan: &Plan,
-    guard: &Guard,
-    inter: InterNo,
-    warnings: &mut Vec<PlanWarning>,
-) -> Result<(), AllocError>
-    requires inter { inter.0 < length plan.now.interstages }
-{
-    let (times, intergreens) = (guard.times(), guard.intergreens());
-    if times.groups() != plan.groups() || intergreens.groups() != plan.groups() {
-        return Ok(());
-    }
-    for g in 0..plan.groups() {
-        let group = GroupNo(g);
-        if let Some(late) = late_end(plan, times, intergreens, inter, group) {
-            warnings.push(PlanWarning::LateRedEnd { inter, group, late })?;
-        }
-    }
-    Ok(())
 }
 
 // Warns of an interstage that does not end clean.
@@ -110,7 +104,9 @@ fn warn_of_end(
     inter: InterNo,
     end: InterEnd,
     warnings: &mut Vec<PlanWarning>,
-) -> Result<(), AllocError> {
+) -> Result<(), AllocError>
+    ensures { OnOk result (warnings.new.items ≡ warnings.old.items ++ option_to_list (listed.end_warning inter.0 end)) }
+{
     match end {
         InterEnd::Clean => {}
         InterEnd::Unsettled | InterEnd::Refused { .. } => {
@@ -120,20 +116,68 @@ fn warn_of_end(
     Ok(())
 }
 
-// Tries each interstage over a guard.
+// Warns of the groups whose red ends late in an interstage.
+#[tactic(auto, unfolding(crate::specs::Warnings::late_warnings), using(crate::proofs::Listed::none_below, crate::proofs::Listed::one_more, crate::proofs::Listed::no_more))]
+fn warn_of_late_ends(
+    plan: &Plan,
+    times: &Times,
+    intergreens: &Intergreens,
+    inter: InterNo,
+    warnings: &mut Vec<PlanWarning>,
+) -> Result<(), AllocError>
+    requires inter { inter.0 < length plan.now.interstages }
+    requires times { length times.now ≡ groups_in plan.now }
+    requires intergreens { intergreens.now.count ≡ groups_in plan.now }
+    ensures { OnOk result
+        (warnings.new.items ≡ warnings.old.items ++ listed.late_warnings plan.now times.now (between intergreens.now) inter.0) }
+{
+    for g in 0..plan.groups() {
+        let group = GroupNo(g);
+        if let Some(late) = late_end(plan, times, intergreens, inter, group) {
+            warnings.push(PlanWarning::LateRedEnd { inter, group, late })?;
+        }
+    }
+    Ok(())
+}
+
+// Tries an interstage over a guard of its tables, and warns of what it lacks.
+#[tactic(auto, unfolding(crate::specs::Warnings::warnings_of), using(crate::proofs::Trials::the_end))]
+fn warn_of_interstage(
+    plan: &Plan,
+    guard: &mut Guard,
+    inter: InterNo,
+    warnings: &mut Vec<PlanWarning>,
+) -> Result<(), AllocError>
+    requires inter { inter.0 < length plan.now.interstages }
+    requires times { length (tables guard.old).0 ≡ groups_in plan.now }
+    requires intergreens { (tables guard.old).1.count ≡ groups_in plan.now }
+    requires rules { rules guard.old ≡ rules_of (tables guard.old).0 (tables guard.old).1 }
+    ensures warnings { OnOk result (warnings.new.items
+        ≡ warnings.old.items ++ listed.warnings_of plan.now (tables guard.old).0 (between (tables guard.old).1) inter.0) }
+    ensures tables { tables guard.new ≡ tables guard.old }
+    ensures rules { rules guard.new ≡ rules guard.old }
+{
+    let mut turns = TurnRefusals::empty();
+    let end = inter_check(plan, inter, guard, &mut turns);
+    warn_of_end(inter, end, warnings)?;
+    warn_of_late_ends(plan, guard.times(), guard.intergreens(), inter, warnings)
+}
+
+// Tries each interstage over a guard of its tables.
+#[tactic(auto, unfolding(crate::specs::Warnings::interstage_warnings))]
 fn try_interstages(
     plan: &Plan,
     guard: &mut Guard,
     warnings: &mut Vec<PlanWarning>,
 ) -> Result<(), AllocError>
-    requires one_plan { (rules guard.old).count ≡ groups_in plan.now }
+    requires times { length (tables guard.old).0 ≡ groups_in plan.now }
+    requires intergreens { (tables guard.old).1.count ≡ groups_in plan.now }
+    requires rules { rules guard.old ≡ rules_of (tables guard.old).0 (tables guard.old).1 }
+    ensures { OnOk result (warnings.new.items
+        ≡ warnings.old.items ++ listed.interstage_warnings plan.now (tables guard.old).0 (between (tables guard.old).1)) }
 {
-    let mut turns = TurnRefusals::empty();
     for i in 0..plan.interstages() {
-        let inter = InterNo(i);
-        let end = inter_check(plan, inter, guard, &mut turns);
-        warn_of_end(inter, end, warnings)?;
-        warn_of_ends(plan, guard, inter, warnings)?;
+        warn_of_interstage(plan, guard, InterNo(i), warnings)?;
     }
     Ok(())
 }
@@ -148,6 +192,7 @@ pub fn interstage_warnings(
 ) -> Result<Vec<PlanWarning>, AllocError>
     requires times { length times ≡ groups_in plan.now }
     requires intergreens { intergreens.count ≡ groups_in plan.now }
+    ensures { IfOk result (λ v. v.items ≡ listed.interstage_warnings plan.now times (between intergreens)) }
 {
     let mut warnings = Vec::new(alloc);
     match Guard::new(alloc, times, intergreens) {

@@ -2,12 +2,14 @@
 ghost use Rattle.std.specs.Prelude.{◌≡◌, ◌<◌, true, false};
 ghost use Rattle.pua_model.specs.Plan.{groups_in};
 ghost use Rattle.plan_check.specs.Ways.{IsLeft, IsNeverLeft, IsReached, IsNeverReached, IsEverGreen, IsNeverGreen};
+ghost use Rattle.plan_check.specs.Ways as ways;
 
 use pua_model::Plan;
 use sig_types::{GroupNo, InterNo, StageNo};
 
-/// Whether an interstage leads from the stage.
-pub fn is_left(plan: &Plan, stage: StageNo) -> bool
+// Whether an interstage leads from the stage.
+pub(crate) fn is_left(plan: &Plan, stage: StageNo) -> bool
+    ensures is { result ≡ ways.is_left plan.now stage.0 }
     ensures left { result ≡ true → IsLeft plan.now stage.0 }
     ensures never { result ≡ false → IsNeverLeft plan.now stage.0 }
 {
@@ -20,8 +22,9 @@ pub fn is_left(plan: &Plan, stage: StageNo) -> bool
     false
 }
 
-/// Whether an interstage leads to the stage.
-pub fn is_reached(plan: &Plan, stage: StageNo) -> bool
+// Whether an interstage leads to the stage.
+pub(crate) fn is_reached(plan: &Plan, stage: StageNo) -> bool
+    ensures is { result ≡ ways.is_reached plan.now stage.0 }
     ensures reached { result ≡ true → IsReached plan.now stage.0 }
     ensures never { result ≡ false → IsNeverReached plan.now stage.0 }
 {
@@ -34,9 +37,10 @@ pub fn is_reached(plan: &Plan, stage: StageNo) -> bool
     false
 }
 
-/// Whether a stage has the group green.
-pub fn is_ever_green(plan: &Plan, group: GroupNo) -> bool
+// Whether a stage has the group green.
+pub(crate) fn is_ever_green(plan: &Plan, group: GroupNo) -> bool
     requires { group.0 < groups_in plan.now }
+    ensures is { result ≡ ways.is_ever_green plan.now group.0 }
     ensures green { result ≡ true → IsEverGreen plan.now group.0 }
     ensures never { result ≡ false → IsNeverGreen plan.now group.0 }
 {
