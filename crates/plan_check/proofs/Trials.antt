@@ -23,14 +23,14 @@ the_end p r i end ends = ends_by _ _ _ end ends
 -- the end of the function is one that the relation allows
 allowed_by : (settled : Bool) (refused : ℕ → List TurnRefusal) (first : Option ℕ) →
     ((t : ℕ) → first ≡ Some t → is_some (first_turn (refused t)) ≡ true) → EndsAs settled refused first (end_by settled refused first)
-allowed_by false refused first some = refl
-allowed_by true refused None some = refl
-allowed_by true refused (Some t) some = turned (first_turn (refused t)) refl (some t refl)
+allowed_by false refused first passes = refl
+allowed_by true refused None passes = refl
+allowed_by true refused (Some t) passes = turned (first_turn (refused t)) refl (passes t refl)
   where
     turned : (o : Option TurnRefusal) → first_turn (refused t) ≡ o → is_some o ≡ true →
         (turn : TurnRefusal) × (first_turn (refused t) ≡ Some turn) × (refused_at t (first_turn (refused t)) ≡ refused_at t (Some turn))
-    turned None is yes = absurd (cc)
-    turned (Some turn) is yes = (turn, is, rw is refl)
+    turned None is some = absurd (cc)
+    turned (Some turn) is some = (turn, is, rw is refl)
 
 pub is_an_end : (p : PlanOf) (r : Rules) (i : ℕ) → IsInterEnd p r i (interstage_end p r i)
 unfolding interstage_end

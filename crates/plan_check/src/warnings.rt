@@ -141,7 +141,6 @@ fn warn_of_late_ends(
 }
 
 // Tries an interstage over a guard of its tables, and warns of what it lacks.
-#[tactic(auto, unfolding(crate::specs::Warnings::warnings_of), using(crate::proofs::Trials::the_end))]
 fn warn_of_interstage(
     plan: &Plan,
     guard: &mut Guard,
@@ -160,7 +159,8 @@ fn warn_of_interstage(
     let mut turns = TurnRefusals::empty();
     let end = inter_check(plan, inter, guard, &mut turns);
     warn_of_end(inter, end, warnings)?;
-    warn_of_late_ends(plan, guard.times(), guard.intergreens(), inter, warnings)
+    warn_of_late_ends(plan, guard.times(), guard.intergreens(), inter, warnings)?;
+    Ok(())
 }
 
 // Tries each interstage over a guard of its tables.

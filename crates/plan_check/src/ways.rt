@@ -8,6 +8,7 @@ use pua_model::Plan;
 use sig_types::{GroupNo, InterNo, StageNo};
 
 // Whether an interstage leads from the stage.
+#[tactic(auto, using(crate::proofs::Tests::left_by, crate::proofs::Tests::never_left))]
 pub(crate) fn is_left(plan: &Plan, stage: StageNo) -> bool
     ensures is { result ≡ ways.is_left plan.now stage.0 }
     ensures left { result ≡ true → IsLeft plan.now stage.0 }
@@ -23,6 +24,7 @@ pub(crate) fn is_left(plan: &Plan, stage: StageNo) -> bool
 }
 
 // Whether an interstage leads to the stage.
+#[tactic(auto, using(crate::proofs::Tests::reached_by, crate::proofs::Tests::never_reached))]
 pub(crate) fn is_reached(plan: &Plan, stage: StageNo) -> bool
     ensures is { result ≡ ways.is_reached plan.now stage.0 }
     ensures reached { result ≡ true → IsReached plan.now stage.0 }
@@ -38,6 +40,7 @@ pub(crate) fn is_reached(plan: &Plan, stage: StageNo) -> bool
 }
 
 // Whether a stage has the group green.
+#[tactic(auto, using(crate::proofs::Tests::green_in, crate::proofs::Tests::red_in_all))]
 pub(crate) fn is_ever_green(plan: &Plan, group: GroupNo) -> bool
     requires { group.0 < groups_in plan.now }
     ensures is { result ≡ ways.is_ever_green plan.now group.0 }
