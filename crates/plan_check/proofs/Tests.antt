@@ -3,7 +3,7 @@ use Rattle.std.proofs.Common.{◌≡◌, ℕ, ◌<◌, ◌+◌, ◌-◌, Bool, t
 use Rattle.std.specs.List.{list_any}
 use Rattle.std.proofs.lemmas.Bool.{eq-eqb, ne_eqb}
 use Rattle.std.proofs.lemmas.List.Folds.{list_any_at}
-use Rattle.pua_model.specs.Plan.{PlanOf, HasStage, in_stage, interstage_at, no_interstage}
+use Rattle.pua_model.specs.Plan.{PlanOf, in_stage, interstage_at, no_interstage}
 use Rattle.plan_check.specs.Ways.{is_left, is_reached, is_ever_green, IsNeverLeft, IsNeverReached}
 
 -- no element passes a test where none at a place does
@@ -35,7 +35,8 @@ never_reached p s never = none_passes (λ w. nat_eq w.to s) p.interstages no_int
 -- the k-th stage, counted from 0, has the group green
 pub green_in : (p : PlanOf) (g k : ℕ) → k < length p.stages → in_stage p (k + 1) g ≡ true → is_ever_green p g ≡ true
 unfolding is_ever_green
-green_in p g k lt green = list_any_at (λ greens. get_or greens g false) p.stages k [] lt (let e : k + 1 - 1 ≡ k = omega arith in rw e at green)
+green_in p g k lt green =
+    list_any_at (λ greens. get_or greens g false) p.stages k [] lt (let e : k + 1 - 1 ≡ k = omega arith in rw e at green)
 
 -- none has
 pub red_in_all : (p : PlanOf) (g : ℕ) → ((k : ℕ) → k < length p.stages → in_stage p (k + 1) g ≡ false) → is_ever_green p g ≡ false

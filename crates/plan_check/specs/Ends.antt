@@ -41,8 +41,8 @@ later None b = b
 later (Some a) None = Some a
 later (Some a) (Some b) = Some (max a b)
 
--- when the red of group g may end in an interstage after the ends of the first n groups in conflict with it, by the seconds between
--- two groups that conflict; None where none ends
+-- when the red of group g may end in an interstage after the ends of the first n groups in conflict with it, by the seconds
+-- between two groups that conflict; None where none ends
 unfoldable pub needed_after : PlanOf → (ℕ → ℕ → Option ℕ) → ℕ → ℕ → ℕ → ℕ → Option ℕ
 needed_after p between red_amber i g zero = None
 needed_after p between red_amber i g (suc n) =

@@ -11,7 +11,6 @@ use Rattle.sig_tables.specs.SiteRules.{rules_by}
 use Rattle.sig_audit.specs.declared.trial.InterEnd.{InterEnd}
 use Rattle.sig_audit.specs.declared.trial.InterEnd.TheVariants.{Clean, Unsettled, Refused}
 use Rattle.sig_audit.specs.Trial.{first_turn, is_settled, refused_in}
-use Rattle.plan_check.specs.declared.ends.LateEnd.{LateEnd}
 use Rattle.plan_check.specs.declared.warnings.Way.{Way}
 use Rattle.plan_check.specs.declared.warnings.Way.TheVariants.{From, To, Both}
 use Rattle.plan_check.specs.declared.warnings.PlanWarning.{PlanWarning}

@@ -58,7 +58,7 @@ fn way_lacking(plan: &Plan, stage: StageNo) -> Option<Way>
 }
 
 // Warns of the stages that lack a way. A plan of one stage needs none.
-#[tactic(auto, unfolding(crate::specs::Warnings::stage_warnings), using(crate::proofs::Listed::none_below, crate::proofs::Listed::one_more, crate::proofs::Listed::no_more))]
+#[tactic(auto, unfolding(crate::specs::Warnings::stage_warnings), using(crate::proofs::Listed::steps))]
 fn warn_of_stages(plan: &Plan, warnings: &mut Vec<PlanWarning>) -> Result<(), AllocError>
     ensures { OnOk result (warnings.new.items ≡ warnings.old.items ++ listed.stage_warnings plan.now) }
 {
@@ -75,7 +75,7 @@ fn warn_of_stages(plan: &Plan, warnings: &mut Vec<PlanWarning>) -> Result<(), Al
 }
 
 // Warns of the groups that no stage has green.
-#[tactic(auto, unfolding(crate::specs::Warnings::group_warnings), using(crate::proofs::Listed::none_below, crate::proofs::Listed::one_more, crate::proofs::Listed::no_more))]
+#[tactic(auto, unfolding(crate::specs::Warnings::group_warnings), using(crate::proofs::Listed::steps))]
 fn warn_of_groups(plan: &Plan, warnings: &mut Vec<PlanWarning>) -> Result<(), AllocError>
     ensures { OnOk result (warnings.new.items ≡ warnings.old.items ++ listed.group_warnings plan.now) }
 {
@@ -117,7 +117,7 @@ fn warn_of_end(
 }
 
 // Warns of the groups whose red ends late in an interstage.
-#[tactic(auto, unfolding(crate::specs::Warnings::late_warnings), using(crate::proofs::Listed::none_below, crate::proofs::Listed::one_more, crate::proofs::Listed::no_more))]
+#[tactic(auto, unfolding(crate::specs::Warnings::late_warnings), using(crate::proofs::Listed::steps))]
 fn warn_of_late_ends(
     plan: &Plan,
     times: &Times,
@@ -182,8 +182,8 @@ fn try_interstages(
     Ok(())
 }
 
-/// The interstages that do not do what they say at this site, and the groups whose red ends late in one, interstage by interstage.
-/// Its one failure is want of memory.
+/// Of each interstage in turn that it does not do what it says at this site, and then the groups whose red ends late in it. Both
+/// tables are of the plan's groups. Its one failure is want of memory.
 pub fn interstage_warnings(
     alloc: Global,
     plan: &Plan,
