@@ -1,57 +1,75 @@
-// The words of a row.
+// The words of a line.
+ghost use Rattle.std.specs.Prelude.{◌≡◌, ◌+◌, ◌≤◌, length, not, MatchOption, [], ◌∷◌, false, None, Some};
+ghost use Rattle.std.specs.List.{prefix_len};
+ghost use Rattle.pua_reader.specs.Words.{parts, words};
+ghost use Rattle.pua_lines.specs.Sections.{first_spot, dollar_word};
+
 use crate::spot::Spot;
 
-/// The bytes of a text from one place up to another, as far as it has them.
-pub(crate) fn part_of(text: &[u8], from: usize, to: usize) -> &[u8] {
-    let to = to.min(text.len());
-    let from = from.min(to);
-    &text[from..to]
-}
-
-/// The line without a carriage return at its end.
-pub(crate) fn without_return(line: &[u8]) -> &[u8] {
-    match line.last() {
-        Some(b'\r') => part_of(line, 0, line.len().saturating_sub(1)),
-        _ => line,
-    }
-}
-
-/// Whether a byte parts the words of a row; `keys` tells that the row stands in an interstage.
-fn parts(keys: bool, b: u8) -> bool {
+// Spaces and tabs part words, and in an interstage `:` and `=` do.
+fn parts(keys: bool, b: u8) -> bool
+    ensures { result ≡ parts keys b }
+{
     b == b' ' || b == b'\t' || keys && (b == b':' || b == b'=')
 }
 
-/// The place of word `wanted` of a row, from 1, and where it ends.
-pub(crate) fn word_span(row: &[u8], keys: bool, wanted: u32) -> Option<(usize, usize)> {
-    let mut number = 0u32;
-    let mut from = None;
-    for (i, b) in row.iter().enumerate() {
-        match (from, parts(keys, *b)) {
-            (None, false) => {
-                number = number.saturating_add(1);
-                from = Some(i);
-            }
-            (Some(from), true) if number == wanted => return Some((from, i)),
-            (Some(_), true) => from = None,
-            (None, true) | (Some(_), false) => {}
+// How many bytes of a line stand before its first word.
+fn gap(keys: bool, line: &[u8]) -> usize
+    ensures gap { result ≡ prefix_len (parts keys) line.now }
+    ensures within { result ≤ length line.now }
+{
+    for i in 0..line.len() {
+        if !parts(keys, line[i]) {
+            return i;
         }
     }
-    match from {
-        Some(from) if number == wanted => Some((from, row.len())),
+    line.len()
+}
+
+// How many bytes the word has with which a line begins.
+fn word_size(keys: bool, line: &[u8]) -> usize
+    ensures size { result ≡ prefix_len (λ b. not (parts keys b)) line.now }
+    ensures within { result ≤ length line.now }
+{
+    for i in 0..line.len() {
+        if parts(keys, line[i]) {
+            return i;
+        }
+    }
+    line.len()
+}
+
+/// The first word of a line, and what stands after it; `keys` tells that the line stands in an interstage.
+pub(crate) fn cut_word(keys: bool, line: &[u8]) -> Option<(&[u8], &[u8])>
+    ensures { MatchOption result (words keys line.now ≡ []) (λ p. words keys line.now ≡ p.0.now ∷ words keys p.1.now) }
+{
+    let (_, rest) = line.split_at(gap(keys, line));
+    if rest.is_empty() {
+        return None;
+    }
+    Some(rest.split_at(word_size(keys, rest)))
+}
+
+/// The place of the first word of the line with this number.
+pub(crate) fn first_spot(number: u32, line: &[u8]) -> Spot
+    ensures { result ≡ first_spot number line.now }
+{
+    let from = gap(false, line);
+    let (_, rest) = line.split_at(from);
+    Spot {
+        line: number,
+        from,
+        to: from + word_size(false, rest),
+    }
+}
+
+/// The word after the `$` with which a line begins.
+pub(crate) fn dollar_word(line: &[u8]) -> Option<&[u8]>
+    ensures { MatchOption result (dollar_word (words false line.now) ≡ None) (λ w. dollar_word (words false line.now) ≡ Some w.now) }
+{
+    let (word, _) = cut_word(false, line)?;
+    match word.split_first() {
+        Some((b'$', rest)) => Some(rest),
         _ => None,
     }
-}
-
-/// Word `wanted` of a row, from 1; no bytes where it has none.
-pub(crate) fn word_of(row: &[u8], keys: bool, wanted: u32) -> &[u8] {
-    match word_span(row, keys, wanted) {
-        Some((from, to)) => part_of(row, from, to),
-        None => &[],
-    }
-}
-
-/// The first word of a row.
-pub(crate) fn first_word(row: &[u8], line: u32) -> Spot {
-    let (from, to) = word_span(row, false, 1).unwrap_or((0, 0));
-    Spot { line, from, to }
 }
