@@ -1,2 +1,3 @@
 pub mod CutWords
 pub mod UpToEnd
+pub mod Slips
