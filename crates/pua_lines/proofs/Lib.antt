@@ -1,3 +1,5 @@
 pub mod CutWords
 pub mod UpToEnd
 pub mod Slips
+pub mod EndsRows
+pub mod PartLines

@@ -1,3 +1,5 @@
 pub mod Near
 pub mod Sections
+pub mod Parts
+pub mod Kinds
 pub mod Laws

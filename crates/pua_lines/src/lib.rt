@@ -1,11 +1,16 @@
 //! The lines of a PUA file: which of them nearly begin a section, and where the parts of its plan stand.
 #![tactic(auto)]
 
+mod ends;
 mod lines;
 mod near;
+mod part;
+mod parts;
+mod place;
 mod section;
 mod spot;
 mod words;
 
+pub use parts::PlanLines;
 pub use section::{Misspelt, SectionWord, misspelt_sections};
 pub use spot::Spot;

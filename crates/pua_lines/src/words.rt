@@ -1,6 +1,7 @@
 // The words of a line.
 ghost use Rattle.std.specs.Prelude.{◌≡◌, ◌+◌, ◌≤◌, length, not, MatchOption, [], ◌∷◌, false, None, Some};
 ghost use Rattle.std.specs.List.{prefix_len};
+ghost use Rattle.pua_reader.specs.Interstages.{word};
 ghost use Rattle.pua_reader.specs.Words.{parts, words};
 ghost use Rattle.pua_lines.specs.Sections.{first_spot, dollar_word};
 
@@ -48,6 +49,16 @@ pub(crate) fn cut_word(keys: bool, line: &[u8]) -> Option<(&[u8], &[u8])>
         return None;
     }
     Some(rest.split_at(word_size(keys, rest)))
+}
+
+/// The first word of a line; no bytes where it has none.
+pub(crate) fn first_word(keys: bool, line: &[u8]) -> &[u8]
+    ensures { result.now ≡ word (words keys line.now) 0 }
+{
+    match cut_word(keys, line) {
+        Some((word, _)) => word,
+        None => &[],
+    }
 }
 
 /// The place of the first word of the line with this number.
