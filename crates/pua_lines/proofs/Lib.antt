@@ -3,3 +3,4 @@ pub mod UpToEnd
 pub mod Slips
 pub mod EndsRows
 pub mod PartLines
+pub mod NearSlips

@@ -2,6 +2,7 @@
 #![tactic(auto)]
 
 mod ends;
+mod laws;
 mod lines;
 mod near;
 mod part;
@@ -11,6 +12,7 @@ mod section;
 mod spot;
 mod words;
 
+pub use laws::near_is_one_slip;
 pub use parts::PlanLines;
 pub use section::{Misspelt, SectionWord, misspelt_sections};
 pub use spot::Spot;
