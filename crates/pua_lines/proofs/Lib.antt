@@ -4,3 +4,4 @@ pub mod Slips
 pub mod EndsRows
 pub mod PartLines
 pub mod NearSlips
+pub mod StageLines
