@@ -5,3 +5,4 @@ pub mod EndsRows
 pub mod PartLines
 pub mod NearSlips
 pub mod StageLines
+pub mod InterstageLines
