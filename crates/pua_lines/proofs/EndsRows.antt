@@ -1,12 +1,12 @@
 -- The rows of an interstage that give the ends of a group.
-use Rattle.std.proofs.Common.{◌≡◌, ℕ, ◌==◌, Bool, true, false, ◌&&◌, ◌||◌, List, [], ◌∷◌, refl, sym, ap, ◌∙◌, Option, Some, None, if◌then◌else◌, codes, is_some}
+use Rattle.std.proofs.Common.{◌≡◌, Bool, true, false, ◌&&◌, ◌||◌, [], ◌∷◌, refl, None, if◌then◌else◌, codes, is_some}
 use Rattle.sig_types.specs.Text.{same_name, is_name, number_of}
 use Rattle.pua_reader.specs.declared.form.Form.{Form}
 use Rattle.pua_reader.specs.declared.form.Form.TheVariants as form
 use Rattle.pua_reader.specs.Words.{Text, signed_of}
 use Rattle.pua_reader.specs.Stages.{is_stage_word}
 use Rattle.pua_reader.specs.Interstages.{number_form, stage_form, ends_form, form_of_two, form_of_three}
-use Rattle.pua_reader.specs.InterstageRows.{same_form, form_number}
+use Rattle.pua_reader.specs.InterstageRows.{same_form}
 use Rattle.pua_lines.specs.Parts.{ends_name}
 
 -- a form that is not that of ends, or none

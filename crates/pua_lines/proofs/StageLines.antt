@@ -1,9 +1,8 @@
 -- The line of a stage begins with its name.
-use Rattle.std.proofs.Common.{◌≡◌, ℕ, zero, suc, ◌+◌, ◌-◌, ◌<◌, ◌≤◌, ◌==◌, ◌⊎◌, inl, inr, Bool, true, false, not, ◌&&◌, List, [], ◌∷◌, ◌++◌, length, map, get_or, refl, sym, ap, ◌∙◌, arith, Option, Some, None, if◌then◌else◌}
+use Rattle.std.proofs.Common.{◌≡◌, ℕ, suc, ◌+◌, ◌-◌, ◌<◌, ◌≤◌, ◌==◌, ◌⊎◌, inl, inr, Bool, true, false, not, ◌&&◌, List, [], ◌∷◌, ◌++◌, length, map, get_or, refl, sym, ap, ◌∙◌, arith, Option, Some, None, if◌then◌else◌}
 use Rattle.std.specs.List.{find}
 use Rattle.std.specs.Option.{option_map, option_and_then}
-use Rattle.std.specs.Prelude.{cond}
-use Rattle.std.proofs.lemmas.Bool.{eqb-true, eqb-false, eq-eqb, ne_eqb, cases_Bool, and_parts, true≢false}
+use Rattle.std.proofs.lemmas.Bool.{eqb-true, eqb-false, cases_Bool, true≢false}
 use Rattle.pua_model.specs.declared.parts.Group.{Group}
 use Rattle.pua_model.specs.declared.parts.Stage.{Stage as StageOf}
 use Rattle.pua_model.specs.Plan.{PlanOf, group_named}
@@ -15,14 +14,14 @@ use Rattle.pua_reader.specs.Words.{Text, words, kind_of}
 use Rattle.pua_reader.specs.Interstages.{word}
 use Rattle.pua_reader.specs.Stages.{is_stage_row, is_red_word, greens_of}
 use Rattle.pua_reader.specs.PlanDraft.{is_interstage}
-use Rattle.pua_reader.specs.Accepted.{lines_in, refusal_of, plan_of_text}
+use Rattle.pua_reader.specs.Accepted.{lines_in, plan_of_text}
 use Rattle.pua_reader.specs.SectionRows.{section_with, is_row, same_section, row_here, rows_from, rows_in, stages_from, file_groups, file_stages}
 use Rattle.pua_reader.proofs.RowsSaid.{plan_says_its_rows}
 use Rattle.pua_lines.specs.declared.part.Part.{Part}
 use Rattle.pua_lines.specs.declared.part.Part.TheVariants.{Stage, Interstage, Group as GroupPart, Ends}
 use Rattle.pua_lines.specs.declared.spot.Spot.{Spot}
 use Rattle.pua_lines.specs.Sections.{first_spot}
-use Rattle.pua_lines.specs.Parts.{PlaceOf, start, gives_stage, more_if, next_in, next, placed_from, placed_lines, row_part, kind_part, line_part, is_part, line_spot, part_spot, stage_spot, group_part, ends_part, ends_name, group_at}
+use Rattle.pua_lines.specs.Parts.{PlaceOf, start, gives_stage, more_if, next, placed_from, row_part, kind_part, line_part, is_part, line_spot, part_spot, stage_spot, ends_part, ends_name, group_at}
 use Rattle.pua_lines.specs.Laws.{BeginsWith, StageLinesNameStages}
 
 -- the names of the stages of rows
@@ -135,8 +134,8 @@ later at after line name name' more o o' number there same named =
       after = omega (arith, number, there.after);
       within = omega (arith, number, there.within);
       text =
-        let next : there.found.0.number - at.number - 1 ≡ suc (there.found.0.number - after.number - 1) = omega (arith, number, there.after) in
-        ap (λ (n : ℕ). get_or (line ∷ more) n []) next ∙ there.text;
+          let next : there.found.0.number - at.number - 1 ≡ suc (there.found.0.number - after.number - 1) = omega (arith, number, there.after) in
+          ap (λ (n : ℕ). get_or (line ∷ more) n []) next ∙ there.text;
       named = there.named ∙ named;
     }
 
@@ -209,8 +208,8 @@ spot_line text lines o name s all is it =
       at_least = omega (arith, line, it.after);
       at_most = rw (← all) (omega (arith, line, it.within));
       first =
-        let place : s.line - 1 ≡ it.found.0.number - 0 - 1 = omega (arith, line) in
-        rw (← all) (ap (λ (n : ℕ). word (words false (get_or lines n [])) 0) place ∙ ap (λ l. word (words false l) 0) it.text ∙ it.named);
+          let place : s.line - 1 ≡ it.found.0.number - 0 - 1 = omega (arith, line) in
+          rw (← all) (ap (λ (n : ℕ). word (words false (get_or lines n [])) 0) place ∙ ap (λ l. word (words false l) 0) it.text ∙ it.named);
     }
 
 pub stage_lines_name_stages : StageLinesNameStages

@@ -1,7 +1,6 @@
 use Rattle.std.proofs.Common.{arith, ap}
 use Rattle.pua_lines.specs.Kinds.{place_value}
 use Rattle.pua_lines.specs.Parts.{PlaceOf, ArePlacesIn}
-use Rattle.pua_lines.proofs.UpToEnd.{mark_within}
 use Rattle.pua_lines.proofs.PartLines.{parts_at_start, parts_step, parts_at_last, rest_within}
 use Rattle.pua_lines.proofs.parts.PlanLines.of.Goals as goal
 
