@@ -47,7 +47,8 @@ full_front p x xs goes = rw (goes, one-add) (full_cons x (take (prefix_len (λ b
 front_by : (p : ℕ → Bool) (x : ℕ) (xs : Text) → p x ≡ false → IsParted p (x ∷ xs) →
     filter full (slice_split p (x ∷ xs)) ≡ take (prefix_len (λ b. not (p b)) (x ∷ xs)) (x ∷ xs)
     ∷ filter full (slice_split p (drop (prefix_len (λ b. not (p b)) (x ∷ xs)) (x ∷ xs)))
-front_by p x xs goes it = ap (filter full) it.is ∙ rw (full_front p x xs goes) (ap (λ l. take (prefix_len (λ b. not (p b)) (x ∷ xs)) (x ∷ xs) ∷ l) (sym it.rest))
+front_by p x xs goes it = ap (filter full) it.is ∙ rw (full_front p x xs goes) (ap (λ l. take (prefix_len (λ b. not (p b))
+    (x ∷ xs)) (x ∷ xs) ∷ l) (sym it.rest))
 
 -- nothing is lost with what stands before the first word
 gap_by : (p : ℕ → Bool) (b : Bool) (x : ℕ) (xs : Text) → p x ≡ b →
@@ -86,22 +87,27 @@ something [] e = absurd (cc)
 something (x ∷ xs) e = grind arith
 
 -- a line without a word
-no_word_nil : (keys : Bool) (line rest : Text) → rest ≡ drop (prefix_len (parts keys) line) line → rest ≡ [] → words keys line ≡ []
+no_word_nil : (keys : Bool) (line rest : Text) → rest ≡ drop (prefix_len (parts keys) line) line → rest ≡ [] →
+    words keys line ≡ []
 unfolding words
 no_word_nil keys line rest is none = gap_lost (parts keys) line ∙ rw (← is, none) refl
 
-pub no_word : (keys : Bool) (line rest : Text) → rest ≡ drop (prefix_len (parts keys) line) line → true ≡ (length rest == 0) → words keys line ≡ []
+pub no_word : (keys : Bool) (line rest : Text) → rest ≡ drop (prefix_len (parts keys) line) line → true ≡ (length rest == 0) →
+    words keys line ≡ []
 no_word keys line rest is none = no_word_nil keys line rest is (nothing rest none)
 
 word_at_front : (keys : Bool) (line rest : Text) → rest ≡ drop (prefix_len (parts keys) line) line → 0 < length rest →
-    words keys line ≡ take (prefix_len (λ b. not (parts keys b)) rest) rest ∷ words keys (drop (prefix_len (λ b. not (parts keys b)) rest) rest)
+    words keys line ≡ take (prefix_len (λ b. not (parts keys b)) rest) rest ∷ words keys (drop (prefix_len (λ b. not
+    (parts keys b)) rest) rest)
 unfolding words
 word_at_front keys line [] is some = absurd (omega (arith, some))
 word_at_front keys line (x ∷ xs) is some =
-    gap_lost (parts keys) line ∙ rw (← is) (front_by (parts keys) x xs (after_gap (parts keys) line x xs (sym is)) (parted (parts keys) (x ∷ xs)))
+    gap_lost (parts keys) line ∙ rw (← is) (front_by (parts keys) x xs (after_gap (parts keys) line x xs (sym is)) (parted
+    (parts keys) (x ∷ xs)))
 
 -- a line with one
-pub first_word : (keys : Bool) (line rest a b : Text) → rest ≡ drop (prefix_len (parts keys) line) line → false ≡ (length rest == 0) →
+pub first_word : (keys : Bool) (line rest a b : Text) → rest ≡ drop (prefix_len (parts keys) line) line →
+    false ≡ (length rest == 0) →
     a ≡ take (prefix_len (λ b. not (parts keys b)) rest) rest → b ≡ drop (prefix_len (λ b. not (parts keys b)) rest) rest →
     words keys line ≡ a ∷ words keys b
 first_word keys line rest a b is some front back = rw (front, back) (word_at_front keys line rest is (something rest some))
@@ -116,7 +122,8 @@ size_by [] line is = rw (no_word_nil false line [] is refl) refl
 size_by (x ∷ xs) line is =
     rw (word_at_front false line (x ∷ xs) is (grind arith)) (sym (size_taken (λ b. not (parts false b)) (x ∷ xs)))
 
-pub spot_is : (n from size : ℕ) (line rest : Text) → from ≡ prefix_len (parts false) line → rest ≡ drop (prefix_len (parts false) line) line →
+pub spot_is : (n from size : ℕ) (line rest : Text) → from ≡ prefix_len (parts false) line →
+    rest ≡ drop (prefix_len (parts false) line) line →
     size ≡ prefix_len (λ b. not (parts false b)) rest →
     ◌≡◌ {A = Spot} (record { line = n; from = from; to = from + size }) (first_spot n line)
 unfolding first_spot

@@ -38,8 +38,10 @@ pub ends_of_three : (a b c : Text) → same_form form.Ends (form_of_three a b c)
     else (is_name a && is_some (signed_of b) && is_some (signed_of c)))
 unfolding form_of_three
 ends_of_three a b c =
-    three_by (same_name a (codes "length")) (same_name b (codes "[s]")) (same_name a (codes "from") && same_name b (codes "stage"))
-    (same_name a (codes "to") && same_name b (codes "stage")) (same_name a (codes "interstage") && same_name b (codes "number")) a b c
+    three_by (same_name a (codes "length")) (same_name b (codes "[s]")) (same_name a (codes "from") && same_name b
+    (codes "stage"))
+    (same_name a (codes "to") && same_name b (codes "stage")) (same_name a (codes "interstage") && same_name b
+    (codes "number")) a b c
 
 two_by : (l f t i : Bool) (b : Text) →
     same_form form.Ends (if l then number_form b else if f then stage_form form.From b else if t then stage_form form.To b

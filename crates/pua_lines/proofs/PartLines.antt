@@ -18,25 +18,31 @@ use Rattle.pua_lines.specs.Parts.{PlaceOf, start, next, placed_from, placed_line
 use Rattle.pua_lines.proofs.UpToEnd.{cons_is, mark_within}
 
 -- the first part that is wanted is that of the first line that gives it
-first_by : (b : Bool) (part : Part) (p : PlaceOf × Text) (r : Option PlacedPart) (o : Option (PlaceOf × Text)) → found_spot r ≡ line_spot o →
+first_by : (b : Bool) (part : Part) (p : PlaceOf × Text) (r : Option PlacedPart) (o : Option (PlaceOf × Text)) →
+    found_spot r ≡ line_spot o →
     found_spot (cond b (Some (record { part = part; spot = first_spot p.0.number p.1 })) r) ≡ line_spot (cond b (Some p) o)
 first_by true part p r o same = refl
 first_by false part p r o same = same
 
 first_given : (wanted : Part) (given : Option Part) (p : PlaceOf × Text) (rs : List PlacedPart) (o : Option (PlaceOf × Text)) →
     found_spot (find (λ r. same_part r.part wanted) rs) ≡ line_spot o →
-    found_spot (find (λ r. same_part r.part wanted) (cons_option (option_map (λ part. record { part = part; spot = first_spot p.0.number p.1 }) given) rs))
+    found_spot (find (λ r. same_part r.part wanted) (cons_option (option_map
+    (λ part. record { part = part; spot = first_spot p.0.number p.1 }) given) rs))
     ≡ line_spot (cond (is_part wanted given) (Some p) o)
 first_given wanted None p rs o same = same
-first_given wanted (Some part) p rs o same = first_by (same_part part wanted) part p (find (λ r. same_part r.part wanted) rs) o same
+first_given wanted (Some part) p rs o same = first_by (same_part part wanted) part p (find
+    (λ r. same_part r.part wanted) rs) o same
 
 first_of_lines : (plan : PlanOf) (wanted : Part) (ps : List (PlaceOf × Text)) →
-    found_spot (find (λ r. same_part r.part wanted) (placed_parts plan ps)) ≡ line_spot (find (λ p. is_part wanted (line_part plan p)) ps)
+    found_spot (find (λ r. same_part r.part wanted) (placed_parts plan ps))
+    ≡ line_spot (find (λ p. is_part wanted (line_part plan p)) ps)
 first_of_lines plan wanted [] = refl
 first_of_lines plan wanted (p ∷ ps) =
-    first_given wanted (line_part plan p) p (placed_parts plan ps) (find (λ p. is_part wanted (line_part plan p)) ps) (first_of_lines plan wanted ps)
+    first_given wanted (line_part plan p) p (placed_parts plan ps) (find (λ p. is_part wanted (line_part plan p)) ps)
+    (first_of_lines plan wanted ps)
 
-pub spot_found : (plan : PlanOf) (text : Text) (wanted : Part) (parts : List PlacedPart) → parts ≡ placed_parts plan (placed_lines text) →
+pub spot_found : (plan : PlanOf) (text : Text) (wanted : Part) (parts : List PlacedPart) →
+    parts ≡ placed_parts plan (placed_lines text) →
     found_spot (find (λ r. same_part r.part wanted) parts) ≡ part_spot plan text wanted
 unfolding part_spot
 spot_found plan text wanted parts are = rw are (first_of_lines plan wanted (placed_lines text))
@@ -67,20 +73,24 @@ parts_at_last plan text rest parts at so_far none =
     sym (so_far ∙ ap (λ l. parts ++ placed_parts plan (placed_from at l)) (nothing_left rest none) ∙ append-nil parts)
 
 pub parts_step : (plan : PlanOf) (text rest : Text) (parts new : List PlacedPart) (at after : PlaceOf) (line more : Text) →
-    placed_parts plan (placed_lines text) ≡ parts ++ placed_parts plan (placed_from at (lines rest)) → lines rest ≡ line ∷ lines more →
+    placed_parts plan (placed_lines text) ≡ parts ++ placed_parts plan (placed_from at (lines rest)) →
+    lines rest ≡ line ∷ lines more →
     after ≡ next at line → new ≡ parts ++ option_to_list (placed_part plan (after, line)) →
     placed_parts plan (placed_lines text) ≡ new ++ placed_parts plan (placed_from after (lines more))
 unfolding placed_from
 parts_step plan text rest parts new at after line more so_far first place noted =
     so_far ∙ ap (λ l. parts ++ placed_parts plan (placed_from at l)) first
-    ∙ ap (λ (a : PlaceOf). parts ++ cons_option (placed_part plan (a, line)) (placed_parts plan (placed_from a (lines more)))) (sym place)
+    ∙ ap (λ (a : PlaceOf). parts ++ cons_option (placed_part plan (a, line)) (placed_parts plan (placed_from a (lines more))))
+    (sym place)
     ∙ ap (λ l. parts ++ l) (cons_is (placed_part plan (after, line)) (placed_parts plan (placed_from after (lines more))))
-    ∙ sym (append_assoc parts (option_to_list (placed_part plan (after, line))) (placed_parts plan (placed_from after (lines more))))
+    ∙ sym (append_assoc parts (option_to_list (placed_part plan (after, line))) (placed_parts plan (placed_from after
+    (lines more))))
     ∙ ap (λ l. l ++ placed_parts plan (placed_from after (lines more))) (sym noted)
 
 pub rest_within : (text rest : Text) → rest ≡ without_mark text → length rest ≤ length text
 rest_within text rest is = rw is (mark_within text)
 
 pub spot_told : (plan : PlanOf) (text : Text) (wanted : Part) (parts : List PlacedPart) (s : Spot) →
-    s ≡ found_spot (find (λ r. same_part r.part wanted) parts) → parts ≡ placed_parts plan (placed_lines text) → s ≡ part_spot plan text wanted
+    s ≡ found_spot (find (λ r. same_part r.part wanted) parts) → parts ≡ placed_parts plan (placed_lines text) →
+    s ≡ part_spot plan text wanted
 spot_told plan text wanted parts s is are = is ∙ spot_found plan text wanted parts are

@@ -39,7 +39,8 @@ row_by true true groups [] more = refl
 row_by true true groups (w ∷ ws) more = red_by (is_red_word w)
   where
     red_by : (r : Bool) →
-        map (λ (s : StageOf). s.name) (if r then stages_from groups more else record { name = w; greens = greens_of groups ws } ∷ stages_from groups more)
+        map (λ (s : StageOf). s.name) (if r then stages_from groups more else record { name = w; greens = greens_of groups ws }
+        ∷ stages_from groups more)
         ≡ (if not r then w ∷ names_of groups more else names_of groups more)
     red_by true = refl
     red_by false = refl
@@ -47,15 +48,18 @@ row_by true true groups (w ∷ ws) more = red_by (is_red_word w)
 row_more : (groups : List Group) (now : Section) (line : Text) (more : List (List Text)) →
     names_of groups (row_here section.Stages now line ++ more)
     ≡ (if gives_stage now line then word (words false line) 0 ∷ names_of groups more else names_of groups more)
-row_more groups now line more = row_by (same_section section.Stages now) (is_row (kind_of (words false line))) groups (words false line) more
+row_more groups now line more = row_by (same_section section.Stages now) (is_row (kind_of (words false line))) groups
+    (words false line) more
 
 -- a line that gives a stage gives that one, and any other line none
 no_kind : (b : Bool) → (b && false) ≡ true → ⊥
 no_kind true e = true≢false (sym e)
 no_kind false e = true≢false (sym e)
 
-stage_kind : (plan : PlanOf) (at : PlaceOf) (line : Text) (k : Kind) (now : Section) → at.section ≡ now → kind_of (words false line) ≡ k →
-    (same_section section.Stages now && (is_row k && is_stage_row (words false line))) ≡ true → kind_part k plan at line ≡ Some (Stage at.stages)
+stage_kind : (plan : PlanOf) (at : PlaceOf) (line : Text) (k : Kind) (now : Section) → at.section ≡ now →
+    kind_of (words false line) ≡ k →
+    (same_section section.Stages now && (is_row k && is_stage_row (words false line))) ≡ true →
+    kind_part k plan at line ≡ Some (Stage at.stages)
 stage_kind plan at line Row section.Stages is kind gives = rw is (stage_row (is_stage_row (words false line)) gives)
   where
     stage_row : (b : Bool) → b ≡ true → (if b then Some (Stage at.stages) else None) ≡ Some (Stage at.stages)
@@ -82,7 +86,8 @@ no_ends_row s i plan None = refl
 no_ends_row s i plan (Some name) = no_ends s i (group_named plan name)
 
 other_row : (s : ℕ) (plan : PlanOf) (at : PlaceOf) (line : Text) (now : Section) →
-    (same_section section.Stages now && is_stage_row (words false line)) ≡ false → is_part (Stage s) (row_part now plan at line) ≡ false
+    (same_section section.Stages now && is_stage_row (words false line)) ≡ false →
+    is_part (Stage s) (row_part now plan at line) ≡ false
 other_row s plan at line section.Before none = refl
 other_row s plan at line section.Groups none = no_group s (group_named plan (word (words false line) 0))
 other_row s plan at line section.Stages none = by_row (is_stage_row (words false line)) none
@@ -95,7 +100,8 @@ other_row s plan at line section.Interstage none = no_ends_row s at.interstages 
 other_row s plan at line section.End none = refl
 
 other_kind : (s : ℕ) (plan : PlanOf) (at : PlaceOf) (line : Text) (k : Kind) →
-    (same_section section.Stages at.section && (is_row k && is_stage_row (words false line))) ≡ false → is_part (Stage s) (kind_part k plan at line) ≡ false
+    (same_section section.Stages at.section && (is_row k && is_stage_row (words false line))) ≡ false →
+    is_part (Stage s) (kind_part k plan at line) ≡ false
 other_kind s plan at line Passed none = refl
 other_kind s plan at line (Begins t) none = by_kind (is_interstage at.section)
   where
@@ -121,11 +127,13 @@ here at after line name more o number is named =
       is = is;
       after = omega (arith, number);
       within = omega (arith, number);
-      text = let first : after.number - at.number - 1 ≡ 0 = omega (arith, number) in ap (λ (n : ℕ). get_or (line ∷ more) n []) first;
+      text = let first : after.number - at.number - 1 ≡ 0 = omega (arith, number) in ap (λ (n : ℕ). get_or
+          (line ∷ more) n []) first;
       named = named;
     }
 
-later : (at after : PlaceOf) (line name name' : Text) (more : List Text) (o o' : Option (PlaceOf × Text)) → after.number ≡ at.number + 1 →
+later : (at after : PlaceOf) (line name name' : Text) (more : List Text) (o o' : Option (PlaceOf × Text)) →
+    after.number ≡ at.number + 1 →
     IsAt after more name o → o' ≡ o → name ≡ name' → IsAt at (line ∷ more) name' o'
 later at after line name name' more o o' number there same named =
     record {
@@ -134,7 +142,8 @@ later at after line name name' more o o' number there same named =
       after = omega (arith, number, there.after);
       within = omega (arith, number, there.within);
       text =
-          let next : there.found.0.number - at.number - 1 ≡ suc (there.found.0.number - after.number - 1) = omega (arith, number, there.after) in
+          let next : there.found.0.number - at.number - 1 ≡ suc (there.found.0.number - after.number - 1) = omega
+          (arith, number, there.after) in
           ap (λ (n : ℕ). get_or (line ∷ more) n []) next ∙ there.text;
       named = there.named ∙ named;
     }
@@ -144,7 +153,8 @@ find_by : (b : Bool) (test : PlaceOf × Text → Bool) (p : PlaceOf × Text) (ps
     find test (p ∷ ps) ≡ (if b then Some p else find test ps)
 find_by b test p ps is = rw is refl
 
-at_stage : (s : ℕ) (names : List Text) (at after : PlaceOf) (line w : Text) (more : List Text) (part : Option Part) (o : Option (PlaceOf × Text)) →
+at_stage : (s : ℕ) (names : List Text) (at after : PlaceOf) (line w : Text) (more : List Text) (part : Option Part)
+    (o : Option (PlaceOf × Text)) →
     part ≡ Some (Stage after.stages) → after.number ≡ at.number + 1 → after.stages ≡ at.stages + 1 → at.stages < s →
     s ≤ at.stages + length (w ∷ names) → word (words false line) 0 ≡ w →
     (after.stages < s → s ≤ after.stages + length names → IsAt after more (get_or names (s - after.stages - 1) []) o) →
@@ -152,20 +162,24 @@ at_stage : (s : ℕ) (names : List Text) (at after : PlaceOf) (line w : Text) (m
 at_stage s names at after line w more part o is number stages below most first rest = by_number (cases_Bool (after.stages == s))
   where
     by_number : ((after.stages == s) ≡ true) ⊎ ((after.stages == s) ≡ false) →
-        IsAt at (line ∷ more) (get_or (w ∷ names) (s - at.stages - 1) []) (if is_part (Stage s) part then Some (after, line) else o)
+        IsAt at (line ∷ more) (get_or (w ∷ names) (s - at.stages - 1) []) (if is_part (Stage s) part then Some
+        (after, line) else o)
     by_number (inl same) =
         let place : s - at.stages - 1 ≡ 0 = omega (arith, eqb-true after.stages s same, stages) in
-        here at after line (get_or (w ∷ names) (s - at.stages - 1) []) more (if is_part (Stage s) part then Some (after, line) else o) number
+        here at after line (get_or (w ∷ names) (s - at.stages - 1) []) more (if is_part (Stage s) part then Some
+        (after, line) else o) number
         (rw (is, same) refl) (first ∙ sym (ap (λ (n : ℕ). get_or (w ∷ names) n []) place))
     by_number (inr other) =
         let apart : after.stages ≡ s → ⊥ = eqb-false after.stages s other in
         let above : after.stages < s = omega (arith, apart, stages, below) in
         let place : s - at.stages - 1 ≡ suc (s - after.stages - 1) = omega (arith, stages, above) in
         later at after line (get_or names (s - after.stages - 1) []) (get_or (w ∷ names) (s - at.stages - 1) []) more o
-        (if is_part (Stage s) part then Some (after, line) else o) number (rest above (omega (arith, stages, most))) (rw (is, other) refl)
+        (if is_part (Stage s) part then Some (after, line) else o) number (rest above (omega (arith, stages, most))) (rw
+        (is, other) refl)
         (sym (ap (λ (n : ℕ). get_or (w ∷ names) n []) place))
 
-line_by : (g : Bool) (s : ℕ) (names : List Text) (at after : PlaceOf) (line : Text) (more : List Text) (part : Option Part) (o : Option (PlaceOf × Text)) →
+line_by : (g : Bool) (s : ℕ) (names : List Text) (at after : PlaceOf) (line : Text) (more : List Text) (part : Option Part)
+    (o : Option (PlaceOf × Text)) →
     (g ≡ true → part ≡ Some (Stage after.stages)) → (g ≡ false → is_part (Stage s) part ≡ false) → after.number ≡ at.number + 1 →
     after.stages ≡ more_if g at.stages → at.stages < s →
     s ≤ at.stages + length (if g then word (words false line) 0 ∷ names else names) →
@@ -199,7 +213,8 @@ stage_at plan groups s (line ∷ more) at below most =
     (rw split at most) (λ b m. stage_at plan groups s more after b m))
 
 -- the spot of the line that is found
-spot_line : (text : Text) (lines : List Text) (o : Option (PlaceOf × Text)) (name : Text) (s : Spot) → lines ≡ lines_in text → s ≡ line_spot o →
+spot_line : (text : Text) (lines : List Text) (o : Option (PlaceOf × Text)) (name : Text) (s : Spot) → lines ≡ lines_in text →
+    s ≡ line_spot o →
     IsAt start lines name o → BeginsWith text s.line name
 unfolding first_spot
 spot_line text lines o name s all is it =
@@ -209,7 +224,8 @@ spot_line text lines o name s all is it =
       at_most = rw (← all) (omega (arith, line, it.within));
       first =
           let place : s.line - 1 ≡ it.found.0.number - 0 - 1 = omega (arith, line) in
-          rw (← all) (ap (λ (n : ℕ). word (words false (get_or lines n [])) 0) place ∙ ap (λ l. word (words false l) 0) it.text ∙ it.named);
+          rw (← all) (ap (λ (n : ℕ). word (words false (get_or lines n [])) 0) place
+          ∙ ap (λ l. word (words false l) 0) it.text ∙ it.named);
     }
 
 pub stage_lines_name_stages : StageLinesNameStages
@@ -217,7 +233,8 @@ unfolding part_spot file_stages
 stage_lines_name_stages = λ text s accepted least most.
     let plan = plan_of_text text in
     let lines = lines_in text in
-    let names : plan.stage_names ≡ names_of (file_groups lines) (rows_in section.Stages lines) = (plan_says_its_rows text accepted).stage_names in
+    let names : plan.stage_names ≡ names_of (file_groups lines) (rows_in section.Stages lines) =
+    (plan_says_its_rows text accepted).stage_names in
     let named = names_of (file_groups lines) (rows_in section.Stages lines) in
     let room : s ≤ 0 + length named = omega (arith, most, ap length names) in
     let it = stage_at plan (file_groups lines) s lines start (omega (arith, least)) room in

@@ -20,8 +20,8 @@ pub enum LineKind {
     Row,
 }
 
-/// Where a line stands: its number from 1, its section, none before the first, and how many lines up to it give a stage and begin an
-/// interstage's section.
+/// Where a line stands: its number from 1, its section, none before the first, and how many lines up to it give a stage and begin
+/// an interstage's section.
 #[derive(Clone, Copy)]
 pub struct Place {
     pub number: u32,

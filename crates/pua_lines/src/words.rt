@@ -76,7 +76,8 @@ pub(crate) fn first_spot(number: u32, line: &[u8]) -> Spot
 
 /// The word after the `$` with which a line begins.
 pub(crate) fn dollar_word(line: &[u8]) -> Option<&[u8]>
-    ensures { MatchOption result (dollar_word (words false line.now) ≡ None) (λ w. dollar_word (words false line.now) ≡ Some w.now) }
+    ensures { MatchOption result (dollar_word (words false line.now) ≡ None)
+        (λ w. dollar_word (words false line.now) ≡ Some w.now) }
 {
     let (word, _) = cut_word(false, line)?;
     match word.split_first() {

@@ -10,7 +10,8 @@ loop-rest-init c =
     let number = ap (λ (p : PlaceOf). p.number) at in
     let stages = ap (λ (p : PlaceOf). p.stages) at in
     let interstages = ap (λ (p : PlaceOf). p.interstages) at in (
-      rw at (parts_at_start c.args.plan.now c.args.text.now c.without_mark-rest.result.now c.new.result.items c.without_mark-rest.ensures c.new.ensures.items),
+      rw at (parts_at_start c.args.plan.now c.args.text.now c.without_mark-rest.result.now c.new.result.items
+          c.without_mark-rest.ensures c.new.ensures.items),
       omega (arith, number, rest_within c.args.text.now c.without_mark-rest.result.now c.without_mark-rest.ensures),
       omega (arith, number, stages),
       omega (arith, number, interstages),
@@ -29,5 +30,6 @@ loop-rest-preserved c = (
 pub returns : goal.returns
 unfolding ArePlacesIn
 returns c =
-    parts_at_last c.args.plan.now c.args.text.now c.loop-rest.rest.now c.loop-rest.lines.parts.items (place_value c.loop-rest.place)
+    parts_at_last c.args.plan.now c.args.text.now c.loop-rest.rest.now c.loop-rest.lines.parts.items
+    (place_value c.loop-rest.place)
     c.loop-rest.invariant.0 c.loop-rest-test.ensures
