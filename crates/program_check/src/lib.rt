@@ -2,10 +2,16 @@
 //! are none or that a detector file never has.
 #![tactic(auto)]
 
+mod assigned;
+mod called;
 mod calls;
-mod marks;
-mod uses;
+mod detectors;
+mod parts;
+mod program;
+mod reads;
+mod variables;
 mod warnings;
 
 pub use calls::CallKind;
-pub use warnings::{Meant, ProgramWarning, Warned, program_warnings};
+pub use program::program_warnings;
+pub use warnings::{Meant, ProgramWarning, Warned};

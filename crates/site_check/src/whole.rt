@@ -302,7 +302,7 @@ fn warn_of_program(
     frames: &Option<Frames>,
     findings: &mut Vec<Finding>,
 ) -> Result<(), AllocError> {
-    for warned in program_warnings(alloc, source.checked, plan.as_ref(), frames.as_ref())? {
+    for warned in program_warnings(alloc, source.checked, plan, frames)? {
         let spot = warned_spot(source, &warned);
         let told = Told::Warned(Warning::Program(warned.warning));
         tell(findings, FileKind::Program, spot, told)?;

@@ -1,0 +1,4 @@
+pub mod Calls
+pub mod Names
+pub mod Firsts
+pub mod Warnings
