@@ -1,3 +1,4 @@
 mod Arguments
-mod Assigned
+mod Distinct
 mod Folds
+mod Told
