@@ -1,4 +1,5 @@
 mod Arguments
 mod Distinct
 mod Folds
+mod Unassigned
 mod Told

@@ -82,7 +82,7 @@ fn note_subs(alloc: Global, subs: &[Routine], names: &mut IndexSet<Name>) -> Res
 }
 
 /// The names that a program assigns anywhere, each once.
-#[tactic(auto, using(crate::proofs::Folds::names_on_last))]
+#[tactic(auto, using(crate::proofs::Folds::names_on))]
 pub fn assigned_names(alloc: Global, program: &Program) -> Result<IndexSet<Name>, AllocError>
     ensures { IfOk result (λ s. s.keys ≡ distinct (flat_map items_assigned (bodies (program_of program.now)))) }
 {

@@ -6,4 +6,4 @@ use Rattle.program_check.proofs.warnings.tell_once.Goals as goal
 
 pub returns : goal.returns
 returns c =
-    ap (map told) (dedup_same _ same _ (λ x y b f' x' y' k. search rules) _ _ c.dedup_by.ensures.filtered) ∙ dedup_told c.args.warned.old.items
+    ap (map told) (dedup_same _ same _ (λ x y b f' x' y' k. search rules) _ _ c.dedup_by.ensures.filtered) ∙ dedup_told c.args.warned.now.items
