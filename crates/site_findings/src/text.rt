@@ -1,8 +1,15 @@
 // The text of findings: a sentence each, with the text of the line and carets below what is meant.
-use crate::finding::{Examined, FileKind, Finding, SiteNames, Told};
+ghost use Rattle.std.specs.Prelude.{◌≡◌, ◌++◌, [], IfOk, OnOk, map, replicate, slice_index_or};
+ghost use Rattle.std.specs.Fmt.{decimal, signed_decimal};
+ghost use Rattle.site_findings.specs.Put.{Puts, PutsSome, prose_of};
+ghost use Rattle.site_findings.specs.Reasons.{group_text};
+ghost use Rattle.site_findings.specs.Shown.{caret_count, is_blank, meant_in, shown_byte, shown_from, shown_line};
+ghost use Rattle.site_findings.specs.Text.{IsFindingsText, IsPart, IsTold, below, counts_text, file_name, line_at, number_text, place_text, reason_text, refuses, warned_text, warns};
+
+use crate::finding::{Examined, FileKind, Finding, SiteNames, Told, Warning};
 use crate::lines::{line_of, part_of, record_of};
 use crate::reasons::put_refusal;
-use crate::sentences::{Sentences, unread};
+use crate::sentences::{Sentences, UNREAD, sentences_of};
 use crate::warned::{put_warning, warning_name};
 use itoa::Buffer;
 use pua_lines::Spot;
@@ -21,30 +28,41 @@ pub(crate) struct Text {
 
 impl Text {
     /// An empty text.
-    pub(crate) fn new(alloc: Global) -> Text {
+    pub(crate) fn new(alloc: Global) -> Text
+        ensures { result.bytes.items ≡ [] }
+    {
         Text {
             bytes: Vec::new(alloc),
         }
     }
 
     /// Puts bytes at the end.
-    pub(crate) fn put(&mut self, bytes: &[u8]) -> Result<(), AllocError> {
+    pub(crate) fn put(&mut self, bytes: &[u8]) -> Result<(), AllocError>
+        ensures { OnOk result (Puts self.old self.new bytes.now) }
+    {
         self.bytes.extend_from_slice(bytes)
     }
 
-    /// Puts a text at the end.
-    pub(crate) fn say(&mut self, text: &str) -> Result<(), AllocError> {
-        self.put(text.as_bytes())
-    }
-
     /// Puts a number in decimal.
-    pub(crate) fn put_number(&mut self, number: u32) -> Result<(), AllocError> {
+    pub(crate) fn put_number(&mut self, number: u32) -> Result<(), AllocError>
+        ensures { OnOk result (Puts self.old self.new (decimal number)) }
+    {
         let mut digits = Buffer::new();
         self.put(digits.format(number).as_bytes())
     }
 
+    // Puts how many there are in decimal.
+    fn put_count(&mut self, count: usize) -> Result<(), AllocError>
+        ensures { OnOk result (Puts self.old self.new (decimal count)) }
+    {
+        let mut digits = Buffer::new();
+        self.put(digits.format(count).as_bytes())
+    }
+
     /// Puts a number in decimal, with its sign where it is below 0.
-    pub(crate) fn put_signed(&mut self, number: i32) -> Result<(), AllocError> {
+    pub(crate) fn put_signed(&mut self, number: i32) -> Result<(), AllocError>
+        ensures { OnOk result (Puts self.old self.new (signed_decimal number)) }
+    {
         let mut digits = Buffer::new();
         self.put(digits.format(number).as_bytes())
     }
@@ -54,32 +72,51 @@ impl Text {
         &mut self,
         plan: &Option<Plan>,
         group: GroupNo,
-    ) -> Result<(), AllocError> {
+    ) -> Result<(), AllocError>
+        ensures { OnOk result (Puts self.old self.new (group_text plan.now group)) }
+    {
         match plan {
-            Some(plan) if group.0 < plan.groups() => self.say(plan.group_name(group)),
-            Some(_) | None => Ok(()),
+            Some(plan) => self.put(name_in(plan, group)),
+            None => Ok(()),
         }
     }
 
     // Puts a byte so many times.
-    fn repeat(&mut self, byte: u8, times: usize) -> Result<(), AllocError> {
-        for _ in 0..times {
+    fn repeat(&mut self, byte: u8, times: usize) -> Result<(), AllocError>
+        ensures { OnOk result (Puts self.old self.new (replicate times byte)) }
+    {
+        for _time in 0..times {
             self.bytes.push(byte)?;
         }
         Ok(())
     }
 
     // Puts a line as it can be shown: a blank for a tab, and a question mark for each byte that is no printable ASCII.
-    fn put_shown(&mut self, line: &[u8]) -> Result<(), AllocError> {
+    fn put_shown(&mut self, line: &[u8]) -> Result<(), AllocError>
+        ensures { OnOk result (Puts self.old self.new (map shown_byte line.now)) }
+    {
         for b in line {
-            self.bytes.push(shown(*b))?;
+            self.bytes.push(shown_byte(*b))?;
         }
         Ok(())
     }
 }
 
+// The name of a group; no bytes where the plan has no such group.
+fn name_in(plan: &Plan, group: GroupNo) -> &[u8]
+    ensures { result.now ≡ slice_index_or plan.now.names group.0 [] }
+{
+    if group.0 < plan.groups() {
+        plan.group_name(group).as_bytes()
+    } else {
+        &[]
+    }
+}
+
 // The byte that is shown in the place of a byte.
-fn shown(b: u8) -> u8 {
+fn shown_byte(b: u8) -> u8
+    ensures { result ≡ shown_byte b }
+{
     if b' ' <= b && b <= b'~' {
         b
     } else if b == b'\t' {
@@ -90,7 +127,9 @@ fn shown(b: u8) -> u8 {
 }
 
 // The line, or the record of a table, that a finding is about.
-fn line_at<'a>(examined: &'a Examined, file: FileKind, line: u32) -> &'a [u8] {
+fn line_at<'a>(examined: &'a Examined, file: FileKind, line: u32) -> &'a [u8]
+    ensures { result.now ≡ line_at examined.now file line }
+{
     match file {
         FileKind::Pua => line_of(&examined.pua, line),
         FileKind::Times => record_of(&examined.times, line),
@@ -101,7 +140,9 @@ fn line_at<'a>(examined: &'a Examined, file: FileKind, line: u32) -> &'a [u8] {
 }
 
 // The name of a file.
-fn file_name<'a>(names: &SiteNames<'a>, file: FileKind) -> &'a str {
+fn file_name<'a>(names: &SiteNames<'a>, file: FileKind) -> &'a str
+    ensures { result.now ≡ file_name names.now file }
+{
     match file {
         FileKind::Pua => names.pua,
         FileKind::Times => names.times,
@@ -111,12 +152,16 @@ fn file_name<'a>(names: &SiteNames<'a>, file: FileKind) -> &'a str {
     }
 }
 
-fn is_blank(b: u8) -> bool {
+fn is_blank(b: u8) -> bool
+    ensures { result ≡ is_blank b }
+{
     b == b' ' || b == b'\t'
 }
 
 // The bytes of a line that are meant: the whole line stands without the blanks around it.
-fn meant(line: &[u8], spot: Spot) -> (usize, usize) {
+fn meant_in(line: &[u8], spot: Spot) -> (usize, usize)
+    ensures { result ≡ meant_in line.now spot }
+{
     if spot.from < spot.to {
         return (spot.from, spot.to);
     }
@@ -125,59 +170,106 @@ fn meant(line: &[u8], spot: Spot) -> (usize, usize) {
     (before, line.len().saturating_sub(after))
 }
 
+// The place from which on a line is shown, of which a part is meant.
+fn shown_from(meant: (usize, usize)) -> usize
+    ensures { result ≡ shown_from meant }
+{
+    if meant.1 <= WIDTH {
+        0
+    } else {
+        meant.0.saturating_sub(WIDTH / 2)
+    }
+}
+
+// How many carets stand below what is meant.
+fn caret_count(start: usize, meant: (usize, usize)) -> usize
+    ensures { result ≡ caret_count start meant }
+{
+    let end = start.saturating_add(WIDTH);
+    meant.1.min(end).saturating_sub(meant.0).max(1)
+}
+
 // Puts a line and the carets below it. Of a long line a part is shown that has the beginning of what is meant.
-fn put_line(text: &mut Text, line: &[u8], spot: Spot) -> Result<(), AllocError> {
+fn put_line(text: &mut Text, line: &[u8], spot: Spot) -> Result<(), AllocError>
+    ensures { OnOk result (Puts text.old text.new (shown_line line.now spot)) }
+{
     if line.is_empty() {
         return Ok(());
     }
-    let (from, to) = meant(line, spot);
-    let start = if to <= WIDTH {
-        0
-    } else {
-        from.saturating_sub(WIDTH / 2)
-    };
-    let end = start.saturating_add(WIDTH);
-    text.say("  ")?;
-    text.put_shown(part_of(line, start, end))?;
-    text.say("\n  ")?;
-    text.repeat(b' ', from.saturating_sub(start))?;
-    text.repeat(b'^', to.min(end).saturating_sub(from).max(1))?;
-    text.say("\n")
+    let meant = meant_in(line, spot);
+    let start = shown_from(meant);
+    text.put(b"  ")?;
+    text.put_shown(part_of(line, start, start.saturating_add(WIDTH)))?;
+    text.put(b"\n  ")?;
+    text.repeat(b' ', meant.0.saturating_sub(start))?;
+    text.repeat(b'^', caret_count(start, meant))?;
+    text.put(b"\n")
 }
 
 // Puts one of the sentences below a line; nothing where it is empty.
-fn put_part(text: &mut Text, head: &str, sentence: &str) -> Result<(), AllocError> {
+fn put_below(text: &mut Text, head: &[u8], sentence: &[u8]) -> Result<(), AllocError>
+    ensures { OnOk result (Puts text.old text.new (below head.now sentence.now)) }
+{
     if sentence.is_empty() {
         return Ok(());
     }
-    text.say(head)?;
-    text.say(sentence)?;
-    text.say("\n")
+    text.put(head)?;
+    text.put(sentence)?;
+    text.put(b"\n")
+}
+
+// Puts the number of a line; nothing for the whole file.
+fn put_line_number(text: &mut Text, line: u32) -> Result<(), AllocError>
+    ensures { OnOk result (Puts text.old text.new (number_text line)) }
+{
+    if line == 0 {
+        return Ok(());
+    }
+    text.put(b":")?;
+    text.put_number(line)
 }
 
 // Puts the name of a file and the line.
-fn put_place(text: &mut Text, name: &str, line: u32) -> Result<(), AllocError> {
-    text.say(name)?;
-    if line > 0 {
-        text.say(":")?;
-        text.put_number(line)?;
-    }
-    text.say(": ")
+fn put_place(text: &mut Text, name: &str, line: u32) -> Result<(), AllocError>
+    ensures { OnOk result (Puts text.old text.new (place_text name.now line)) }
+{
+    text.put(name.as_bytes())?;
+    put_line_number(text, line)?;
+    text.put(b": ")
 }
 
-// Puts a reason, after its subject, with the line and the cure.
+// Puts what is told of a reason, after its subject.
 fn put_reason(
     text: &mut Text,
     sentences: &Sentences,
     line: &[u8],
     spot: Spot,
-) -> Result<(), AllocError> {
-    text.say(": ")?;
-    text.say(sentences.means)?;
-    text.say("\n")?;
+) -> Result<(), AllocError>
+    ensures { OnOk result (Puts text.old text.new (reason_text (prose_of sentences.now) (shown_line line.now spot))) }
+{
+    text.put(b": ")?;
+    text.put(sentences.means)?;
+    text.put(b"\n")?;
     put_line(text, line, spot)?;
-    put_part(text, "  most often: ", sentences.often)?;
-    put_part(text, "  cure: ", sentences.cure)
+    put_below(text, b"  most often: ", sentences.often)?;
+    put_below(text, b"  cure: ", sentences.cure)
+}
+
+// Puts a warning.
+fn put_warned(
+    text: &mut Text,
+    plan: &Option<Plan>,
+    warning: &Warning,
+    line: &[u8],
+    spot: Spot,
+) -> Result<(), AllocError>
+    ensures { OnOk result (Puts text.old text.new (warned_text plan.now warning.now (shown_line line.now spot))) }
+{
+    text.put(warning_name(warning))?;
+    text.put(b": ")?;
+    put_warning(text, plan, warning)?;
+    text.put(b"\n")?;
+    put_line(text, line, spot)
 }
 
 // Puts what is told of a place.
@@ -186,56 +278,68 @@ fn put_told(
     examined: &Examined,
     finding: &Finding,
     line: &[u8],
-) -> Result<(), AllocError> {
+) -> Result<(), AllocError>
+    ensures { OnOk result (PutsSome text.old text.new
+        (IsTold examined.now.plan finding.now.told (shown_line line.now finding.now.spot))) }
+{
     match &finding.told {
         Told::Refused(refusal) => {
-            let sentences = put_refusal(text, &examined.plan, refusal)?;
-            put_reason(text, &sentences, line, finding.spot)
+            put_refusal(text, &examined.plan, refusal)?;
+            put_reason(text, sentences_of(refusal), line, finding.spot)
         }
         Told::Unread => {
-            let sentences = unread();
-            text.say(sentences.word)?;
-            put_reason(text, &sentences, line, finding.spot)
+            text.put(b"ReadFault")?;
+            put_reason(text, &UNREAD, line, finding.spot)
         }
-        Told::NotJudged => text.say("not judged, since the PUA file is not accepted\n"),
-        Told::Warned(warning) => {
-            text.say(warning_name(warning))?;
-            text.say(": ")?;
-            put_warning(text, &examined.plan, warning)?;
-            text.say("\n")?;
-            put_line(text, line, finding.spot)
-        }
+        Told::NotJudged => text.put(b"not judged, since the PUA file is not accepted\n"),
+        Told::Warned(warning) => put_warned(text, &examined.plan, warning, line, finding.spot),
     }
 }
 
+// Puts the part of a finding.
 fn put_finding(
     text: &mut Text,
     examined: &Examined,
     names: &SiteNames<'_>,
     finding: &Finding,
-) -> Result<(), AllocError> {
+) -> Result<(), AllocError>
+    ensures { OnOk result (PutsSome text.old text.new (IsPart names.now examined.now finding.now)) }
+{
     let line = line_at(examined, finding.file, finding.spot.line);
     put_place(text, file_name(names, finding.file), finding.spot.line)?;
     put_told(text, examined, finding, line)
 }
 
-// How many findings are warnings.
-fn warnings_in(findings: &[Finding]) -> u32 {
-    let mut warnings = 0u32;
-    for finding in findings {
-        warnings = warnings.saturating_add(u32::from(matches!(&finding.told, Told::Warned(_))));
+// Whether a file is refused or could not be read.
+fn refuses(told: &Told) -> bool
+    ensures { result ≡ refuses told.now }
+{
+    match told {
+        Told::Refused(_) | Told::Unread => true,
+        Told::NotJudged | Told::Warned(_) => false,
     }
-    warnings
 }
 
-// How many files are refused or could not be read.
-fn refusals_in(findings: &[Finding]) -> u32 {
-    let mut refusals = 0u32;
-    for finding in findings {
-        let counts = matches!(&finding.told, Told::Refused(_) | Told::Unread);
-        refusals = refusals.saturating_add(u32::from(counts));
+fn warns(told: &Told) -> bool
+    ensures { result ≡ warns told.now }
+{
+    match told {
+        Told::Warned(_) => true,
+        Told::Refused(_) | Told::Unread | Told::NotJudged => false,
     }
-    refusals
+}
+
+// Puts how many files are refused, and how many warnings there are.
+fn put_counts(text: &mut Text, findings: &[Finding]) -> Result<(), AllocError>
+    ensures { OnOk result (Puts text.old text.new (counts_text findings.now)) }
+{
+    let refusals = findings.iter().filter(|f| refuses(&f.told)).count();
+    let warnings = findings.iter().filter(|f| warns(&f.told)).count();
+    text.put(b"files refused: ")?;
+    text.put_count(refusals)?;
+    text.put(b", warnings: ")?;
+    text.put_count(warnings)?;
+    text.put(b"\n")
 }
 
 /// The text of all findings, each with its line, and in the end how many there are.
@@ -243,15 +347,13 @@ pub fn write_findings(
     alloc: Global,
     examined: &Examined,
     names: &SiteNames<'_>,
-) -> Result<Vec<u8>, AllocError> {
+) -> Result<Vec<u8>, AllocError>
+    ensures { IfOk result (λ v. IsFindingsText names.now examined.now v.items) }
+{
     let mut text = Text::new(alloc);
     for finding in examined.findings.iter() {
         put_finding(&mut text, examined, names, finding)?;
     }
-    text.say("files refused: ")?;
-    text.put_number(refusals_in(&examined.findings))?;
-    text.say(", warnings: ")?;
-    text.put_number(warnings_in(&examined.findings))?;
-    text.say("\n")?;
+    put_counts(&mut text, &examined.findings)?;
     Ok(text.bytes)
 }
