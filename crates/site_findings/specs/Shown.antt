@@ -19,26 +19,26 @@ abbrev pub blanks_after : List ℕ → ℕ
 blanks_after line = length (take_while is_blank (reverse line))
 
 -- the bytes of a line that are meant, from one place up to another: the whole line is without the blanks around it
-abbrev pub meant_in : List ℕ → Spot → ℕ × ℕ
+unfoldable pub meant_in : List ℕ → Spot → ℕ × ℕ
 meant_in line spot =
     if nat_lt spot.from spot.to then (spot.from, spot.to) else (blanks_before line, length line - blanks_after line)
 
 -- the place from which on a line is shown, at most 120 bytes of it: its beginning, or 60 bytes before what is meant where that
 -- ends behind byte 120
-abbrev pub shown_from : ℕ × ℕ → ℕ
+unfoldable pub shown_from : ℕ × ℕ → ℕ
 shown_from meant = if nat_le meant.1 120 then 0 else meant.0 - 60
 
 -- how many carets stand below what is meant, as far as it is shown
-abbrev pub caret_count : ℕ → ℕ × ℕ → ℕ
+unfoldable pub caret_count : ℕ → ℕ × ℕ → ℕ
 caret_count start meant = max (min meant.1 (start + 120) - meant.0) 1
 
 -- a line that is shown from this place on, and carets below what is meant
-abbrev pub carets_below : List ℕ → ℕ → ℕ × ℕ → List ℕ
+unfoldable pub carets_below : List ℕ → ℕ → ℕ × ℕ → List ℕ
 carets_below line start meant =
     codes "  " ++ map shown_byte (take 120 (drop start line)) ++ codes "\n  " ++ replicate (meant.0 - start) 32
     ++ replicate (caret_count start meant) 94 ++ codes "\n"
 
 -- a line as it is shown; nothing of one without bytes
-abbrev pub shown_line : List ℕ → Spot → List ℕ
+unfoldable pub shown_line : List ℕ → Spot → List ℕ
 shown_line line spot =
     if length line == 0 then [] else carets_below line (shown_from (meant_in line spot)) (meant_in line spot)

@@ -37,11 +37,11 @@ line_at examined Program n = numbered (lines_of examined.program.items) n
 line_at examined Detectors n = numbered (lines_of examined.detectors.items) n
 
 -- the number of a line; 0 stands for the whole file
-abbrev pub number_text : ℕ → List ℕ
+unfoldable pub number_text : ℕ → List ℕ
 number_text line = if line == 0 then [] else codes ":" ++ decimal line
 
 -- the name of a file and the number of a line
-abbrev pub place_text : List ℕ → ℕ → List ℕ
+unfoldable pub place_text : List ℕ → ℕ → List ℕ
 place_text name line = name ++ number_text line ++ codes ": "
 
 -- what is told of a reason: what it means, what it most often is, and what to do. It stands in src/sentences.rt alone.
@@ -51,24 +51,27 @@ pub record Prose : Type 0 where
   pub cure : List ℕ
 
 -- a line of its own for a sentence; nothing where it is empty
-abbrev pub below : List ℕ → List ℕ → List ℕ
+unfoldable pub below : List ℕ → List ℕ → List ℕ
 below head sentence = if length sentence == 0 then [] else head ++ sentence ++ codes "\n"
 
 -- what is told of a reason, with the line as it is shown
-abbrev pub reason_text : Prose → List ℕ → List ℕ
+unfoldable pub reason_text : Prose → List ℕ → List ℕ
 reason_text prose shown =
     codes ": " ++ prose.means ++ codes "\n" ++ shown ++ below (codes "  most often: ") prose.often
     ++ below (codes "  cure: ") prose.cure
 
 -- a warning, with the line as it is shown
-abbrev pub warned_text : Option PlanOf → Warning → List ℕ → List ℕ
+unfoldable pub warned_text : Option PlanOf → Warning → List ℕ → List ℕ
 warned_text plan warning shown = warning_name warning ++ codes ": " ++ warning_text plan warning ++ codes "\n" ++ shown
+
+-- a text tells this reason, and some sentences of it
+abbrev pub IsReason : List ℕ → List ℕ → List ℕ → Type 0
+IsReason reason shown text = (prose : Prose) × (text ≡ reason ++ reason_text prose shown)
 
 -- a text tells this of a place, whose line is shown so
 abbrev pub IsTold : Option PlanOf → Told → List ℕ → List ℕ → Type 0
-IsTold plan (Refused refusal) shown text =
-    (prose : Prose) × (text ≡ refusal_word refusal ++ refusal_subject plan refusal ++ reason_text prose shown)
-IsTold plan Unread shown text = (prose : Prose) × (text ≡ codes "ReadFault" ++ reason_text prose shown)
+IsTold plan (Refused refusal) shown text = IsReason (refusal_word refusal ++ refusal_subject plan refusal) shown text
+IsTold plan Unread shown text = IsReason (codes "ReadFault") shown text
 IsTold plan NotJudged shown text = text ≡ codes "not judged, since the PUA file is not accepted\n"
 IsTold plan (Warned warning) shown text = text ≡ warned_text plan warning shown
 
@@ -99,7 +102,7 @@ warns NotJudged = false
 warns (Warned warning) = true
 
 -- how many files are refused, and how many warnings there are
-abbrev pub counts_text : List Finding → List ℕ
+unfoldable pub counts_text : List Finding → List ℕ
 counts_text findings =
     codes "files refused: " ++ decimal (count_by (λ f. refuses f.told) findings) ++ codes ", warnings: "
     ++ decimal (count_by (λ f. warns f.told) findings) ++ codes "\n"

@@ -1,8 +1,9 @@
 -- The names and the sentences of warnings.
-use Rattle.std.specs.Prelude.{ℕ, List, [], ◌++◌, codes, Option, Some, None, length, nat_lt, if◌then◌else◌}
+use Rattle.std.specs.Prelude.{ℕ, ℤ, List, [], ◌++◌, codes, Option, Some, None, length, nat_lt, if◌then◌else◌}
 use Rattle.std.specs.Fmt.{decimal, signed_decimal}
 use Rattle.sig_types.specs.declared.aspect.Rule.{Rule}
 use Rattle.sig_types.specs.declared.aspect.Rule.TheVariants.{Sequence, MinGreen, MinRed, Conflict, Intergreen, Running, WrongStage, NoInterstage}
+use Rattle.sig_types.specs.declared.numbers.DetNo.{DetNo}
 use Rattle.sig_types.specs.declared.numbers.GroupNo.{GroupNo}
 use Rattle.sig_types.specs.declared.numbers.InterNo.{InterNo}
 use Rattle.sig_types.specs.declared.numbers.StageNo.{StageNo}
@@ -55,11 +56,11 @@ rule_word WrongStage = codes "WrongStage"
 rule_word NoInterstage = codes "NoInterstage"
 
 -- two stages
-abbrev pub pair_text : ℕ → ℕ → List ℕ
+unfoldable pub pair_text : ℕ → ℕ → List ℕ
 pair_text from to = codes "from stage " ++ decimal from ++ codes " to stage " ++ decimal to
 
 -- the stages of an interstage; nothing without a plan that has it
-abbrev pub inter_text : Option PlanOf → InterNo → List ℕ
+unfoldable pub inter_text : Option PlanOf → InterNo → List ℕ
 inter_text None inter = []
 inter_text (Some plan) inter =
     if nat_lt inter.0 (length plan.interstages) then pair_text (interstage_at plan inter.0).from (interstage_at plan inter.0).to
@@ -71,7 +72,7 @@ other_text plan None = []
 other_text plan (Some group) = codes ":" ++ group_text plan group
 
 -- a turn as the log has it
-abbrev pub turn_text : Option PlanOf → TurnRefusal → List ℕ
+unfoldable pub turn_text : Option PlanOf → TurnRefusal → List ℕ
 turn_text plan turn = group_text plan turn.group ++ codes ":" ++ rule_word turn.rule ++ other_text plan turn.other
 
 abbrev pub way_head : Way → List ℕ
@@ -85,43 +86,76 @@ way_tail way.To = codes ", so a run never comes to it"
 way_tail way.Both = codes ", so a run never comes to it"
 
 -- a stage that no interstage leaves or reaches
-abbrev pub way_text : StageNo → Way → List ℕ
+unfoldable pub way_text : StageNo → Way → List ℕ
 way_text stage lacking = way_head lacking ++ decimal stage.0 ++ way_tail lacking
+
+-- a second of an interstage in which the guard refuses a turn
+unfoldable pub refused_text : Option PlanOf → ℕ → TurnRefusal → List ℕ
+refused_text plan t turn =
+    codes " is not carried out as it stands: in its second " ++ decimal t ++ codes " the guard refuses " ++ turn_text plan turn
 
 -- how an interstage ends that the guard does not carry out as it stands
 abbrev pub end_text : Option PlanOf → InterEnd → List ℕ
 end_text plan Clean = []
 end_text plan Unsettled = codes " begins in a stage that can't be shown: two groups that are in conflict are green in it"
-end_text plan (Refused t turn) =
-    codes " is not carried out as it stands: in its second " ++ decimal t ++ codes " the guard refuses " ++ turn_text plan turn
+end_text plan (Refused t turn) = refused_text plan t turn
 
--- the red of a group that ends late in an interstage
-abbrev pub late_text : Option PlanOf → InterNo → GroupNo → LateEnd → List ℕ
-late_text plan inter group late =
+-- an interstage that the guard does not carry out as it stands
+unfoldable pub not_clean_text : Option PlanOf → InterNo → InterEnd → List ℕ
+not_clean_text plan inter end = codes "the interstage " ++ inter_text plan inter ++ end_text plan end
+
+-- the red of a group in an interstage
+unfoldable pub red_text : Option PlanOf → InterNo → GroupNo → List ℕ
+red_text plan inter group =
     codes "in the interstage " ++ inter_text plan inter ++ codes " the red of " ++ group_text plan group
-    ++ codes " ends in second " ++ decimal late.second
+
+-- when a red ends, and when it could
+unfoldable pub late_text : LateEnd → List ℕ
+late_text late =
+    codes " ends in second " ++ decimal late.second
     ++ codes ", where by red-amber and intergreens second " ++ decimal late.needed ++ codes " would do"
+
+-- a group that no stage has green
+unfoldable pub never_green_text : Option PlanOf → GroupNo → List ℕ
+never_green_text plan group = codes "no stage has " ++ group_text plan group ++ codes " green"
 
 -- the sentence of a warning of a plan
 abbrev pub plan_warning_text : Option PlanOf → PlanWarning → List ℕ
 plan_warning_text plan (StageWithoutWay stage lacking) = way_text stage lacking
-plan_warning_text plan (GroupNeverGreen group) = codes "no stage has " ++ group_text plan group ++ codes " green"
-plan_warning_text plan (InterstageNotClean inter end) = codes "the interstage " ++ inter_text plan inter ++ end_text plan end
-plan_warning_text plan (LateRedEnd inter group late) = late_text plan inter group late
+plan_warning_text plan (GroupNeverGreen group) = never_green_text plan group
+plan_warning_text plan (InterstageNotClean inter end) = not_clean_text plan inter end
+plan_warning_text plan (LateRedEnd inter group late) = red_text plan inter group ++ late_text late
+
+unfoldable pub unassigned_text : List ℕ → List ℕ
+unassigned_text name = codes "the variable `" ++ name ++ codes "` is read and never assigned, so it is always 0"
+
+unfoldable pub unknown_group_text : ℤ → List ℕ
+unknown_group_text n =
+    codes "the plan has no signal group with the number " ++ signed_decimal n
+    ++ codes "; groups go by their numbers in the PUA file"
+
+unfoldable pub unknown_stage_text : ℤ → List ℕ
+unknown_stage_text n =
+    codes "the plan has no stage " ++ signed_decimal n ++ codes "; stages go by their places in the PUA file, from 1"
+
+unfoldable pub unknown_detector_text : ℤ → List ℕ
+unknown_detector_text n = signed_decimal n ++ codes " is no detector; they have the numbers 1 to 64"
+
+unfoldable pub missing_text : StageNo → StageNo → List ℕ
+missing_text from to = codes "the plan has no interstage " ++ pair_text from.0 to.0
+
+unfoldable pub silent_text : DetNo → List ℕ
+silent_text detector =
+    codes "the program reads detector " ++ decimal detector.0 ++ codes ", and the detector file never has it"
 
 -- the sentence of a warning of a program
 abbrev pub program_warning_text : ProgramWarning → List ℕ
-program_warning_text (UnassignedVariable name) =
-    codes "the variable `" ++ name ++ codes "` is read and never assigned, so it is always 0"
-program_warning_text (UnknownGroup n) =
-    codes "the plan has no signal group with the number " ++ signed_decimal n
-    ++ codes "; groups go by their numbers in the PUA file"
-program_warning_text (UnknownStage n) =
-    codes "the plan has no stage " ++ signed_decimal n ++ codes "; stages go by their places in the PUA file, from 1"
-program_warning_text (UnknownDetector n) = signed_decimal n ++ codes " is no detector; they have the numbers 1 to 64"
-program_warning_text (MissingInterstage from to) = codes "the plan has no interstage " ++ pair_text from.0 to.0
-program_warning_text (SilentDetector detector) =
-    codes "the program reads detector " ++ decimal detector.0 ++ codes ", and the detector file never has it"
+program_warning_text (UnassignedVariable name) = unassigned_text name
+program_warning_text (UnknownGroup n) = unknown_group_text n
+program_warning_text (UnknownStage n) = unknown_stage_text n
+program_warning_text (UnknownDetector n) = unknown_detector_text n
+program_warning_text (MissingInterstage from to) = missing_text from to
+program_warning_text (SilentDetector detector) = silent_text detector
 
 -- a section word as it is meant
 abbrev pub section_text : SectionWord → List ℕ
@@ -131,9 +165,13 @@ section_text StartingStage = codes "STARTING_STAGE"
 section_text Interstage = codes "INTERSTAGE"
 section_text End = codes "END"
 
+-- a line that begins with `$` and nearly a section word
+unfoldable pub misspelt_text : SectionWord → List ℕ
+misspelt_text word =
+    codes "this line is a comment, since the word is none of a section; is `$" ++ section_text word ++ codes "` meant?"
+
 -- the sentence of a warning
 abbrev pub warning_text : Option PlanOf → Warning → List ℕ
 warning_text plan (Plan warning) = plan_warning_text plan warning
 warning_text plan (Program warning) = program_warning_text warning
-warning_text plan (MisspeltSection word) =
-    codes "this line is a comment, since the word is none of a section; is `$" ++ section_text word ++ codes "` meant?"
+warning_text plan (MisspeltSection word) = misspelt_text word

@@ -1,12 +1,12 @@
 // The text of findings: a sentence each, with the text of the line and carets below what is meant.
-ghost use Rattle.std.specs.Prelude.{◌≡◌, ◌++◌, [], IfOk, OnOk, map, replicate, slice_index_or};
+ghost use Rattle.std.specs.Prelude.{◌≡◌, ◌++◌, [], IfOk, OnOk, codes, count_by, drop, map, replicate, slice_index_or, take};
 ghost use Rattle.std.specs.Fmt.{decimal, signed_decimal};
 ghost use Rattle.site_findings.specs.Put.{Puts, PutsSome, prose_of};
-ghost use Rattle.site_findings.specs.Reasons.{group_text};
-ghost use Rattle.site_findings.specs.Shown.{caret_count, is_blank, meant_in, shown_byte, shown_from, shown_line};
-ghost use Rattle.site_findings.specs.Text.{IsFindingsText, IsPart, IsTold, below, counts_text, file_name, line_at, number_text, place_text, reason_text, refuses, warned_text, warns};
+ghost use Rattle.site_findings.specs.Reasons.{group_text, refusal_subject, refusal_word};
+ghost use Rattle.site_findings.specs.Shown.{blanks_after, blanks_before, caret_count, carets_below, is_blank, meant_in, shown_byte, shown_from, shown_line};
+ghost use Rattle.site_findings.specs.Text.{IsFindingsText, IsPart, IsReason, IsTold, below, counts_text, file_name, line_at, number_text, place_text, reason_text, refuses, warned_text, warns};
 
-use crate::finding::{Examined, FileKind, Finding, SiteNames, Told, Warning};
+use crate::finding::{Examined, FileKind, Finding, Refusal, SiteNames, Told, Warning};
 use crate::lines::{line_of, part_of, record_of};
 use crate::reasons::put_refusal;
 use crate::sentences::{Sentences, UNREAD, sentences_of};
@@ -158,19 +158,36 @@ fn is_blank(b: u8) -> bool
     b == b' ' || b == b'\t'
 }
 
+// How many blanks a line begins with.
+fn blanks_before(line: &[u8]) -> usize
+    ensures { result ≡ blanks_before line.now }
+{
+    line.iter().take_while(|b| is_blank(**b)).count()
+}
+
+// How many blanks a line ends with.
+fn blanks_after(line: &[u8]) -> usize
+    ensures { result ≡ blanks_after line.now }
+{
+    line.iter().rev().take_while(|b| is_blank(**b)).count()
+}
+
 // The bytes of a line that are meant: the whole line stands without the blanks around it.
+#[tactic(auto, unfolding(crate::specs::Shown::meant_in))]
 fn meant_in(line: &[u8], spot: Spot) -> (usize, usize)
     ensures { result ≡ meant_in line.now spot }
 {
     if spot.from < spot.to {
         return (spot.from, spot.to);
     }
-    let before = line.iter().take_while(|b| is_blank(**b)).count();
-    let after = line.iter().rev().take_while(|b| is_blank(**b)).count();
-    (before, line.len().saturating_sub(after))
+    (
+        blanks_before(line),
+        line.len().saturating_sub(blanks_after(line)),
+    )
 }
 
 // The place from which on a line is shown, of which a part is meant.
+#[tactic(auto, unfolding(crate::specs::Shown::shown_from))]
 fn shown_from(meant: (usize, usize)) -> usize
     ensures { result ≡ shown_from meant }
 {
@@ -181,7 +198,15 @@ fn shown_from(meant: (usize, usize)) -> usize
     }
 }
 
+// The bytes of a line that are shown from a place on.
+fn shown_part(line: &[u8], start: usize) -> &[u8]
+    ensures { result.now ≡ take 120 (drop start line.now) }
+{
+    part_of(line, start, start.saturating_add(WIDTH))
+}
+
 // How many carets stand below what is meant.
+#[tactic(auto, unfolding(crate::specs::Shown::caret_count))]
 fn caret_count(start: usize, meant: (usize, usize)) -> usize
     ensures { result ≡ caret_count start meant }
 {
@@ -189,7 +214,26 @@ fn caret_count(start: usize, meant: (usize, usize)) -> usize
     meant.1.min(end).saturating_sub(meant.0).max(1)
 }
 
+// Puts a line that is shown from this place on, and the carets below it.
+#[tactic(auto, unfolding(crate::specs::Shown::carets_below))]
+fn put_carets(
+    text: &mut Text,
+    line: &[u8],
+    start: usize,
+    meant: (usize, usize),
+) -> Result<(), AllocError>
+    ensures { OnOk result (Puts text.old text.new (carets_below line.now start meant)) }
+{
+    text.put(b"  ")?;
+    text.put_shown(shown_part(line, start))?;
+    text.put(b"\n  ")?;
+    text.repeat(b' ', meant.0.saturating_sub(start))?;
+    text.repeat(b'^', caret_count(start, meant))?;
+    text.put(b"\n")
+}
+
 // Puts a line and the carets below it. Of a long line a part is shown that has the beginning of what is meant.
+#[tactic(auto, unfolding(crate::specs::Shown::shown_line))]
 fn put_line(text: &mut Text, line: &[u8], spot: Spot) -> Result<(), AllocError>
     ensures { OnOk result (Puts text.old text.new (shown_line line.now spot)) }
 {
@@ -197,16 +241,11 @@ fn put_line(text: &mut Text, line: &[u8], spot: Spot) -> Result<(), AllocError>
         return Ok(());
     }
     let meant = meant_in(line, spot);
-    let start = shown_from(meant);
-    text.put(b"  ")?;
-    text.put_shown(part_of(line, start, start.saturating_add(WIDTH)))?;
-    text.put(b"\n  ")?;
-    text.repeat(b' ', meant.0.saturating_sub(start))?;
-    text.repeat(b'^', caret_count(start, meant))?;
-    text.put(b"\n")
+    put_carets(text, line, shown_from(meant), meant)
 }
 
 // Puts one of the sentences below a line; nothing where it is empty.
+#[tactic(auto, unfolding(crate::specs::Text::below))]
 fn put_below(text: &mut Text, head: &[u8], sentence: &[u8]) -> Result<(), AllocError>
     ensures { OnOk result (Puts text.old text.new (below head.now sentence.now)) }
 {
@@ -219,6 +258,7 @@ fn put_below(text: &mut Text, head: &[u8], sentence: &[u8]) -> Result<(), AllocE
 }
 
 // Puts the number of a line; nothing for the whole file.
+#[tactic(auto, unfolding(crate::specs::Text::number_text))]
 fn put_line_number(text: &mut Text, line: u32) -> Result<(), AllocError>
     ensures { OnOk result (Puts text.old text.new (number_text line)) }
 {
@@ -230,6 +270,7 @@ fn put_line_number(text: &mut Text, line: u32) -> Result<(), AllocError>
 }
 
 // Puts the name of a file and the line.
+#[tactic(auto, unfolding(crate::specs::Text::place_text))]
 fn put_place(text: &mut Text, name: &str, line: u32) -> Result<(), AllocError>
     ensures { OnOk result (Puts text.old text.new (place_text name.now line)) }
 {
@@ -239,6 +280,7 @@ fn put_place(text: &mut Text, name: &str, line: u32) -> Result<(), AllocError>
 }
 
 // Puts what is told of a reason, after its subject.
+#[tactic(auto, unfolding(crate::specs::Text::reason_text))]
 fn put_reason(
     text: &mut Text,
     sentences: &Sentences,
@@ -256,6 +298,7 @@ fn put_reason(
 }
 
 // Puts a warning.
+#[tactic(auto, unfolding(crate::specs::Text::warned_text))]
 fn put_warned(
     text: &mut Text,
     plan: &Option<Plan>,
@@ -272,27 +315,44 @@ fn put_warned(
     put_line(text, line, spot)
 }
 
+// Puts a refusal.
+fn put_refused(
+    text: &mut Text,
+    plan: &Option<Plan>,
+    refusal: &Refusal,
+    line: &[u8],
+    spot: Spot,
+) -> Result<(), AllocError>
+    ensures { OnOk result (PutsSome text.old text.new
+        (IsReason (refusal_word refusal.now ++ refusal_subject plan.now refusal.now) (shown_line line.now spot))) }
+{
+    put_refusal(text, plan, refusal)?;
+    put_reason(text, sentences_of(refusal), line, spot)
+}
+
+// Puts that a file could not be read.
+fn put_unread(text: &mut Text, line: &[u8], spot: Spot) -> Result<(), AllocError>
+    ensures { OnOk result (PutsSome text.old text.new (IsReason (codes "ReadFault") (shown_line line.now spot))) }
+{
+    text.put(b"ReadFault")?;
+    put_reason(text, &UNREAD, line, spot)
+}
+
 // Puts what is told of a place.
 fn put_told(
     text: &mut Text,
-    examined: &Examined,
-    finding: &Finding,
+    plan: &Option<Plan>,
+    told: &Told,
     line: &[u8],
+    spot: Spot,
 ) -> Result<(), AllocError>
-    ensures { OnOk result (PutsSome text.old text.new
-        (IsTold examined.now.plan finding.now.told (shown_line line.now finding.now.spot))) }
+    ensures { OnOk result (PutsSome text.old text.new (IsTold plan.now told.now (shown_line line.now spot))) }
 {
-    match &finding.told {
-        Told::Refused(refusal) => {
-            put_refusal(text, &examined.plan, refusal)?;
-            put_reason(text, sentences_of(refusal), line, finding.spot)
-        }
-        Told::Unread => {
-            text.put(b"ReadFault")?;
-            put_reason(text, &UNREAD, line, finding.spot)
-        }
+    match told {
+        Told::Refused(refusal) => put_refused(text, plan, refusal, line, spot),
+        Told::Unread => put_unread(text, line, spot),
         Told::NotJudged => text.put(b"not judged, since the PUA file is not accepted\n"),
-        Told::Warned(warning) => put_warned(text, &examined.plan, warning, line, finding.spot),
+        Told::Warned(warning) => put_warned(text, plan, warning, line, spot),
     }
 }
 
@@ -307,7 +367,7 @@ fn put_finding(
 {
     let line = line_at(examined, finding.file, finding.spot.line);
     put_place(text, file_name(names, finding.file), finding.spot.line)?;
-    put_told(text, examined, finding, line)
+    put_told(text, &examined.plan, &finding.told, line, finding.spot)
 }
 
 // Whether a file is refused or could not be read.
@@ -329,16 +389,27 @@ fn warns(told: &Told) -> bool
     }
 }
 
+fn refusals_in(findings: &[Finding]) -> usize
+    ensures { result ≡ count_by (λ f. refuses f.told) findings.now }
+{
+    findings.iter().filter(|f| refuses(&f.told)).count()
+}
+
+fn warnings_in(findings: &[Finding]) -> usize
+    ensures { result ≡ count_by (λ f. warns f.told) findings.now }
+{
+    findings.iter().filter(|f| warns(&f.told)).count()
+}
+
 // Puts how many files are refused, and how many warnings there are.
+#[tactic(auto, unfolding(crate::specs::Text::counts_text))]
 fn put_counts(text: &mut Text, findings: &[Finding]) -> Result<(), AllocError>
     ensures { OnOk result (Puts text.old text.new (counts_text findings.now)) }
 {
-    let refusals = findings.iter().filter(|f| refuses(&f.told)).count();
-    let warnings = findings.iter().filter(|f| warns(&f.told)).count();
     text.put(b"files refused: ")?;
-    text.put_count(refusals)?;
+    text.put_count(refusals_in(findings))?;
     text.put(b", warnings: ")?;
-    text.put_count(warnings)?;
+    text.put_count(warnings_in(findings))?;
     text.put(b"\n")
 }
 

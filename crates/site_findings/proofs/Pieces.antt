@@ -1,0 +1,152 @@
+-- The records of a table while its bytes are passed.
+use Rattle.std.proofs.Common.{◌≡◌, ℕ, ◌+◌, ◌-◌, ◌<◌, ◌≤◌, ◌&&◌, ◌==◌, Bool, true, false, not, cond, List, [], ◌∷◌, ◌++◌, length, take, drop, get_or, refl, ap, sym, ◌∙◌, append_assoc, append-nil, arith, add-one, drop-cons, zero, suc}
+use Rattle.std.specs.List.{onto_first}
+use Rattle.std.proofs.lemmas.Bool.{ne_eqb}
+use Rattle.std.proofs.lemmas.List.{drop_all}
+use Rattle.std.proofs.lemmas.List.Edits.{between_more}
+use Rattle.std.proofs.lemmas.Grind.{common_steps}
+use Rattle.site_findings.specs.Lines.{ends_piece, filled, quoted_after, unquoted_pieces}
+
+-- bytes put before the first piece
+abbrev pub onto : List ℕ → List (List ℕ) → List (List ℕ)
+onto begun [] = begun ∷ []
+onto begun (piece ∷ pieces) = (begun ++ piece) ∷ pieces
+
+-- the records of bytes that follow those of a piece that has begun
+abbrev pub rest_of : List ℕ → Bool → List ℕ → List (List ℕ)
+rest_of begun quoted bytes = filled (onto begun (unquoted_pieces quoted bytes))
+
+onto-onto_first : (begun : List ℕ) (b : ℕ) (pieces : List (List ℕ)) → onto begun (onto_first b pieces) ≡ onto (begun ++ b ∷ []) pieces
+onto-onto_first begun b [] = refl
+onto-onto_first begun b (piece ∷ pieces) = ap (λ p. p ∷ pieces) (sym (append_assoc begun (b ∷ []) piece))
+
+onto-none_first : (b : ℕ) (pieces : List (List ℕ)) → onto [] (onto_first b pieces) ≡ onto_first b pieces
+onto-none_first b [] = refl
+onto-none_first b (piece ∷ pieces) = refl
+
+onto-none_cond : (t : Bool) (b : ℕ) (cut whole : List (List ℕ)) →
+    onto [] (cond t ([] ∷ cut) (onto_first b whole)) ≡ cond t ([] ∷ cut) (onto_first b whole)
+onto-none_cond true b cut whole = refl
+onto-none_cond false b cut whole = onto-none_first b whole
+
+-- no bytes change nothing
+pub onto-none : (quoted : Bool) (bytes : List ℕ) → onto [] (unquoted_pieces quoted bytes) ≡ unquoted_pieces quoted bytes
+onto-none quoted [] = refl
+onto-none quoted (b ∷ bs) = onto-none_cond (ends_piece quoted b) b (unquoted_pieces (quoted_after quoted b) bs) (unquoted_pieces (quoted_after quoted b) bs)
+
+cond-true : {A : Type 0} (t : Bool) (a b : A) → t ≡ true → cond t a b ≡ a
+cond-true t a b h = ap (λ v. cond v a b) h
+
+cond-false : {A : Type 0} (t : Bool) (a b : A) → t ≡ false → cond t a b ≡ b
+cond-false t a b h = ap (λ v. cond v a b) h
+
+-- a byte that ends a piece
+at_end : (begun : List ℕ) (quoted : Bool) (b : ℕ) (bs : List ℕ) → ends_piece quoted b ≡ true →
+    rest_of begun quoted (b ∷ bs) ≡ filled ((begun ++ []) ∷ unquoted_pieces (quoted_after quoted b) bs)
+at_end begun quoted b bs h = ap (λ ps. filled (onto begun ps)) (cond-true (ends_piece quoted b) _ _ h)
+
+-- any other
+at_byte : (begun : List ℕ) (quoted : Bool) (b : ℕ) (bs : List ℕ) → ends_piece quoted b ≡ false →
+    rest_of begun quoted (b ∷ bs) ≡ rest_of (begun ++ b ∷ []) (quoted_after quoted b) bs
+at_byte begun quoted b bs h =
+    ap (λ ps. filled (onto begun ps)) (cond-false (ends_piece quoted b) _ _ h)
+    ∙ ap filled (onto-onto_first begun b (unquoted_pieces (quoted_after quoted b) bs))
+
+filled-more : (piece : List ℕ) (pieces : List (List ℕ)) → 0 < length piece → filled (piece ∷ pieces) ≡ piece ∷ filled pieces
+filled-more piece pieces h =
+    cond-true (not (length piece == 0)) _ _ (ap not (ne_eqb (length piece) 0 (λ e. omega (arith, e, h))))
+
+more : (bs : List ℕ) (from i : ℕ) → from ≤ i → i < length bs → take (i - from) (drop from bs) ++ get_or bs i 0 ∷ [] ≡ take ((i + 1) - from) (drop from bs)
+more bs from i h k = sym (between_more bs from i 0 h k)
+
+none : (bs : List ℕ) (from : ℕ) → take (from - from) (drop from bs) ≡ []
+none bs from = grind (arith, common_steps)
+
+length-begun : (bs : List ℕ) (from i : ℕ) → from < i → i < length bs → 0 < length (take (i - from) (drop from bs))
+length-begun bs from i h k = grind (arith, common_steps)
+
+nothing : (bs : List ℕ) (from i : ℕ) → from ≤ i → i ≤ from → take (i - from) (drop from bs) ≡ []
+nothing bs from i h k = grind (arith, common_steps)
+
+again : (text : List ℕ) (at : ℕ) (quoted : Bool) →
+    filled (unquoted_pieces quoted (drop at text)) ≡ rest_of (take (at - at) (drop at text)) quoted (drop at text)
+again text at quoted =
+    ap filled (sym (onto-none quoted (drop at text)))
+    ∙ ap (λ b. rest_of b quoted (drop at text)) (sym (none text at))
+
+cut : (text : List ℕ) (i : ℕ) → i < length text → drop i text ≡ get_or text i 0 ∷ drop (i + 1) text
+cut text i h = grind (arith, common_steps, drop-cons)
+
+-- a record ends
+pub rest_of-passed : (text : List ℕ) (from i : ℕ) (quoted : Bool) → from < i → i < length text →
+    ends_piece quoted (get_or text i 0) ≡ true →
+    rest_of (take (i - from) (drop from text)) quoted (drop i text) ≡
+    take (i - from) (drop from text) ∷ rest_of (take ((i + 1) - (i + 1)) (drop (i + 1) text)) (quoted_after quoted (get_or text i 0)) (drop (i + 1) text)
+rest_of-passed text from i quoted h k e =
+    let begun : List ℕ = take (i - from) (drop from text) in
+    let q : Bool = quoted_after quoted (get_or text i 0) in
+    ap (rest_of begun quoted) (cut text i k)
+    ∙ (at_end begun quoted (get_or text i 0) (drop (i + 1) text) e
+    ∙ (ap (λ b. filled (b ∷ unquoted_pieces q (drop (i + 1) text))) (append-nil begun)
+    ∙ (filled-more begun (unquoted_pieces q (drop (i + 1) text)) (length-begun text from i h k)
+    ∙ ap (λ ps. begun ∷ ps) (again text (i + 1) q))))
+
+-- a blank line ends
+pub rest_of-blank : (text : List ℕ) (from i : ℕ) (quoted : Bool) → from ≤ i → i ≤ from → i < length text →
+    ends_piece quoted (get_or text i 0) ≡ true →
+    rest_of (take (i - from) (drop from text)) quoted (drop i text) ≡
+    rest_of (take ((i + 1) - (i + 1)) (drop (i + 1) text)) (quoted_after quoted (get_or text i 0)) (drop (i + 1) text)
+rest_of-blank text from i quoted h k l e =
+    let begun : List ℕ = take (i - from) (drop from text) in
+    let q : Bool = quoted_after quoted (get_or text i 0) in
+    ap (rest_of begun quoted) (cut text i l)
+    ∙ (at_end begun quoted (get_or text i 0) (drop (i + 1) text) e
+    ∙ (ap (λ b. filled ((b ++ []) ∷ unquoted_pieces q (drop (i + 1) text))) (nothing text from i h k)
+    ∙ again text (i + 1) q))
+
+-- a record goes on
+pub rest_of-more : (text : List ℕ) (from i : ℕ) (quoted : Bool) → from ≤ i → i < length text →
+    ends_piece quoted (get_or text i 0) ≡ false →
+    rest_of (take (i - from) (drop from text)) quoted (drop i text) ≡
+    rest_of (take ((i + 1) - from) (drop from text)) (quoted_after quoted (get_or text i 0)) (drop (i + 1) text)
+rest_of-more text from i quoted h k e =
+    let begun : List ℕ = take (i - from) (drop from text) in
+    let q : Bool = quoted_after quoted (get_or text i 0) in
+    ap (rest_of begun quoted) (cut text i k)
+    ∙ (at_byte begun quoted (get_or text i 0) (drop (i + 1) text) e
+    ∙ ap (λ b. rest_of b q (drop (i + 1) text)) (more text from i h k))
+
+-- at the beginning
+pub rest_of-all : (text : List ℕ) → filled (unquoted_pieces false text) ≡ rest_of (take (0 - 0) (drop 0 text)) false (drop 0 text)
+rest_of-all text = again text 0 false
+
+first_of_one : (piece : List ℕ) → get_or (filled (piece ∷ [])) 0 [] ≡ piece
+first_of_one [] = refl
+first_of_one (b ∷ bs) = ap (λ ps. get_or ps 0 []) (filled-more (b ∷ bs) [] (omega arith))
+
+later_of_one : (piece : List ℕ) (n : ℕ) → (n ≡ 0 → ⊥) → get_or (filled (piece ∷ [])) n [] ≡ []
+later_of_one piece zero h = absurd (h refl)
+later_of_one [] (suc n) h = refl
+later_of_one (b ∷ bs) (suc n) h = ap (λ ps. get_or ps (suc n) []) (filled-more (b ∷ bs) [] (omega arith))
+
+at_all : (begun text : List ℕ) (quoted : Bool) → rest_of begun quoted (drop (length text) text) ≡ filled (begun ∷ [])
+at_all begun text quoted =
+    ap (rest_of begun quoted) (drop_all (length text) text (omega arith)) ∙ ap (λ b. filled (b ∷ [])) (append-nil begun)
+
+-- at the end
+pub rest_of-last : (text : List ℕ) (from : ℕ) (quoted : Bool) →
+    get_or (rest_of (take (length text - from) (drop from text)) quoted (drop (length text) text)) 0 [] ≡ take (length text - from) (drop from text)
+rest_of-last text from quoted =
+    ap (λ ps. get_or ps 0 []) (at_all (take (length text - from) (drop from text)) text quoted)
+    ∙ first_of_one (take (length text - from) (drop from text))
+
+pub rest_of-past : (text : List ℕ) (from n : ℕ) (quoted : Bool) → (n ≡ 0 → ⊥) →
+    get_or (rest_of (take (length text - from) (drop from text)) quoted (drop (length text) text)) n [] ≡ []
+rest_of-past text from n quoted h =
+    ap (λ ps. get_or ps n []) (at_all (take (length text - from) (drop from text)) text quoted)
+    ∙ later_of_one (take (length text - from) (drop from text)) n h
+
+-- a record after the first
+pub later : (piece : List ℕ) (pieces : List (List ℕ)) (n : ℕ) → (n ≡ 0 → ⊥) → get_or (piece ∷ pieces) n [] ≡ get_or pieces (n - 1) []
+later piece pieces zero h = absurd (h refl)
+later piece pieces (suc n) h = ap (λ m. get_or pieces m []) (let e : n ≡ suc n - 1 = omega arith in e)

@@ -1,0 +1,14 @@
+use Rattle.std.proofs.Common.{codes, ◌++◌}
+use Rattle.site_findings.specs.Warnings.{unassigned_text}
+use Rattle.site_findings.proofs.Putting.{both, both_ok, same}
+use Rattle.site_findings.proofs.warned.put_unassigned.Goals as goal
+
+pub returns : goal.returns
+unfolding unassigned_text
+returns c =
+    let old = c.args.text.now in
+    both_ok c.put-3.result old c.put-2.new.self c.put-3.new.self (codes "the variable `" ++ c.args.name.now) (codes "` is read and never assigned, so it is always 0")
+    (both old c.put.new.self c.put-2.new.self (codes "the variable `") (c.args.name.now)
+    c.in_ok-put.ensures
+    (same c.put.new.self c.put-2.new.self _ _ c.in_ok-put-2.ensures c.bytes.ensures.bytes))
+    c.put-3.ensures
