@@ -1,5 +1,5 @@
 -- The piece with a number.
-use Rattle.std.proofs.Common.{◌≡◌, ℕ, ◌-◌, ◌==◌, Bool, false, cond, List, [], Option, Some, None, unwrap_or, map, get_or, ap, sym, ◌∙◌}
+use Rattle.std.proofs.Common.{◌≡◌, ℕ, ◌-◌, ◌==◌, Bool, false, cond, List, [], Some, None, unwrap_or, map, get_or, ap, sym, ◌∙◌}
 use Rattle.std.specs.List.{slice_get}
 use Rattle.std.proofs.lemmas.Bool.{ne_eqb}
 use Rattle.site_findings.specs.Lines.{numbered}

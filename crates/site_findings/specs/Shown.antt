@@ -1,5 +1,5 @@
 -- A line as it is shown, with carets below what is meant.
-use Rattle.std.specs.Prelude.{ℕ, ◌+◌, ◌-◌, ◌==◌, ◌&&◌, ◌||◌, Bool, List, [], ◌∷◌, ◌++◌, codes, length, map, take, drop, take_while, reverse, replicate, min, max, nat_le, nat_lt, if◌then◌else◌}
+use Rattle.std.specs.Prelude.{ℕ, ◌+◌, ◌-◌, ◌==◌, ◌&&◌, ◌||◌, Bool, List, [], ◌++◌, codes, length, map, take, drop, take_while, reverse, replicate, min, max, nat_le, nat_lt, if◌then◌else◌}
 use Rattle.pua_lines.specs.declared.spot.Spot.{Spot}
 
 -- the byte that is shown in the place of a byte: a blank for a tab, `?` for what is no printable ASCII

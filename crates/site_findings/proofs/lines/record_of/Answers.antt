@@ -1,5 +1,5 @@
-use Rattle.std.proofs.Common.{◌≡◌, ◌+◌, ◌-◌, [], take, drop, get_or, ap, sym, ◌∙◌, arith}
-use Rattle.site_findings.proofs.Pieces.{later, rest_of, rest_of-blank, rest_of-more, rest_of-passed}
+use Rattle.std.proofs.Common.{◌-◌, [], take, drop, get_or, ap, sym, ◌∙◌, arith}
+use Rattle.site_findings.proofs.Pieces.{later, rest_of-blank, rest_of-more, rest_of-passed}
 use Rattle.site_findings.proofs.lines.record_of.Goals as goal
 use Rattle.site_findings.proofs.lines.record_of.Goals.{then-ends_piece, then-from-i+else-before-eq0, else-from-i, else-ends_piece}
 
