@@ -2,7 +2,6 @@
 use Rattle.std.proofs.Common.{◌≡◌, ℕ, ◌+◌, ◌-◌, ◌<◌, ◌≤◌, ◌==◌, Bool, true, false, not, cond, List, [], ◌∷◌, ◌++◌, length, take, drop, get_or, refl, ap, sym, ◌∙◌, append_assoc, append-nil, arith, drop-cons, zero, suc}
 use Rattle.std.specs.List.{onto_first}
 use Rattle.std.proofs.lemmas.Bool.{ne_eqb}
-use Rattle.std.proofs.lemmas.List.{drop_all}
 use Rattle.std.proofs.lemmas.List.Edits.{between_more}
 use Rattle.std.proofs.lemmas.Grind.{common_steps}
 use Rattle.site_findings.specs.Lines.{ends_piece, filled, quoted_after, unquoted_pieces}
@@ -16,7 +15,8 @@ onto begun (piece ∷ pieces) = (begun ++ piece) ∷ pieces
 abbrev pub rest_of : List ℕ → Bool → List ℕ → List (List ℕ)
 rest_of begun quoted bytes = filled (onto begun (unquoted_pieces quoted bytes))
 
-onto-onto_first : (begun : List ℕ) (b : ℕ) (pieces : List (List ℕ)) → onto begun (onto_first b pieces) ≡ onto (begun ++ b ∷ []) pieces
+onto-onto_first : (begun : List ℕ) (b : ℕ) (pieces : List (List ℕ)) →
+    onto begun (onto_first b pieces) ≡ onto (begun ++ b ∷ []) pieces
 onto-onto_first begun b [] = refl
 onto-onto_first begun b (piece ∷ pieces) = ap (λ p. p ∷ pieces) (sym (append_assoc begun (b ∷ []) piece))
 
@@ -32,7 +32,8 @@ onto-none_cond false b cut whole = onto-none_first b whole
 -- no bytes change nothing
 pub onto-none : (quoted : Bool) (bytes : List ℕ) → onto [] (unquoted_pieces quoted bytes) ≡ unquoted_pieces quoted bytes
 onto-none quoted [] = refl
-onto-none quoted (b ∷ bs) = onto-none_cond (ends_piece quoted b) b (unquoted_pieces (quoted_after quoted b) bs) (unquoted_pieces (quoted_after quoted b) bs)
+onto-none quoted (b ∷ bs) =
+    let rest : List (List ℕ) = unquoted_pieces (quoted_after quoted b) bs in onto-none_cond (ends_piece quoted b) b rest rest
 
 cond-true : {A : Type 0} (t : Bool) (a b : A) → t ≡ true → cond t a b ≡ a
 cond-true t a b h = ap (λ v. cond v a b) h
@@ -56,7 +57,8 @@ filled-more : (piece : List ℕ) (pieces : List (List ℕ)) → 0 < length piece
 filled-more piece pieces h =
     cond-true (not (length piece == 0)) _ _ (ap not (ne_eqb (length piece) 0 (λ e. omega (arith, e, h))))
 
-more : (bs : List ℕ) (from i : ℕ) → from ≤ i → i < length bs → take (i - from) (drop from bs) ++ get_or bs i 0 ∷ [] ≡ take ((i + 1) - from) (drop from bs)
+more : (bs : List ℕ) (from i : ℕ) → from ≤ i → i < length bs →
+    take (i - from) (drop from bs) ++ get_or bs i 0 ∷ [] ≡ take ((i + 1) - from) (drop from bs)
 more bs from i h k = sym (between_more bs from i 0 h k)
 
 none : (bs : List ℕ) (from : ℕ) → take (from - from) (drop from bs) ≡ []
@@ -81,7 +83,8 @@ cut text i h = grind (arith, common_steps, drop-cons)
 pub rest_of-passed : (text : List ℕ) (from i : ℕ) (quoted : Bool) → from < i → i < length text →
     ends_piece quoted (get_or text i 0) ≡ true →
     rest_of (take (i - from) (drop from text)) quoted (drop i text) ≡
-    take (i - from) (drop from text) ∷ rest_of (take ((i + 1) - (i + 1)) (drop (i + 1) text)) (quoted_after quoted (get_or text i 0)) (drop (i + 1) text)
+    take (i - from) (drop from text)
+    ∷ rest_of (take ((i + 1) - (i + 1)) (drop (i + 1) text)) (quoted_after quoted (get_or text i 0)) (drop (i + 1) text)
 rest_of-passed text from i quoted h k e =
     let begun : List ℕ = take (i - from) (drop from text) in
     let q : Bool = quoted_after quoted (get_or text i 0) in
@@ -116,37 +119,8 @@ rest_of-more text from i quoted h k e =
     ∙ (at_byte begun quoted (get_or text i 0) (drop (i + 1) text) e
     ∙ ap (λ b. rest_of b q (drop (i + 1) text)) (more text from i h k))
 
--- at the beginning
-pub rest_of-all : (text : List ℕ) → filled (unquoted_pieces false text) ≡ rest_of (take (0 - 0) (drop 0 text)) false (drop 0 text)
-rest_of-all text = again text 0 false
-
-first_of_one : (piece : List ℕ) → get_or (filled (piece ∷ [])) 0 [] ≡ piece
-first_of_one [] = refl
-first_of_one (b ∷ bs) = ap (λ ps. get_or ps 0 []) (filled-more (b ∷ bs) [] (omega arith))
-
-later_of_one : (piece : List ℕ) (n : ℕ) → (n ≡ 0 → ⊥) → get_or (filled (piece ∷ [])) n [] ≡ []
-later_of_one piece zero h = absurd (h refl)
-later_of_one [] (suc n) h = refl
-later_of_one (b ∷ bs) (suc n) h = ap (λ ps. get_or ps (suc n) []) (filled-more (b ∷ bs) [] (omega arith))
-
-at_all : (begun text : List ℕ) (quoted : Bool) → rest_of begun quoted (drop (length text) text) ≡ filled (begun ∷ [])
-at_all begun text quoted =
-    ap (rest_of begun quoted) (drop_all (length text) text (omega arith)) ∙ ap (λ b. filled (b ∷ [])) (append-nil begun)
-
--- at the end
-pub rest_of-last : (text : List ℕ) (from : ℕ) (quoted : Bool) →
-    get_or (rest_of (take (length text - from) (drop from text)) quoted (drop (length text) text)) 0 [] ≡ take (length text - from) (drop from text)
-rest_of-last text from quoted =
-    ap (λ ps. get_or ps 0 []) (at_all (take (length text - from) (drop from text)) text quoted)
-    ∙ first_of_one (take (length text - from) (drop from text))
-
-pub rest_of-past : (text : List ℕ) (from n : ℕ) (quoted : Bool) → (n ≡ 0 → ⊥) →
-    get_or (rest_of (take (length text - from) (drop from text)) quoted (drop (length text) text)) n [] ≡ []
-rest_of-past text from n quoted h =
-    ap (λ ps. get_or ps n []) (at_all (take (length text - from) (drop from text)) text quoted)
-    ∙ later_of_one (take (length text - from) (drop from text)) n h
-
 -- a record after the first
-pub later : (piece : List ℕ) (pieces : List (List ℕ)) (n : ℕ) → (n ≡ 0 → ⊥) → get_or (piece ∷ pieces) n [] ≡ get_or pieces (n - 1) []
+pub later : (piece : List ℕ) (pieces : List (List ℕ)) (n : ℕ) → (n ≡ 0 → ⊥) →
+    get_or (piece ∷ pieces) n [] ≡ get_or pieces (n - 1) []
 later piece pieces zero h = absurd (h refl)
 later piece pieces (suc n) h = ap (λ m. get_or pieces m []) (let e : n ≡ suc n - 1 = omega arith in e)
