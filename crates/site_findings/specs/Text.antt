@@ -86,7 +86,8 @@ IsPart names examined finding part =
 abbrev pub AreParts : SiteNames → Examined → List Finding → List ℕ → Type 0
 AreParts names examined [] text = text ≡ []
 AreParts names examined (finding ∷ findings) text =
-    (part : List ℕ) × (rest : List ℕ) × IsPart names examined finding part × AreParts names examined findings rest × (text ≡ part ++ rest)
+    (part : List ℕ) × (rest : List ℕ) × IsPart names examined finding part × AreParts names examined findings rest
+    × (text ≡ part ++ rest)
 
 -- a file is refused or could not be read
 abbrev pub refuses : Told → Bool
