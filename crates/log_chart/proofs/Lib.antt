@@ -2,6 +2,7 @@ pub mod Charts
 pub mod OneChart
 pub mod OneSum
 pub mod Pasts
+pub mod Stretches
 pub mod Rows
 pub mod SumsMore
 pub mod Tells
