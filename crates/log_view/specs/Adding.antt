@@ -20,7 +20,7 @@ use Rattle.log_view.specs.Summed.{AreApart, AreTallies, HasPlace, fault_items, f
 abbrev pub AreSmall : List PlaceSum → Type 0
 AreSmall places = All (λ p. (p.times < 4294967295) × (p.seconds < 4294967295)) places
 
--- a second more at a place that has sums, and at one that has none yet
+-- a second more at a place that has sums
 pub record IsRaised (old : List PlaceSum) (x : StagePlace) (begins : ℕ) (new : List PlaceSum) : Type 0 where
   pub at : ℕ
   pub before : PlaceSum
@@ -29,10 +29,12 @@ pub record IsRaised (old : List PlaceSum) (x : StagePlace) (begins : ℕ) (new :
   pub same : before.place ≡ x
   pub new_is : new ≡ slice_set old at (record { place = x; times = before.times + begins; seconds = before.seconds + 1 })
 
+-- the first second at a place that has no sums yet
 pub record IsFirst (old : List PlaceSum) (x : StagePlace) (new : List PlaceSum) : Type 0 where
   pub other : All (λ p. p.place ≡ x → ⊥) old
   pub new_is : new ≡ old ++ record { place = x; times = 1; seconds = 1 } ∷ []
 
+-- a second more at a place, whether it has sums or not
 abbrev pub IsPlaceAdded : List PlaceSum → StagePlace → ℕ → List PlaceSum → Type 0
 IsPlaceAdded old x begins new = IsRaised old x begins new ⊎ IsFirst old x new
 

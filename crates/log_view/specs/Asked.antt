@@ -13,6 +13,7 @@ asked_in (form.Diagram log window) = Diagram log.now window
 asked_in (form.Text log window) = Text log.now window
 asked_in (form.Sums log) = Sums log.now
 
+-- what is asked for, or why the words are no call
 abbrev pub asked_by : Result Form Stop → Result Asked Stop
 asked_by (Ok form) = Ok (asked_in form)
 asked_by (Err stop) = Err stop

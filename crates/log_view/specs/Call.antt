@@ -26,6 +26,7 @@ usage_text =
     ++ codes "log_report sums LOG              what groups, stages, refusals, faults and detectors add up to\n"
     ++ codes "log_report --help | --version    this text; the version\n"
 
+-- which version it is
 abbrev pub version_text : List ℕ
 version_text = codes "log_report 0.1.0\n"
 
@@ -72,6 +73,7 @@ pub record Seen (T : Type 0) : Type 0 where
   pub before : ℕ
   pub after : ℕ
 
+-- an object that tells this before a call and after it, with its counts of faults
 abbrev pub seen : {T : Type 0} → (old new : Option T) → (before after : ℕ) → Seen T
 seen old new before after = record { old = old; new = new; before = before; after = after }
 

@@ -19,10 +19,11 @@ AreSaid names records =
 abbrev pub past_of : ℕ → ℕ → ℕ → ℕ
 past_of from to count = max from (min to count + 1)
 
--- a history has these pictures up to second n, and a run these places
+-- a history has these pictures up to second n
 abbrev pub ShowsTo : History → History → ℕ → Type 0
 ShowsTo h shown n = (t : ℕ) → t ≤ n → slice_index_or h t [] ≡ slice_index_or shown t []
 
+-- a run is at these places up to second n
 abbrev pub IsAtTo : (ℕ → StagePlace) → (ℕ → StagePlace) → ℕ → Type 0
 IsAtTo a places n = (t : ℕ) → t ≤ n → a t ≡ places t
 

@@ -25,6 +25,7 @@ pub data Asked : Type 0 where
 abbrev pub window_by : ℕ → ℕ → Result Window Stop
 window_by from to = if nat_lt to (from + 3600) then Ok (record { from = from; to = to }) else Err TooManySeconds
 
+-- the seconds up to the last one, where that is a number
 abbrev pub window_from : ℕ → Option ℕ → Result Window Stop
 window_from from None = Err Words
 window_from from (Some to) = window_by from to

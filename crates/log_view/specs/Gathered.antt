@@ -38,13 +38,15 @@ abbrev pub fronts_from : ℕ → ℕ → List (ℕ × ℕ) → List FrontMark
 fronts_from second d [] = []
 fronts_from second d (c ∷ cs) = front_by second d c.0 ++ fronts_from second (d + 1) cs
 
+-- the marks of the fronts of a record
 abbrev pub fronts_in : Record → List FrontMark
 fronts_in r = fronts_from r.second.0 1 r.frame
 
--- the marks of refused stage commands, and of refused turns
+-- the marks of refused stage commands
 abbrev pub commands_by : ℕ → List StageRefusal → List RefusalMark
 commands_by second stages = map (λ x. record { second = second; refused = Command x }) stages
 
+-- the marks of refused turns
 abbrev pub turns_by : ℕ → List TurnRefusal → List RefusalMark
 turns_by second turns = map (λ x. record { second = second; refused = Turn x }) turns
 
@@ -52,11 +54,12 @@ turns_by second turns = map (λ x. record { second = second; refused = Turn x })
 abbrev pub refusals_in : Record → List RefusalMark
 refusals_in r = commands_by r.second.0 r.stages ++ turns_by r.second.0 r.turns
 
--- the fault of a record
+-- the mark of a fault, where there is one
 abbrev pub fault_by : ℕ → Option Fault → List FaultMark
 fault_by second None = []
 fault_by second (Some fault) = record { second = second; fault = fault } ∷ []
 
+-- the mark of the fault of a record
 abbrev pub faults_in : Record → List FaultMark
 faults_in r = fault_by r.second.0 r.fault
 

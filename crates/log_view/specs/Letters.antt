@@ -60,6 +60,7 @@ unfoldable pub numbers_to : ℕ → ℕ → List ℕ
 numbers_to first zero = []
 numbers_to first (suc n) = numbers_to first n ++ number_cell first (free_to first n) (first + n)
 
+-- the row of the numbers, above those of a block's seconds that are numbered
 unfoldable pub numbers_row : Block → List ℕ
 numbers_row block = name_text block.margin [] ++ numbers_to block.first block.count ++ codes "\n"
 
@@ -72,6 +73,7 @@ unfoldable pub ticks_to : ℕ → ℕ → List ℕ
 ticks_to first zero = []
 ticks_to first (suc n) = ticks_to first n ++ tick_of (first + n)
 
+-- the row of the ticks of a block's seconds
 unfoldable pub ticks_row : Block → List ℕ
 ticks_row block = name_text block.margin [] ++ ticks_to block.first block.count ++ codes "\n"
 
@@ -100,6 +102,7 @@ unfoldable pub stay_text : Block → Stay → List ℕ
 stay_text block s =
     if seconds_in block s.first.0 s.last.0 == 0 then [] else stay_cells s.place (seconds_in block s.first.0 s.last.0)
 
+-- the row of the stages and interstages of a block's seconds
 unfoldable pub band_row : Block → List Stay → List ℕ
 band_row block stays = name_text block.margin (codes "stage") ++ flat_map (stay_text block) stays ++ codes "\n"
 
@@ -116,6 +119,7 @@ letter_of Amber = 92
 abbrev pub span_text : Block → Span → List ℕ
 span_text block s = replicate (seconds_in block s.first.0 s.last.0) (letter_of s.aspect)
 
+-- the row of a group: its name and what it shows in a block's seconds
 unfoldable pub group_row : Block → List ℕ → List Span → List ℕ
 group_row block name spans = name_text block.margin name ++ flat_map (span_text block) spans ++ codes "\n"
 
@@ -142,6 +146,7 @@ is_of None (Turn r) = false
 is_of (Some g) (Command r) = false
 is_of (Some g) (Turn r) = r.group.0 == g.0
 
+-- the row with the sign of a refusal, where it is one that the row shows
 abbrev pub with_refusal : Block → Option GroupNo → MarkRow → RefusalMark → MarkRow
 with_refusal block group row m = if is_of group m.refused then with_letter block row m.second 33 else row
 
@@ -149,6 +154,7 @@ with_refusal block group row m = if is_of group m.refused then with_letter block
 unfoldable pub refusals_row : Block → List RefusalMark → Option GroupNo → List ℕ
 refusals_row block marks group = marks_text block (codes " refused") (fold (with_refusal block group) empty_row marks)
 
+-- the row with the sign of a fault
 abbrev pub with_fault : Block → MarkRow → FaultMark → MarkRow
 with_fault block row m = with_letter block row m.second 88
 
@@ -160,6 +166,7 @@ faults_row block marks = marks_text block (codes "fault") (fold (with_fault bloc
 abbrev pub front_letter : ℕ → ℕ
 front_letter fronts = if nat_lt fronts 10 then 48 + fronts else 42
 
+-- the row with the fronts of a detector, where the row is the detector's
 abbrev pub with_front : Block → ℕ → MarkRow → FrontMark → MarkRow
 with_front block d row m = if m.detector.0 == d then with_letter block row m.second (front_letter m.fronts) else row
 
@@ -202,6 +209,7 @@ block_head block s =
 unfoldable pub block_rows : Block → Shown → List ℕ
 block_rows block s = groups_rows block s (length s.names) ++ faults_row block s.faults ++ fronts_rows block s.fronts 64
 
+-- the rows of a block
 unfoldable pub block_text : Block → Shown → List ℕ
 block_text block s = block_head block s ++ block_rows block s
 
@@ -218,6 +226,7 @@ unfoldable pub blocks_to : Shown → ℕ → List ℕ
 blocks_to s zero = []
 blocks_to s (suc k) = blocks_to s k ++ block_text (block_at s k) s
 
+-- what the characters mean
 unfoldable pub key_text : List ℕ
 key_text = codes "- red  / red-amber  # green  \\ amber  ! refused  X fault  1 to 9, * fronts\n"
 

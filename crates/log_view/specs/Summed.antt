@@ -31,6 +31,7 @@ pub record AreTallies {A : Type 0} (items : List A) (tallies : List (A × ℕ)) 
 abbrev pub refused_in : Record → List Refused
 refused_in r = map Command r.stages ++ map Turn r.turns
 
+-- the fault of a second, where there is one
 abbrev pub fault_items : Option Fault → List Fault
 fault_items None = []
 fault_items (Some fault) = fault ∷ []
@@ -58,10 +59,11 @@ abbrev pub AreApart : List PlaceSum → Type 0
 AreApart places =
     (i j : ℕ) (d : PlaceSum) → i < j → j < length places → (slice_index_or places i d).place ≡ (slice_index_or places j d).place → ⊥
 
--- tallies, as pairs of what is counted and how often it came
+-- the tallies of refusals, as pairs of what is counted and how often it came
 abbrev pub refusal_tallies : List RefusalTally → List (Refused × ℕ)
 refusal_tallies ts = map (λ t. (t.refused, t.times)) ts
 
+-- the tallies of faults, as such pairs
 abbrev pub fault_tallies : List FaultTally → List (Fault × ℕ)
 fault_tallies ts = map (λ t. (t.fault, t.times)) ts
 

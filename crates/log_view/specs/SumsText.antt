@@ -25,13 +25,14 @@ greens_text t =
     if t.greens == 0 then []
     else codes " shortest:" ++ decimal t.shortest ++ codes " mean:" ++ tenths_text (t.total * 10 / t.greens) ++ codes " longest:" ++ decimal t.longest
 
--- how many seconds of a green, and of a red, run at the log's end
+-- how many seconds of a green run at the log's end
 abbrev pub green_by : Aspect → ℕ → ℕ
 green_by Red seconds = 0
 green_by RedAmber seconds = 0
 green_by Green seconds = seconds
 green_by Amber seconds = 0
 
+-- how many seconds of a red run at the log's end
 abbrev pub red_by : Aspect → ℕ → ℕ
 red_by Red seconds = seconds
 red_by RedAmber seconds = 0
@@ -72,10 +73,11 @@ place_text p = sum_place p.place ++ codes " times:" ++ decimal p.times ++ codes 
 abbrev pub times_text : ℕ → List ℕ
 times_text times = codes " times:" ++ decimal times ++ codes "\n"
 
--- the line of a refusal, and of a fault
+-- the line of a refusal
 unfoldable pub refusal_text : List (List ℕ) → RefusalTally → List ℕ
 refusal_text names t = codes "REFUSED " ++ words_text names t.refused ++ times_text t.times
 
+-- the line of a fault
 unfoldable pub fault_line : FaultTally → List ℕ
 fault_line t = codes "FAULT " ++ fault_text (Some t.fault) ++ times_text t.times
 
