@@ -10,3 +10,11 @@ pub mod Places
 pub mod Adding
 pub mod Summing
 pub mod Calls
+pub mod NumberTexts
+pub mod CutTexts
+pub mod NameTexts
+pub mod FieldsBack
+pub mod CountsBack
+pub mod RefusedBack
+pub mod HeaderBack
+pub mod LogsBack

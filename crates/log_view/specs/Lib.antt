@@ -9,3 +9,4 @@ pub mod Letters
 pub mod Answers
 pub mod Call
 pub mod Adding
+pub mod Laws

@@ -5,6 +5,7 @@
 mod call;
 mod form;
 mod gathering;
+mod laws;
 mod letters;
 mod stop;
 mod sums;
@@ -13,6 +14,7 @@ mod sums_text;
 pub use call::report;
 pub use form::{Form, Window, form_of};
 pub use gathering::gather;
+pub use laws::a_written_log_is_read_whole;
 pub use letters::put_text;
 pub use stop::{Status, Stop, exit_status, status_of, write_stop};
 pub use sums::{FaultTally, PlaceSum, RefusalTally, Sums, sum_up};

@@ -1,0 +1,155 @@
+-- A log that was written is read back, whole.
+use Rattle.std.proofs.Common.{◌≡◌, ◌∙◌, ℕ, ◌+◌, ◌≤◌, true, List, [], ◌∷◌, ◌++◌, codes, drop, length, map, Option, Some, None, refl, sym, ap, subst, arith, append_assoc}
+use Rattle.std.proofs.lemmas.List.{append-nil}
+use Rattle.std.specs.Fmt.{decimal}
+use Rattle.std.specs.Option.{option_and_then}
+use Rattle.sig_types.specs.LogForm.{header_line, letter}
+use Rattle.sig_types.specs.Text.{fed_lines, number_of, within}
+use Rattle.sig_types.specs.declared.record.Record.{Record}
+use Rattle.signal_log.specs.Log.{count_text, counted_from, fault_text, header_text, log_text, or_dash, place_text, record_line, record_text, records_text, refused_texts}
+use Rattle.signal_log.proofs.FieldTexts.{counts_plain, letters_plain, or_dash_plain, place_plain, refused_plain}
+use Rattle.signal_log.proofs.Lengths.{header_is_short, lines_are_short}
+use Rattle.signal_log.proofs.LogLines.{lines_have_no_feed}
+use Rattle.signal_log.proofs.Plain.{decimal_plain, no_bar, plain_without}
+use Rattle.signal_log.proofs.Without.{Without}
+use Rattle.log_records.specs.declared.refusal.LogWhy.{LogWhy}
+use Rattle.log_records.specs.Fields.{Fields, cut_fifth, cut_first, cut_fourth, cut_second, cut_third, fields_of}
+use Rattle.log_records.specs.Log.{HasRecords, IsLog}
+use Rattle.log_records.specs.Records.{IsEntry, record_reason}
+use Rattle.log_records.proofs.LogLaws.{one_answer, one_header}
+use Rattle.log_records.proofs.LogLemmas.{first_line}
+use Rattle.log_records.proofs.Steps.{step_ended, step_header, step_record}
+use Rattle.log_view.specs.Laws.{AreGroups, AreOfRun, IsLoggedRun, IsOfRun, OnlyWrittenIsRead, WrittenIsRead}
+use Rattle.log_view.proofs.CountsBack.{frame_again}
+use Rattle.log_view.proofs.CutTexts.{cut_again}
+use Rattle.log_view.proofs.FieldsBack.{fault_again, picture_again, place_again}
+use Rattle.log_view.proofs.HeaderBack.{header_again}
+use Rattle.log_view.proofs.NumberTexts.{number_within}
+use Rattle.log_view.proofs.RefusedBack.{refused_again}
+
+-- ---- a line and its fields
+
+abbrev barred : List ℕ → List ℕ → List ℕ → List ℕ → List ℕ → List ℕ → List ℕ
+barred a b c d e f = a ++ 124 ∷ (b ++ 124 ∷ (c ++ 124 ∷ (d ++ 124 ∷ (e ++ 124 ∷ f))))
+
+line_shape : (a b c d e f : List ℕ) →
+    a ++ codes "|" ++ b ++ codes "|" ++ c ++ codes "|" ++ d ++ codes "|" ++ e ++ codes "|" ++ f ≡ barred a b c d e f
+line_shape a b c d e f = simp append_assoc
+
+fields_again : (a b c d e f : List ℕ) → Without 124 a → Without 124 b → Without 124 c → Without 124 d → Without 124 e →
+    fields_of (barred a b c d e f) ≡ Some (record { second = a; place = b; aspects = c; counts = d; refused = e; fault = f })
+unfolding fields_of
+fields_again a b c d e f first second third fourth fifth =
+    ap (λ o. option_and_then cut_first o) (cut_again 124 a (b ++ 124 ∷ (c ++ 124 ∷ (d ++ 124 ∷ (e ++ 124 ∷ f)))) first)
+    ∙ ap (λ o. option_and_then (cut_second a) o) (cut_again 124 b (c ++ 124 ∷ (d ++ 124 ∷ (e ++ 124 ∷ f))) second)
+    ∙ ap (λ o. option_and_then (cut_third a b) o) (cut_again 124 c (d ++ 124 ∷ (e ++ 124 ∷ f)) third)
+    ∙ ap (λ o. option_and_then (cut_fourth a b c) o) (cut_again 124 d (e ++ 124 ∷ f) fourth)
+    ∙ ap (λ o. option_and_then (cut_fifth a b c d) o) (cut_again 124 e f fifth)
+
+-- the six fields of a record as they are written
+abbrev written : List (List ℕ) → Record → Fields
+written names r = record {
+  second = decimal r.second.0;
+  place = place_text r.place;
+  aspects = map letter r.picture;
+  counts = or_dash (map count_text (counted_from 1 r.frame));
+  refused = or_dash (refused_texts names r.stages r.turns);
+  fault = fault_text r.fault;
+}
+
+line_fields : (names : List (List ℕ)) (r : Record) → AreGroups names → fields_of (record_line names r) ≡ Some (written names r)
+line_fields names r groups =
+    let f = written names r in
+    ap fields_of (line_shape f.second f.place f.aspects f.counts f.refused f.fault)
+    ∙ fields_again f.second f.place f.aspects f.counts f.refused f.fault
+    (plain_without 124 f.second no_bar (decimal_plain r.second.0))
+    (plain_without 124 f.place no_bar (place_plain r.place))
+    (plain_without 124 f.aspects no_bar (letters_plain r.picture))
+    (plain_without 124 f.counts no_bar (or_dash_plain (map count_text (counted_from 1 r.frame)) (counts_plain (counted_from 1 r.frame))))
+    (plain_without 124 f.refused no_bar (refused_plain names r groups.names_are))
+
+-- the line of a record says this record
+line_entry : (names : List (List ℕ)) (k : ℕ) (r : Record) → AreGroups names → k ≤ 604801 → IsOfRun (length names) k r →
+    IsEntry names k (record_line names r) r
+line_entry names k r groups few is = record {
+  fields = written names r;
+  cut = line_fields names r groups;
+  due = subst (λ (n : ℕ). within k k (number_of (decimal n)) ≡ Some k) (sym is.second)
+      (number_within k k k (omega arith) (omega arith) (omega arith));
+  second = is.second;
+  place = place_again r.place is.place;
+  picture = picture_again (length names) r.picture is.parts.picture;
+  frame = frame_again r.frame is.parts.frame is.counts;
+  refused = refused_again names r.stages r.turns groups is.bounded.commands is.commands is.bounded.turns is.parts.turns is.turns;
+  fault = fault_again r.fault is.fault;
+}
+
+-- a line that says a record isn't refused
+not_refused : (names : List (List ℕ)) (k : ℕ) (line : List ℕ) (r : Record) → IsEntry names k line r →
+    record_reason names k line ≡ None
+unfolding record_reason
+not_refused names k line r is = rw (is.cut, is.due, is.place, is.picture, is.frame, is.refused, is.fault) refl
+
+-- ---- the log
+
+-- the lines of records, each with its line feed
+abbrev lines_text : List (List ℕ) → List Record → List ℕ
+lines_text names [] = []
+lines_text names (r ∷ rs) = record_line names r ++ 10 ∷ lines_text names rs
+
+records_are : (names : List (List ℕ)) (rs : List Record) → records_text names rs ≡ lines_text names rs
+unfolding records_text record_text
+records_are names [] = refl
+records_are names (r ∷ rs) =
+    append_assoc (record_line names r) (codes "\n") (records_text names rs)
+    ∙ ap (λ l. record_line names r ++ 10 ∷ l) (records_are names rs)
+
+log_is : (names : List (List ℕ)) (rs : List Record) → log_text names rs ≡ header_line names ++ 10 ∷ lines_text names rs
+unfolding log_text header_text
+log_is names rs =
+    append_assoc (header_line names) (10 ∷ []) (records_text names rs)
+    ∙ ap (λ l. header_line names ++ 10 ∷ l) (records_are names rs)
+
+-- the records from number n on, where the lines before them were read
+read_on : (names : List (List ℕ)) (bytes : List ℕ) (n : ℕ) (done rs : List Record) → AreGroups names → 1 ≤ n →
+    n + length rs ≤ 604802 →
+    AreOfRun (length names) n rs →
+    fed_lines (lines_text names rs) ≡ drop n (fed_lines bytes) → HasRecords names (fed_lines bytes) n done →
+    IsLog names bytes (done ++ rs) None
+read_on names bytes n done [] groups some few are rest read =
+    rw (append-nil done) (step_ended names bytes n done [] some rest read refl)
+read_on names bytes n done (r ∷ rs) groups some few are rest read =
+    let line : List ℕ = record_line names r in
+    let next : fed_lines (line ++ 10 ∷ lines_text names rs) ≡ line ∷ fed_lines (lines_text names rs) =
+    first_line (line ++ 10 ∷ lines_text names rs) line true (lines_text names rs)
+    record { no_feed = (lines_have_no_feed names groups.names_are).1 r; cut = refl } in
+    let entry = line_entry names n r groups (omega arith) are.0 in
+    let short : length line ≤ 262144 = lines_are_short names r groups.names_are groups.few are.0.parts are.0.bounded in
+    let more = step_record names bytes n done (line ++ 10 ∷ lines_text names rs) line (fed_lines (lines_text names rs)) r some
+    (omega arith) rest read next short
+    (not_refused names n line r entry) entry in
+    subst (λ (all : List Record). IsLog names bytes all None) (append_assoc done (r ∷ []) rs)
+    (read_on names bytes (n + 1) (done ++ r ∷ []) rs groups (omega arith) (omega arith) are.1 more.rest more.accepted)
+
+lines_read : (names : List (List ℕ)) (rs : List Record) → IsLoggedRun names rs →
+    IsLog names (header_line names ++ 10 ∷ lines_text names rs) rs None
+lines_read names rs run =
+    let bytes : List ℕ = header_line names ++ 10 ∷ lines_text names rs in
+    let groups = run.groups in
+    let next : fed_lines bytes ≡ header_line names ∷ fed_lines (lines_text names rs) =
+    first_line bytes (header_line names) true (lines_text names rs)
+    record { no_feed = (lines_have_no_feed names groups.names_are).0; cut = refl } in
+    let more = step_header names bytes bytes (header_line names) (fed_lines (lines_text names rs)) refl next
+    (header_is_short names groups.names_are groups.few) (header_again names groups) in
+    read_on names bytes 1 [] rs groups (omega arith) (omega (arith, run.few)) run.records_are more.rest more.accepted
+
+pub written_is_read : WrittenIsRead
+written_is_read names rs run =
+    subst (λ (bytes : List ℕ). IsLog names bytes rs None) (sym (log_is names rs)) (lines_read names rs run)
+
+pub only_written_is_read : OnlyWrittenIsRead
+only_written_is_read names others rs read refused run said =
+    let one = one_answer names others (log_text names rs) rs read None refused (written_is_read names rs run) said in
+    let whole : IsLog others (log_text names rs) read None =
+    subst (λ (o : Option (ℕ × LogWhy)). IsLog others (log_text names rs) read o) (sym one.1) said in
+    (sym (one_header names others (log_text names rs) rs read (written_is_read names rs run) whole), sym one.0, sym one.1)
