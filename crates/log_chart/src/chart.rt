@@ -5,7 +5,7 @@ ghost use Rattle.log_chart.specs.Spans.{IsChart};
 ghost use Rattle.log_chart.specs.Charted.{AreEmpty};
 
 use crate::{Span, show};
-use sig_types::{GroupNo, Memory, Picture, Second};
+use sig_types::{Aspect, GroupNo, Memory, Picture, Second};
 use std::alloc::Global;
 use std::marker::Model;
 
@@ -13,7 +13,7 @@ use std::marker::Model;
 /// and the one after the last.
 #[derive(Drop)]
 pub struct Chart {
-    rows: Vec<Vec<Span>>,
+    rows: Vec<Vec<Span<Aspect>>>,
     from: u32,
     past: u32,
 }
@@ -30,7 +30,7 @@ impl Model for Chart {
 }
 
 // A row without spans for each group.
-fn no_rows(alloc: Global, groups: u8) -> Result<Vec<Vec<Span>>, Memory>
+fn no_rows(alloc: Global, groups: u8) -> Result<Vec<Vec<Span<Aspect>>>, Memory>
     ensures { IfOk result (λ v. AreEmpty groups (map (λ r. r.items) v.items)) }
 {
     let mut rows = Vec::new(alloc);
@@ -44,7 +44,11 @@ fn no_rows(alloc: Global, groups: u8) -> Result<Vec<Vec<Span>>, Memory>
 }
 
 // Puts what each group shows in a picture to the group's row.
-fn show_all(rows: &mut Vec<Vec<Span>>, second: Second, picture: &Picture) -> Result<(), Memory>
+fn show_all(
+    rows: &mut Vec<Vec<Span<Aspect>>>,
+    second: Second,
+    picture: &Picture,
+) -> Result<(), Memory>
     requires { length picture.now ≡ length rows.old.items }
     ensures size { length rows.new.items ≡ length rows.old.items }
     ensures shown { OnOk result ((h : History) (from : ℕ) → from ≤ second.0 → slice_index_or h second.0 [] ≡ picture.now →
@@ -54,7 +58,7 @@ fn show_all(rows: &mut Vec<Vec<Span>>, second: Second, picture: &Picture) -> Res
     for place in 0..picture.len() {
         let aspect = picture.get(place);
         let row = &mut rows[usize::from(place)];
-        match show(row, GroupNo(place), second, aspect) {
+        match show(row, second, aspect) {
             Ok(()) => {}
             Err(memory) => return Err(memory),
         }
@@ -99,7 +103,7 @@ impl Chart {
     }
 
     /// The spans of a group.
-    pub fn row(&self, group: GroupNo) -> &[Span]
+    pub fn row(&self, group: GroupNo) -> &[Span<Aspect>]
         requires { group.0 < length self.now.rows }
         ensures { result.now ≡ slice_index_or self.now.rows group.0 [] }
     {

@@ -1,4 +1,5 @@
-//! A chart of what the groups of a junction show: for each group the spans of seconds in which it shows one aspect.
+//! A chart of what the groups of a junction show: for each group the spans of seconds in which it shows one aspect; and the spans
+//! of seconds in which a run is at one stage, or in one interstage.
 //!
 //! `specs/Spans` has the definition over pictures, `specs/Laws` what follows from it.
 #![tactic(auto)]
@@ -14,8 +15,8 @@ mod totals;
 
 pub use chart::Chart;
 pub use past::GroupPast;
-pub use row::{show, spans_of};
+pub use row::{Shown, show, spans_of};
 pub use span::Span;
-pub use stay::{Stay, add_stay, without_second};
+pub use stay::{add_stay, without_second};
 pub use sums::with_span;
 pub use totals::Totals;

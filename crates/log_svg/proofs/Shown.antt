@@ -12,20 +12,20 @@ use Rattle.log_svg.specs.Axis.{axis_text, second_text}
 use Rattle.log_svg.specs.Marks.{detectors_text, row_count, shown_text, shown_to}
 use Rattle.log_chart.proofs.Tells.{row_is_short}
 
-pub shown_spans : (layout : Layout) (g : ℕ) (a : ℕ → Aspect) (spans : List Span) → AreSpans g a layout.from (layout.to + 1) spans → All (IsShown layout) spans
-shown_spans layout g a spans are k d lt = let is = are.each k d lt in record {
+pub shown_spans : {T : Type 0} (layout : Layout) (a : ℕ → T) (spans : List (Span T)) → AreSpans a layout.from (layout.to + 1) spans → All (IsShown layout) spans
+shown_spans layout a spans are k d lt = let is = are.each k d lt in record {
   begin = is.begin;
   order = is.order;
   end = let end = is.end in omega arith;
 }
 
-pub few_spans : (layout : Layout) (g : ℕ) (a : ℕ → Aspect) (spans : List Span) → IsLayout layout → AreSpans g a layout.from (layout.to + 1) spans → length spans ≤ 3600
-few_spans layout g a spans is are =
+pub few_spans : {T : Type 0} (layout : Layout) (a : ℕ → T) (spans : List (Span T)) → IsLayout layout → AreSpans a layout.from (layout.to + 1) spans → length spans ≤ 3600
+few_spans layout a spans is are =
     let order = is.order in let hour = is.hour in
-    let few = row_is_short g a layout.from (layout.to + 1) spans (omega arith) are in omega (arith, few, hour)
+    let few = row_is_short a layout.from (layout.to + 1) spans (omega arith) are in omega (arith, few, hour)
 
 -- the rows of one group more
-pub groups_more : (layout : Layout) (top : ℕ) (names : List (List ℕ)) (rows : List (List Span)) (n : ℕ) →
+pub groups_more : (layout : Layout) (top : ℕ) (names : List (List ℕ)) (rows : List (List (Span Aspect))) (n : ℕ) →
     groups_text layout top names rows (n + 1) ≡ groups_text layout top names rows n ++ group_text layout (top + 20 * n) (get_or names n []) (get_or rows n [])
 unfolding groups_text
 groups_more layout top names rows n = rw add-one refl

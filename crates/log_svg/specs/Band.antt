@@ -1,14 +1,14 @@
 -- The band of stages and interstages.
-use Rattle.std.specs.Prelude.{ℕ, ◌+◌, ◌-◌, ◌*◌, ◌/◌, ◌≤◌, Bool, List, [], ◌++◌, codes, if◌then◌else◌, nat_le, nat_lt}
+use Rattle.std.specs.Prelude.{ℕ, ◌+◌, ◌*◌, ◌/◌, Bool, List, [], ◌++◌, codes, if◌then◌else◌, nat_le, nat_lt}
 use Rattle.std.specs.List.{flat_map}
 use Rattle.std.specs.Fmt.{decimal}
 use Rattle.sig_types.specs.declared.numbers.StageNo.{StageNo}
 use Rattle.sig_types.specs.declared.numbers.StagePlace.{StagePlace}
 use Rattle.sig_types.specs.declared.numbers.StagePlace.TheVariants.{NoPlan, Stage, Inter}
-use Rattle.log_chart.specs.declared.stay.Stay.{Stay}
+use Rattle.log_chart.specs.Stays.{Stay}
 use Rattle.log_svg.specs.declared.layout.Layout.{Layout}
 use Rattle.log_svg.specs.Layout.{x_of}
-use Rattle.log_svg.specs.Svg.{box_text, label_begin}
+use Rattle.log_svg.specs.Svg.{box_text, label_begin, width_of}
 
 -- the class of a place: a stage is plain, an interstage striped
 abbrev pub place_class : StagePlace → List ℕ
@@ -32,18 +32,14 @@ name_letters NoPlan = 1
 name_letters (Stage s) = 1 + stage_digits s
 name_letters (Inter a b t) = 1 + stage_digits a + stage_digits b
 
--- how wide a stay is
-abbrev pub stay_width : Layout → Stay → ℕ
-stay_width layout s = (s.last.0 + 1 - s.first.0) * layout.scale
-
 -- the name in the middle of the stay
 unfoldable pub stay_name : Layout → Stay → List ℕ
 stay_name layout s =
-    label_begin (codes "m") (x_of layout s.first.0 + stay_width layout s / 2) 73 ++ place_name s.place ++ codes "</text>\n"
+    label_begin (codes "m") (x_of layout s.first.0 + width_of layout s / 2) 73 ++ place_name s.shown ++ codes "</text>\n"
 
 -- the name stands where the stay is wide enough
 abbrev pub is_named : Layout → Stay → Bool
-is_named layout s = nat_le (name_letters s.place * 7 + 4) (stay_width layout s)
+is_named layout s = nat_le (name_letters s.shown * 7 + 4) (width_of layout s)
 
 -- the name where there is room for it
 abbrev pub stay_words : Layout → Stay → List ℕ
@@ -51,14 +47,8 @@ stay_words layout s = if is_named layout s then stay_name layout s else []
 
 -- a stay: a box, and its name
 unfoldable pub stay_text : Layout → Stay → List ℕ
-stay_text layout s = box_text (place_class s.place) (x_of layout s.first.0) 60 (stay_width layout s) 18 ++ stay_words layout s
+stay_text layout s = box_text (place_class s.shown) (x_of layout s.first.0) 60 (width_of layout s) 18 ++ stay_words layout s
 
 -- the stays, one after the other
 abbrev pub band_text : Layout → List Stay → List ℕ
 band_text layout stays = flat_map (stay_text layout) stays
-
--- a stay of the seconds of a diagram
-pub record IsStayIn (layout : Layout) (s : Stay) : Type 0 where
-  pub begin : layout.from ≤ s.first.0
-  pub order : s.first.0 ≤ s.last.0
-  pub end : s.last.0 ≤ layout.to

@@ -1,18 +1,19 @@
 -- The text of a whole signal timing diagram.
 use Rattle.std.specs.Prelude.{ℕ, ◌+◌, ◌-◌, ◌*◌, ◌<◌, ◌≤◌, max, List, [], ◌++◌, codes, length, All, if◌then◌else◌, ◌==◌}
 use Rattle.std.specs.Fmt.{decimal}
+use Rattle.sig_types.specs.declared.aspect.Aspect.{Aspect}
 use Rattle.sig_types.specs.Turns.{History}
 use Rattle.log_chart.specs.declared.span.Span.{Span}
-use Rattle.log_chart.specs.declared.stay.Stay.{Stay}
 use Rattle.log_chart.specs.Spans.{IsChart}
+use Rattle.log_chart.specs.Stays.{Stay}
 use Rattle.log_svg.specs.declared.layout.Layout.{Layout}
 use Rattle.log_svg.specs.declared.marks.RefusalMark.{RefusalMark}
 use Rattle.log_svg.specs.declared.marks.FaultMark.{FaultMark}
 use Rattle.log_svg.specs.declared.fronts.FrontMark.{FrontMark}
 use Rattle.log_svg.specs.Layout.{layout_of, right_of}
-use Rattle.log_svg.specs.Svg.{attribute_text, box_text, cross_text, groups_text, label_begin, label_text, triangle_text, upright_text}
+use Rattle.log_svg.specs.Svg.{IsShown, attribute_text, box_text, cross_text, groups_text, label_begin, label_text, triangle_text, upright_text}
 use Rattle.log_svg.specs.Axis.{axis_text}
-use Rattle.log_svg.specs.Band.{IsStayIn, band_text}
+use Rattle.log_svg.specs.Band.{band_text}
 use Rattle.log_svg.specs.Marks.{IsFaultIn, IsFrontIn, IsMarked, detectors_text, faults_text, refusals_text, shown_to}
 
 -- what a diagram shows: the names of the groups, the seconds, the spans of each group, the stays at stages and interstages, and
@@ -21,7 +22,7 @@ pub record Shown : Type 0 where
   pub names : List (List ℕ)
   pub from : ℕ
   pub to : ℕ
-  pub rows : List (List Span)
+  pub rows : List (List (Span Aspect))
   pub stays : List Stay
   pub fronts : List FrontMark
   pub refusals : List RefusalMark
@@ -191,7 +192,7 @@ pub record IsShowable (s : Shown) : Type 0 where
   pub few : length s.names ≤ 64
   pub history : History
   pub chart : IsChart history (length s.names) s.from (s.to + 1) s.rows
-  pub stays : All (IsStayIn (layout_in s)) s.stays
+  pub stays : All (IsShown (layout_in s)) s.stays
   pub few_stays : length s.stays ≤ 3600
   pub fronts : All (IsFrontIn (layout_in s)) s.fronts
   pub few_fronts : length s.fronts ≤ 230400

@@ -48,7 +48,7 @@ unfoldable pub cross_text : ℕ → ℕ → List ℕ
 cross_text x y = path_begin (codes "f") x ++ decimal y ++ codes "l8 8m0 -8l-8 8\""
 
 -- how wide a span is
-abbrev pub width_of : Layout → Span → ℕ
+abbrev pub width_of : {T : Type 0} → Layout → Span T → ℕ
 width_of layout s = (s.last.0 + 1 - s.first.0) * layout.scale
 
 -- the class of an aspect
@@ -63,45 +63,45 @@ abbrev pub digit_count : ℕ → ℕ
 digit_count n = if nat_lt n 10 then 1 else (if nat_lt n 100 then 2 else (if nat_lt n 1000 then 3 else 4))
 
 -- a green has its seconds written in it where it begins after the first second of the diagram, ends before the last one, and is wide enough
-abbrev pub is_told : Layout → Span → Bool
+abbrev pub is_told : Layout → Span Aspect → Bool
 is_told layout s =
     nat_lt layout.from s.first.0 && nat_lt s.last.0 layout.to && nat_le (digit_count (s.last.0 + 1 - s.first.0) * 7 + 4) (width_of layout s)
 
 -- the seconds of a green, where they are told
-abbrev pub seconds_text : Layout → ℕ → Span → List ℕ
+abbrev pub seconds_text : Layout → ℕ → Span Aspect → List ℕ
 seconds_text layout y s =
     if is_told layout s
     then label_text (codes "k") (x_of layout s.first.0 + width_of layout s / 2) (y + 15) (decimal (s.last.0 + 1 - s.first.0))
     else []
 
 -- a red is a line, and the other aspects are bars
-abbrev pub aspect_text : Layout → ℕ → Span → Aspect → List ℕ
+abbrev pub aspect_text : Layout → ℕ → Span Aspect → Aspect → List ℕ
 aspect_text layout y s Red = box_text (codes "r") (x_of layout s.first.0) (y + 10) (width_of layout s) 2
 aspect_text layout y s RedAmber = box_text (codes "u") (x_of layout s.first.0) (y + 5) (width_of layout s) 12
 aspect_text layout y s Green = box_text (codes "g") (x_of layout s.first.0) (y + 5) (width_of layout s) 12 ++ seconds_text layout y s
 aspect_text layout y s Amber = box_text (codes "a") (x_of layout s.first.0) (y + 5) (width_of layout s) 12
 
 -- a span by its aspect
-unfoldable pub span_text : Layout → ℕ → Span → List ℕ
-span_text layout y s = aspect_text layout y s s.aspect
+unfoldable pub span_text : Layout → ℕ → Span Aspect → List ℕ
+span_text layout y s = aspect_text layout y s s.shown
 
 -- the spans of a group, one after the other
-abbrev pub row_text : Layout → ℕ → List Span → List ℕ
+abbrev pub row_text : Layout → ℕ → List (Span Aspect) → List ℕ
 row_text layout y spans = flat_map (span_text layout y) spans
 
 -- a group: its name, its spans, and a line below
-unfoldable pub group_text : Layout → ℕ → List ℕ → List Span → List ℕ
+unfoldable pub group_text : Layout → ℕ → List ℕ → List (Span Aspect) → List ℕ
 group_text layout y name spans =
     label_text (codes "n") (layout.left - 12) (y + 15) name ++ row_text layout y spans ++ across_text (y + 20) (right_of layout)
 
 -- the rows of the first n groups, one below the other from `top` on
-unfoldable pub groups_text : Layout → ℕ → List (List ℕ) → List (List Span) → ℕ → List ℕ
+unfoldable pub groups_text : Layout → ℕ → List (List ℕ) → List (List (Span Aspect)) → ℕ → List ℕ
 groups_text layout top names rows zero = []
 groups_text layout top names rows (suc n) =
     groups_text layout top names rows n ++ group_text layout (top + 20 * n) (slice_index_or names n []) (slice_index_or rows n [])
 
 -- a span of the seconds of a diagram
-pub record IsShown (layout : Layout) (s : Span) : Type 0 where
+pub record IsShown {T : Type 0} (layout : Layout) (s : Span T) : Type 0 where
   pub begin : layout.from ≤ s.first.0
   pub order : s.first.0 ≤ s.last.0
   pub end : s.last.0 ≤ layout.to

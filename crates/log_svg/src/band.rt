@@ -2,11 +2,13 @@
 ghost use Rattle.std.specs.Prelude.{◌≡◌, ◌+◌, ◌-◌, ◌*◌, ◌/◌, ◌^◌, ◌<◌, ◌≤◌, ◌++◌, ℕ, List, Option, All, length};
 ghost use Rattle.sig_io.specs.Draft.{IsDraft, FailsOnly};
 ghost use Rattle.log_svg.specs.Layout.{IsLayout};
-ghost use Rattle.log_svg.specs.Band.{IsStayIn, band_text, is_named, name_letters, place_class, place_name, stage_digits, stay_name, stay_text, stay_width, stay_words};
+ghost use Rattle.log_svg.specs.Svg.{IsShown};
+ghost use Rattle.log_svg.specs.Band.{band_text, is_named, name_letters, place_class, place_name, stage_digits, stay_name, stay_text, stay_words};
 
 use crate::layout::{Layout, x_of};
 use crate::pieces::{begin_label, put_box};
-use log_chart::Stay;
+use crate::row::width_of;
+use log_chart::Span;
 use sig_io::{Draft, Sink};
 use sig_types::{StageNo, StagePlace};
 
@@ -68,45 +70,35 @@ pub fn put_place<O: Sink>(draft: &mut Draft, sink: &mut O, place: StagePlace)
     }
 }
 
-// How wide a stay is.
-fn stay_width(layout: Layout, stay: &Stay) -> u32
-    requires layout { IsLayout layout }
-    requires stay { IsStayIn layout stay.now }
-    ensures width { result ≡ stay_width layout stay.now }
-    ensures fits { result ≤ 72000 }
-{
-    (stay.last.0 + 1 - stay.first.0) * layout.scale
-}
-
 // Puts the name in the middle of a stay.
-fn put_stay_name<O: Sink>(draft: &mut Draft, sink: &mut O, layout: Layout, stay: &Stay)
+fn put_stay_name<O: Sink>(draft: &mut Draft, sink: &mut O, layout: Layout, stay: &Span<StagePlace>)
     requires layout { IsLayout layout }
-    requires stay { IsStayIn layout stay.now }
+    requires stay { IsShown layout stay.now }
     requires room { draft.old.gone < 2 ^ 58 }
     ensures text { (start : Option (List ℕ)) (text : List ℕ) → IsDraft start (O.taken sink.old) draft.old text →
         IsDraft start (O.taken sink.new) draft.new (text ++ stay_name layout stay.now) }
     ensures gone { draft.new.gone ≤ draft.old.gone + 4096 * 18 }
     ensures cause { FailsOnly (O.faults sink.old) (O.faults sink.new) draft.old.failed draft.new.failed }
 {
-    let middle = x_of(layout, stay.first.0) + stay_width(layout, stay) / 2;
+    let middle = x_of(layout, stay.first.0) + width_of(layout, stay) / 2;
     begin_label(draft, sink, b"m", middle, 73);
-    put_place(draft, sink, stay.place);
+    put_place(draft, sink, stay.shown);
     draft.put(sink, b"</text>\n");
 }
 
 // Whether a stay is wide enough for its name.
-fn is_named(layout: Layout, stay: &Stay) -> bool
+fn is_named(layout: Layout, stay: &Span<StagePlace>) -> bool
     requires layout { IsLayout layout }
-    requires stay { IsStayIn layout stay.now }
+    requires stay { IsShown layout stay.now }
     ensures { result ≡ is_named layout stay.now }
 {
-    name_letters(stay.place) * 7 + 4 <= stay_width(layout, stay)
+    name_letters(stay.shown) * 7 + 4 <= width_of(layout, stay)
 }
 
 // Puts the name of a stay where it is wide enough.
-fn put_stay_words<O: Sink>(draft: &mut Draft, sink: &mut O, layout: Layout, stay: &Stay)
+fn put_stay_words<O: Sink>(draft: &mut Draft, sink: &mut O, layout: Layout, stay: &Span<StagePlace>)
     requires layout { IsLayout layout }
-    requires stay { IsStayIn layout stay.now }
+    requires stay { IsShown layout stay.now }
     requires room { draft.old.gone < 2 ^ 58 }
     ensures text { (start : Option (List ℕ)) (text : List ℕ) → IsDraft start (O.taken sink.old) draft.old text →
         IsDraft start (O.taken sink.new) draft.new (text ++ stay_words layout stay.now) }
@@ -119,25 +111,30 @@ fn put_stay_words<O: Sink>(draft: &mut Draft, sink: &mut O, layout: Layout, stay
 }
 
 // Puts a stay: a box, and its name.
-fn put_stay<O: Sink>(draft: &mut Draft, sink: &mut O, layout: Layout, stay: &Stay)
+fn put_stay<O: Sink>(draft: &mut Draft, sink: &mut O, layout: Layout, stay: &Span<StagePlace>)
     requires layout { IsLayout layout }
-    requires stay { IsStayIn layout stay.now }
+    requires stay { IsShown layout stay.now }
     requires room { draft.old.gone < 2 ^ 57 }
     ensures text { (start : Option (List ℕ)) (text : List ℕ) → IsDraft start (O.taken sink.old) draft.old text →
         IsDraft start (O.taken sink.new) draft.new (text ++ stay_text layout stay.now) }
     ensures gone { draft.new.gone ≤ draft.old.gone + 4096 * 42 }
     ensures cause { FailsOnly (O.faults sink.old) (O.faults sink.new) draft.old.failed draft.new.failed }
 {
-    let width = stay_width(layout, stay);
+    let width = width_of(layout, stay);
     let x = x_of(layout, stay.first.0);
-    put_box(draft, sink, place_class(stay.place), (x, 60), width, 18);
+    put_box(draft, sink, place_class(stay.shown), (x, 60), width, 18);
     put_stay_words(draft, sink, layout, stay);
 }
 
 /// Puts the band of the stays.
-pub fn put_band<O: Sink>(draft: &mut Draft, sink: &mut O, layout: Layout, stays: &[Stay])
+pub fn put_band<O: Sink>(
+    draft: &mut Draft,
+    sink: &mut O,
+    layout: Layout,
+    stays: &[Span<StagePlace>],
+)
     requires layout { IsLayout layout }
-    requires stays { All (IsStayIn layout) stays.now }
+    requires stays { All (IsShown layout) stays.now }
     requires few { length stays.now ≤ 3600 }
     requires room { draft.old.gone < 2 ^ 56 }
     ensures text { (start : Option (List ℕ)) (text : List ℕ) → IsDraft start (O.taken sink.old) draft.old text →

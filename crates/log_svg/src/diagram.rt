@@ -15,9 +15,9 @@ use crate::layout::{Layout, right_of};
 use crate::legend::put_legend;
 use crate::marks::{FaultMark, RefusalMark, put_faults, put_refusals};
 use crate::pieces::put_label;
-use log_chart::{Chart, Stay};
+use log_chart::{Chart, Span};
 use sig_io::{Draft, Sink};
-use sig_types::ShortName;
+use sig_types::{ShortName, StagePlace};
 
 /// What a diagram shows: the groups of a log in some of its seconds.
 #[derive(Drop)]
@@ -31,7 +31,7 @@ pub struct Diagram {
     /// The chart of these seconds.
     pub chart: Chart,
     /// The stays at stages and interstages.
-    pub stays: Vec<Stay>,
+    pub stays: Vec<Span<StagePlace>>,
     /// The fronts of the detectors.
     pub fronts: Vec<FrontMark>,
     /// The refused commands.

@@ -10,8 +10,8 @@ use log_chart::Span;
 use sig_io::{Draft, Sink};
 use sig_types::Aspect;
 
-// How wide a span is.
-fn width_of(layout: Layout, span: &Span) -> u32
+/// How wide a span is.
+pub fn width_of<T>(layout: Layout, span: &Span<T>) -> u32
     requires layout { IsLayout layout }
     requires span { IsShown layout span.now }
     ensures width { result ≡ width_of layout span.now }
@@ -37,7 +37,7 @@ fn digit_count(n: u32) -> u32
 }
 
 // Whether a green has its seconds written in it.
-fn is_told(layout: Layout, span: &Span) -> bool
+fn is_told(layout: Layout, span: &Span<Aspect>) -> bool
     requires layout { IsLayout layout }
     requires span { IsShown layout span.now }
     ensures { result ≡ is_told layout span.now }
@@ -48,7 +48,13 @@ fn is_told(layout: Layout, span: &Span) -> bool
 }
 
 // Puts the seconds of a green where they are told.
-fn put_seconds<O: Sink>(draft: &mut Draft, sink: &mut O, layout: Layout, y: u32, span: &Span)
+fn put_seconds<O: Sink>(
+    draft: &mut Draft,
+    sink: &mut O,
+    layout: Layout,
+    y: u32,
+    span: &Span<Aspect>,
+)
     requires layout { IsLayout layout }
     requires span { IsShown layout span.now }
     requires y { y ≤ 100000 }
@@ -66,7 +72,7 @@ fn put_seconds<O: Sink>(draft: &mut Draft, sink: &mut O, layout: Layout, y: u32,
 
 // Puts a span: a line where it is red, and else a bar.
 #[tactic(auto, unfolding(crate::specs::Svg::span_text))]
-fn put_span<O: Sink>(draft: &mut Draft, sink: &mut O, layout: Layout, y: u32, span: &Span)
+fn put_span<O: Sink>(draft: &mut Draft, sink: &mut O, layout: Layout, y: u32, span: &Span<Aspect>)
     requires layout { IsLayout layout }
     requires span { IsShown layout span.now }
     requires y { y ≤ 100000 }
@@ -78,7 +84,7 @@ fn put_span<O: Sink>(draft: &mut Draft, sink: &mut O, layout: Layout, y: u32, sp
 {
     let x = x_of(layout, span.first.0);
     let width = width_of(layout, span);
-    match span.aspect {
+    match span.shown {
         Aspect::Red => put_box(draft, sink, b"r", (x, y + 10), width, 2),
         Aspect::RedAmber => put_box(draft, sink, b"u", (x, y + 5), width, 12),
         Aspect::Green => {
@@ -90,7 +96,13 @@ fn put_span<O: Sink>(draft: &mut Draft, sink: &mut O, layout: Layout, y: u32, sp
 }
 
 /// Puts the spans of a group.
-pub fn put_row<O: Sink>(draft: &mut Draft, sink: &mut O, layout: Layout, y: u32, spans: &[Span])
+pub fn put_row<O: Sink>(
+    draft: &mut Draft,
+    sink: &mut O,
+    layout: Layout,
+    y: u32,
+    spans: &[Span<Aspect>],
+)
     requires layout { IsLayout layout }
     requires spans { All (IsShown layout) spans.now }
     requires few { length spans.now ≤ 3600 }
@@ -113,7 +125,7 @@ pub fn put_group<O: Sink>(
     layout: Layout,
     y: u32,
     name: &[u8],
-    spans: &[Span],
+    spans: &[Span<Aspect>],
 )
     requires layout { IsLayout layout }
     requires spans { All (IsShown layout) spans.now }

@@ -14,10 +14,10 @@ use Rattle.sig_types.specs.declared.refused.Fault.{Fault}
 use Rattle.sig_types.specs.Counts.{count_in, fronts}
 use Rattle.sig_types.specs.Turns.{trace}
 use Rattle.log_chart.specs.declared.past.GroupPast.{GroupPast}
-use Rattle.log_chart.specs.declared.stay.Stay.{Stay}
 use Rattle.log_chart.specs.Past.{StandsFor}
-use Rattle.log_chart.specs.Stays.{AreStays, without_second}
-use Rattle.log_chart.proofs.StayRows.{longer, none_yet, one_more}
+use Rattle.log_chart.specs.Spans.{AreSpans}
+use Rattle.log_chart.specs.Stays.{Stay, without_second}
+use Rattle.log_chart.proofs.Rows.{longer, none_yet, one_more}
 use Rattle.log_svg.specs.declared.marks.Refused.{Refused}
 use Rattle.log_view.specs.declared.sums.PlaceSum.{PlaceSum}
 use Rattle.log_view.specs.declared.sums.Sums.{Sums}
@@ -31,10 +31,10 @@ use Rattle.log_view.proofs.Showable.{added_most}
 
 -- a second of one second's stay
 abbrev one_second : StagePlace → ℕ → Stay
-one_second x n = record { place = x; first = record { 0 = n }; last = record { 0 = n } }
+one_second x n = record { shown = x; first = record { 0 = n }; last = record { 0 = n } }
 
 abbrev up_to : Stay → ℕ → Stay
-up_to s n = record { place = s.place; first = s.first; last = record { 0 = n } }
+up_to s n = record { shown = s.shown; first = s.first; last = record { 0 = n } }
 
 size_more : (records : List Record) (r : Record) → length (records ++ r ∷ []) ≡ length records + 1
 size_more records r = length-append records (r ∷ [])
@@ -47,7 +47,7 @@ run_longer records r x at old new place same apart run (inr first) =
     absurd (first.other run.covers.0 e run.covers.1.0 (run.covers.1.1 e ∙ run.here ∙ same))
 run_longer records r x at old new place same apart run (inl raised) =
     let n = length records + 1 in
-    let last_at : run.last.place ≡ x = run.here ∙ same in
+    let last_at : run.last.shown ≡ x = run.here ∙ same in
     let next : Stay = up_to run.last n in
     let size = size_more records r in
     let longer_is : stay_seconds next ≡ stay_seconds run.last + 1 = omega (arith, run.ends, run.begun) in
@@ -57,24 +57,24 @@ run_longer records r x at old new place same apart run (inl raised) =
       stays = λ a at_is.
           let before = run.stays a (at_still records r a at_is) in
           let here = at_last records r a n refl at_is in
-          let more : AreStays a 1 (n + 1) (set (run.closed ++ run.last ∷ []) (length run.closed) next)
+          let more : AreSpans a 1 (n + 1) (set (run.closed ++ run.last ∷ []) (length run.closed) next)
           = longer a 1 n (run.closed ++ run.last ∷ []) (length run.closed) run.last x before (omega arith) (here ∙ sym place)
           (sym (length-append run.closed (run.last ∷ []))) (sym (get_or-append_seam run.closed run.last [] run.last)) last_at in
-          rw size (subst (AreStays a 1 (n + 1)) (set-append_seam run.closed run.last [] next) more);
+          rw size (subst (AreSpans a 1 (n + 1)) (set-append_seam run.closed run.last [] next) more);
       here = last_at;
       begun = omega (arith, run.begun, size);
       ends = sym size;
       some = omega (arith, size);
       sums = goes_on run.closed run.last next old new run.sums apart refl longer_is (subst (λ y. IsRaised old y 0 new) (sym last_at) raised);
       covered = λ i d lt. has_added old new x _ 0 (inl raised) (run.covered i d lt);
-      covers = has_added old new x run.last.place 0 (inl raised) run.covers;
+      covers = has_added old new x run.last.shown 0 (inl raised) run.covers;
     }
 
 -- a stay begins behind these stays
 run_begins : (records : List Record) (r : Record) (x : StagePlace) (stays : List Stay) (old new : List PlaceSum) → x ≡ without_second r.place →
-    ((a : ℕ → StagePlace) → IsAtTo a (places_of records) (length records) → AreStays a 1 (length records + 1) stays) →
-    ((d : Stay) → 0 < length stays → (get_or stays (length stays - 1) d).place ≡ x → ⊥) →
-    All (IsPlaceSum stays) old → All (λ s. HasPlace old s.place) stays → AreApart old → IsPlaceAdded old x 1 new → IsRun (records ++ r ∷ []) x new
+    ((a : ℕ → StagePlace) → IsAtTo a (places_of records) (length records) → AreSpans a 1 (length records + 1) stays) →
+    ((d : Stay) → 0 < length stays → (get_or stays (length stays - 1) d).shown ≡ x → ⊥) →
+    All (IsPlaceSum stays) old → All (λ s. HasPlace old s.shown) stays → AreApart old → IsPlaceAdded old x 1 new → IsRun (records ++ r ∷ []) x new
 run_begins records r x stays old new place are other sums covered apart added =
     let n = length records + 1 in
     let next : Stay = one_second x n in
@@ -110,15 +110,15 @@ run_more records r x at seconds old new true place count begins goes apart added
     (rw none.1 (λ i d lt. absurd (omega (arith, lt)))) (λ i d lt. absurd (omega (arith, lt))) apart added
 run_more records r x at seconds old new true place count begins goes apart added (inr run) =
     run_begins records r x (run.closed ++ run.last ∷ []) old new place run.stays other (λ i d lt. closed_sum run.closed run.last (get_or old i d) (run.sums i d lt))
-    (all_behind (λ s. HasPlace old s.place) run.closed run.last run.covered run.covers) apart added
+    (all_behind (λ s. HasPlace old s.shown) run.closed run.last run.covered run.covers) apart added
   where
-    other : (d : Stay) → 0 < length (run.closed ++ run.last ∷ []) → (get_or (run.closed ++ run.last ∷ []) (length (run.closed ++ run.last ∷ []) - 1) d).place ≡ x → ⊥
+    other : (d : Stay) → 0 < length (run.closed ++ run.last ∷ []) → (get_or (run.closed ++ run.last ∷ []) (length (run.closed ++ run.last ∷ []) - 1) d).shown ≡ x → ⊥
     other d some same =
         let last : length (run.closed ++ run.last ∷ []) - 1 ≡ length run.closed = omega (arith, length-append run.closed (run.last ∷ [])) in
         let is : get_or (run.closed ++ run.last ∷ []) (length (run.closed ++ run.last ∷ []) - 1) d ≡ run.last = rw last (get_or-append_seam run.closed run.last [] d) in
         elim (begins refl) [
           | inl zero_is ↦ omega (arith, zero_is, count, run.some)
-          | inr apart_is ↦ apart_is (sym run.here ∙ sym (ap (λ s. s.place) is) ∙ same)
+          | inr apart_is ↦ apart_is (sym run.here ∙ sym (ap (λ s. s.shown) is) ∙ same)
         ]
 
 -- what the code of a record does

@@ -10,8 +10,8 @@ use Rattle.sig_types.specs.declared.numbers.StagePlace.{StagePlace}
 use Rattle.sig_types.specs.declared.numbers.StagePlace.TheVariants.{NoPlan}
 use Rattle.sig_types.specs.declared.record.Record.{Record}
 use Rattle.sig_types.specs.Turns.{History}
-use Rattle.log_chart.specs.Spans.{IsChart}
-use Rattle.log_chart.specs.Stays.{AreStays, without_second}
+use Rattle.log_chart.specs.Spans.{AreSpans, IsChart}
+use Rattle.log_chart.specs.Stays.{without_second}
 use Rattle.log_svg.specs.declared.diagram.Diagram.{Diagram}
 use Rattle.log_view.specs.Drawn.{IsAtTo, IsDrawn, ShowsTo, past_of}
 use Rattle.log_view.specs.Gathered.{faults_in, fronts_in, history_of, places_of, refusals_in, window_in}
@@ -86,8 +86,8 @@ pub record IsPut (old new : Diagram) (r : Record) : Type 0 where
   pub chart : (h : History) → get_or h old.chart.past [] ≡ r.picture → IsChart h (length old.chart.rows) old.chart.from old.chart.past old.chart.rows →
       IsChart h (length old.chart.rows) old.chart.from (old.chart.past + 1) new.chart.rows
   pub chart_from : new.chart.from ≡ old.chart.from
-  pub stays : (a : ℕ → StagePlace) (from : ℕ) → from ≤ r.second.0 → a r.second.0 ≡ without_second r.place → AreStays a from r.second.0 old.stays.items →
-      AreStays a from (r.second.0 + 1) new.stays.items
+  pub stays : (a : ℕ → StagePlace) (from : ℕ) → from ≤ r.second.0 → a r.second.0 ≡ without_second r.place → AreSpans a from r.second.0 old.stays.items →
+      AreSpans a from (r.second.0 + 1) new.stays.items
   pub fronts : new.fronts.items ≡ old.fronts.items ++ fronts_in r
   pub refusals : new.refusals.items ≡ old.refusals.items ++ refusals_in r
   pub faults : new.faults.items ≡ old.faults.items ++ faults_in r

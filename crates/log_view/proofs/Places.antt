@@ -10,7 +10,7 @@ use Rattle.std.proofs.lemmas.List.Sums.{sum_by-append}
 use Rattle.std.proofs.lemmas.List.Sorted.{IsPermutation-cons, IsPermutation-middle, IsPermutation-refl, IsPermutation-sym, IsPermutation-to_front, IsPermutation-trans}
 use Rattle.std.proofs.Math.Seq.{get_or-append_seam}
 use Rattle.sig_types.specs.declared.numbers.StagePlace.{StagePlace}
-use Rattle.log_chart.specs.declared.stay.Stay.{Stay}
+use Rattle.log_chart.specs.Stays.{Stay}
 use Rattle.log_view.specs.declared.sums.PlaceSum.{PlaceSum}
 use Rattle.log_view.specs.Adding.{IsFirst, IsPlaceAdded, IsPlaceTally, IsRaised}
 use Rattle.log_view.specs.Summed.{AreApart, HasPlace, IsPlaceSum, stay_seconds}
@@ -39,7 +39,7 @@ closed_sum closed last p is = elim is.tally [
     own = last ∷ is.own;
     others = is.others;
     split = to_front closed is.own is.others last is.split;
-    at_place = all_cons (λ s. s.place ≡ p.place) last is.own here.0 is.at_place;
+    at_place = all_cons (λ s. s.shown ≡ p.place) last is.own here.0 is.at_place;
     elsewhere = is.elsewhere;
     times = omega (arith, here.1.0);
     seconds = (let more : sum_by stay_seconds (last ∷ is.own) ≡ 0 + stay_seconds last + sum_by stay_seconds is.own = sum_by-append stay_seconds (last ∷ []) is.own in omega (arith, here.1.1, more));
@@ -50,7 +50,7 @@ closed_sum closed last p is = elim is.tally [
     split = IsPermutation-trans (closed ++ last ∷ []) (last ∷ (is.own ++ is.others)) (is.own ++ last ∷ is.others) (to_front closed is.own is.others last is.split)
         (IsPermutation-sym (is.own ++ last ∷ is.others) (last ∷ (is.own ++ is.others)) (IsPermutation-middle is.own last is.others));
     at_place = is.at_place;
-    elsewhere = all_cons (λ s. s.place ≡ p.place → ⊥) last is.others other.0 is.elsewhere;
+    elsewhere = all_cons (λ s. s.shown ≡ p.place → ⊥) last is.others other.0 is.elsewhere;
     times = other.1.0;
     seconds = other.1.1;
   }
@@ -115,7 +115,7 @@ apart_more old v new apart i j d lt below bad = elim (cases_lt j (length old)) [
 ]
 
 -- the last stay goes on
-longer_tally : (closed : List Stay) (last next : Stay) (p q : PlaceSum) → IsPlaceTally closed last p → last.place ≡ p.place → next.place ≡ last.place → stay_seconds next ≡ stay_seconds last + 1 →
+longer_tally : (closed : List Stay) (last next : Stay) (p q : PlaceSum) → IsPlaceTally closed last p → last.shown ≡ p.place → next.shown ≡ last.shown → stay_seconds next ≡ stay_seconds last + 1 →
     q.place ≡ p.place → q.times ≡ p.times → q.seconds ≡ p.seconds + 1 → IsPlaceTally closed next q
 longer_tally closed last next p q is here same longer place times seconds = record {
   own = is.own;
@@ -129,7 +129,7 @@ longer_tally closed last next p q is here same longer place times seconds = reco
   ];
 }
 
-other_tally : (closed : List Stay) (last next : Stay) (p : PlaceSum) → IsPlaceTally closed last p → (last.place ≡ p.place → ⊥) → next.place ≡ last.place → IsPlaceTally closed next p
+other_tally : (closed : List Stay) (last next : Stay) (p : PlaceSum) → IsPlaceTally closed last p → (last.shown ≡ p.place → ⊥) → next.shown ≡ last.shown → IsPlaceTally closed next p
 other_tally closed last next p is apart same = record {
   own = is.own;
   others = is.others;
@@ -142,10 +142,10 @@ other_tally closed last next p is apart same = record {
   ];
 }
 
-pub goes_on : (closed : List Stay) (last next : Stay) (old new : List PlaceSum) → All (IsPlaceTally closed last) old → AreApart old → next.place ≡ last.place → stay_seconds next ≡ stay_seconds last + 1 →
-    IsRaised old last.place 0 new → All (IsPlaceTally closed next) new
+pub goes_on : (closed : List Stay) (last next : Stay) (old new : List PlaceSum) → All (IsPlaceTally closed last) old → AreApart old → next.shown ≡ last.shown → stay_seconds next ≡ stay_seconds last + 1 →
+    IsRaised old last.shown 0 new → All (IsPlaceTally closed next) new
 goes_on closed last next old new are apart same longer raised =
-    let v : PlaceSum = record { place = last.place; times = raised.before.times + 0; seconds = raised.before.seconds + 1 } in
+    let v : PlaceSum = record { place = last.shown; times = raised.before.times + 0; seconds = raised.before.seconds + 1 } in
     let at = raised.at in
     let before : IsPlaceTally closed last raised.before = subst (IsPlaceTally closed last) (raised.is v) (are at v raised.inside) in
     let set_is : All (IsPlaceTally closed next) (set old at v) = split_set old at v (IsPlaceTally closed next) raised.inside
@@ -155,7 +155,7 @@ goes_on closed last next old new are apart same longer raised =
     subst (All (IsPlaceTally closed next)) (sym raised.new_is) set_is
 
 -- a stay begins, of one second
-mine_next : (stays : List Stay) (next : Stay) (p q : PlaceSum) → IsPlaceSum stays p → next.place ≡ p.place → stay_seconds next ≡ 1 → q.place ≡ p.place → q.times ≡ p.times + 1 → q.seconds ≡ p.seconds + 1 →
+mine_next : (stays : List Stay) (next : Stay) (p q : PlaceSum) → IsPlaceSum stays p → next.shown ≡ p.place → stay_seconds next ≡ 1 → q.place ≡ p.place → q.times ≡ p.times + 1 → q.seconds ≡ p.seconds + 1 →
     IsPlaceTally stays next q
 mine_next stays next p q is here one place times seconds = record {
   own = is.own;
@@ -166,7 +166,7 @@ mine_next stays next p q is here one place times seconds = record {
   tally = inl (here ∙ sym place, (omega (arith, times, is.times), omega (arith, seconds, is.seconds, one)));
 }
 
-other_next : (stays : List Stay) (next : Stay) (p : PlaceSum) → IsPlaceSum stays p → (next.place ≡ p.place → ⊥) → IsPlaceTally stays next p
+other_next : (stays : List Stay) (next : Stay) (p : PlaceSum) → IsPlaceSum stays p → (next.shown ≡ p.place → ⊥) → IsPlaceTally stays next p
 other_next stays next p is apart = record {
   own = is.own;
   others = is.others;
@@ -176,10 +176,10 @@ other_next stays next p is apart = record {
   tally = inr (apart, (is.times, is.seconds));
 }
 
-pub begins_again : (stays : List Stay) (next : Stay) (old new : List PlaceSum) → All (IsPlaceSum stays) old → AreApart old → stay_seconds next ≡ 1 → IsRaised old next.place 1 new →
+pub begins_again : (stays : List Stay) (next : Stay) (old new : List PlaceSum) → All (IsPlaceSum stays) old → AreApart old → stay_seconds next ≡ 1 → IsRaised old next.shown 1 new →
     All (IsPlaceTally stays next) new
 begins_again stays next old new are apart one raised =
-    let v : PlaceSum = record { place = next.place; times = raised.before.times + 1; seconds = raised.before.seconds + 1 } in
+    let v : PlaceSum = record { place = next.shown; times = raised.before.times + 1; seconds = raised.before.seconds + 1 } in
     let at = raised.at in
     let before : IsPlaceSum stays raised.before = subst (IsPlaceSum stays) (raised.is v) (are at v raised.inside) in
     let set_is : All (IsPlaceTally stays next) (set old at v) = split_set old at v (IsPlaceTally stays next) raised.inside
@@ -189,22 +189,22 @@ begins_again stays next old new are apart one raised =
     subst (All (IsPlaceTally stays next)) (sym raised.new_is) set_is
 
 -- no stay was at a place without sums
-none_there : (stays : List Stay) (x : StagePlace) (old : List PlaceSum) → All (λ s. HasPlace old s.place) stays → All (λ p. p.place ≡ x → ⊥) old → All (λ s. s.place ≡ x → ⊥) stays
+none_there : (stays : List Stay) (x : StagePlace) (old : List PlaceSum) → All (λ s. HasPlace old s.shown) stays → All (λ p. p.place ≡ x → ⊥) old → All (λ s. s.shown ≡ x → ⊥) stays
 none_there stays x old covered none i d lt bad =
     let has = covered i d lt in
     let e : PlaceSum = record { place = x; times = 0; seconds = 0 } in
     none has.0 e has.1.0 (has.1.1 e ∙ bad)
 
-pub begins_first : (stays : List Stay) (next : Stay) (old new : List PlaceSum) → All (IsPlaceSum stays) old → All (λ s. HasPlace old s.place) stays → stay_seconds next ≡ 1 → IsFirst old next.place new →
+pub begins_first : (stays : List Stay) (next : Stay) (old new : List PlaceSum) → All (IsPlaceSum stays) old → All (λ s. HasPlace old s.shown) stays → stay_seconds next ≡ 1 → IsFirst old next.shown new →
     All (IsPlaceTally stays next) new
 begins_first stays next old new are covered one is =
-    let v : PlaceSum = record { place = next.place; times = 1; seconds = 1 } in
+    let v : PlaceSum = record { place = next.shown; times = 1; seconds = 1 } in
     let first : IsPlaceTally stays next v = record {
       own = [];
       others = stays;
       split = IsPermutation-refl stays;
-      at_place = all_none (λ s. s.place ≡ next.place);
-      elsewhere = none_there stays next.place old covered is.other;
+      at_place = all_none (λ s. s.shown ≡ next.shown);
+      elsewhere = none_there stays next.shown old covered is.other;
       tally = inl (refl, (omega arith, omega (arith, one)));
     } in
     subst (All (IsPlaceTally stays next)) (sym is.new_is)

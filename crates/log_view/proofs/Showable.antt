@@ -1,17 +1,15 @@
 -- What is drawn of records that lines say can be shown.
 use Rattle.std.proofs.Common.{◌≡◌, ℕ, suc, zero, ◌+◌, ◌-◌, ◌*◌, ◌<◌, ◌≤◌, List, [], ◌∷◌, length, get_or, take, drop, map, Option, None, Some, refl, arith, inl, inr, ne_eqb, length-append}
 use Rattle.std.specs.List.{All, flat_map}
-use Rattle.std.proofs.lemmas.Bool.{cases_eq, cases_lt}
+use Rattle.std.proofs.lemmas.Bool.{cases_eq}
 use Rattle.std.proofs.lemmas.List.{length-map, length-take}
 use Rattle.std.proofs.lemmas.List.Elements.{All-append, All-map}
 use Rattle.sig_types.specs.declared.record.Record.{Record}
 use Rattle.sig_types.specs.declared.refused.Fault.{Fault}
 use Rattle.sig_types.specs.declared.refused.StageRefusal.{StageRefusal}
 use Rattle.sig_types.specs.declared.refused.TurnRefusal.{TurnRefusal}
-use Rattle.log_chart.specs.declared.stay.Stay.{Stay}
-use Rattle.log_chart.specs.Stays.{AreStays}
-use Rattle.sig_types.specs.declared.numbers.StagePlace.{StagePlace}
-use Rattle.sig_types.specs.declared.numbers.StagePlace.TheVariants.{NoPlan}
+use Rattle.log_chart.specs.Spans.{AreSpans}
+use Rattle.log_chart.proofs.Tells.{row_is_short}
 use Rattle.log_svg.specs.declared.diagram.Diagram.{Diagram}
 use Rattle.log_svg.specs.declared.layout.Layout.{Layout}
 use Rattle.log_svg.specs.declared.marks.RefusalMark.{RefusalMark}
@@ -47,25 +45,6 @@ added_most f most (r ∷ rs) each =
     let first = each 0 r (omega arith) in
     let rest = added_most f most rs (λ i d lt. each (suc i) d (omega arith)) in
     omega (arith, first, rest, length-append (f r) (flat_map f rs))
-
--- the stays of a chart are at most as many as its seconds
-stays_apart : (a : ℕ → StagePlace) (from past : ℕ) (stays : List Stay) → AreStays a from past stays → (d : Stay) (i : ℕ) → i < length stays → from + i ≤ (get_or stays i d).first.0
-stays_apart a from past stays are d zero lt = omega (arith, (are.each 0 d lt).begin)
-stays_apart a from past stays are d (suc i) lt =
-    let before = stays_apart a from past stays are d i (omega arith) in
-    let order = (are.each i d (omega arith)).order in
-    let apart = are.rises i (suc i) d (omega arith) lt in
-    omega (arith, before, order, apart)
-
-few_stays : (a : ℕ → StagePlace) (from past : ℕ) (stays : List Stay) → AreStays a from past stays → (d : Stay) → length stays ≤ past - from
-few_stays a from past stays are d = elim (cases_lt 0 (length stays)) [
-  | inl some ↦ (
-      let inside : length stays - 1 < length stays = omega arith in
-      let last = stays_apart a from past stays are d (length stays - 1) inside in
-      let each = are.each (length stays - 1) d inside in
-      omega (arith, last, each.order, each.end))
-  | inr none ↦ omega arith
-]
 
 -- a record of the window, by its second
 pub record IsRangedIn (n from to : ℕ) (r : Record) : Type 0 where
@@ -182,7 +161,7 @@ showable names records window d is few said long drawn =
     let past : d.chart.past ≡ to + 1 = omega (arith, drawn.past_is, long, is.order) in
     let inside = window_ranged names records from to is.least is.order said in
     let seconds = window_most records from to in
-    let stays : AreStays (places_of records) from (to + 1) d.stays.items = rw past at (drawn.stays (places_of records) (λ t le. refl)) in
+    let stays : AreSpans (places_of records) from (to + 1) d.stays.items = rw past at (drawn.stays (places_of records) (λ t le. refl)) in
     rw (drawn.names_are, drawn.from_is, drawn.to_is, drawn.fronts, drawn.refusals, drawn.faults) record {
       order = is.order;
       hour = is.hour;
@@ -191,7 +170,7 @@ showable names records window d is few said long drawn =
       history = history_of (length names) records;
       chart = rw past at (drawn.chart (history_of (length names) records) (λ t le. refl));
       stays = λ i s lt. let each = stays.each i s lt in record { begin = each.begin; order = each.order; end = omega (arith, each.end) };
-      few_stays = omega (arith, few_stays (places_of records) from (to + 1) d.stays.items stays (record { place = NoPlan; first = record { 0 = 0 }; last = record { 0 = 0 } }), is.hour);
+      few_stays = (let short = row_is_short (places_of records) from (to + 1) d.stays.items (omega (arith, is.order)) stays in omega (arith, short, is.hour));
       fronts = all_added (IsFrontIn layout) fronts_in (window_in from to records) (λ i r lt. let each = inside i r lt in
           fronts_ok layout (get_or (window_in from to records) i r).second.0 1 (get_or (window_in from to records) i r).frame each.begin each.end (omega arith) (omega (arith, each.frame)));
       few_fronts = omega (arith, added_most fronts_in 64 (window_in from to records) (λ i r lt. omega (arith, fronts_most (get_or (window_in from to records) i r).second.0 1 (get_or (window_in from to records) i r).frame, (inside i r lt).frame)), seconds, is.hour);

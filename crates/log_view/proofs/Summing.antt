@@ -11,9 +11,9 @@ use Rattle.sig_types.specs.declared.record.Record.{Record}
 use Rattle.sig_types.specs.declared.refused.Fault.{Fault}
 use Rattle.sig_types.specs.declared.refused.StageRefusal.{StageRefusal}
 use Rattle.sig_types.specs.declared.refused.TurnRefusal.{TurnRefusal}
-use Rattle.log_chart.specs.declared.stay.Stay.{Stay}
-use Rattle.log_chart.specs.Stays.{AreStays}
-use Rattle.log_chart.proofs.StayRows.{none_yet}
+use Rattle.log_chart.specs.Spans.{AreSpans}
+use Rattle.log_chart.specs.Stays.{Stay}
+use Rattle.log_chart.proofs.Rows.{none_yet}
 use Rattle.log_records.specs.declared.records.LogRecords.{LogRecords}
 use Rattle.log_records.specs.declared.refusal.LogStop.{LogStop}
 use Rattle.log_records.specs.declared.refusal.LogStop.TheVariants as log
@@ -99,13 +99,13 @@ sum_next told name old new s t named names given next said take summed =
 
 -- the stays of a whole run, none of which lacks its sums
 run_stays : (records : List Record) (at : StagePlace) (places : List PlaceSum) → IsRunSummed records at places →
-    (stays : List Stay) × (AreStays (places_of records) 1 (length records + 1) stays × (All (IsPlaceSum stays) places
-    × All (λ s. HasPlace places s.place) stays))
+    (stays : List Stay) × (AreSpans (places_of records) 1 (length records + 1) stays × (All (IsPlaceSum stays) places
+    × All (λ s. HasPlace places s.shown) stays))
 run_stays records at places (inl none) = rw (none.0, none.1)
     ([], (none_yet (places_of []) 1, ((λ i d lt. absurd (omega (arith, lt))), (λ i d lt. absurd (omega (arith, lt))))))
 run_stays records at places (inr run) =
     let sums : All (IsPlaceSum (run.closed ++ run.last ∷ [])) places = λ i d lt. closed_sum run.closed run.last (get_or places i d) (run.sums i d lt) in
-    let covered = all_behind (λ s. HasPlace places s.place) run.closed run.last run.covered run.covers in
+    let covered = all_behind (λ s. HasPlace places s.shown) run.closed run.last run.covered run.covers in
     (run.closed ++ run.last ∷ [], (run.stays (places_of records) (λ t le. refl), (sums, covered)))
 
 pub summed : (names : List (List ℕ)) (records : List Record) (s : Sums) → AddsUp names records s → IsSummed names records s

@@ -7,9 +7,9 @@ use Rattle.sig_types.specs.declared.record.Record.{Record}
 use Rattle.sig_types.specs.Counts.{count_in, fronts}
 use Rattle.sig_types.specs.Turns.{History, trace}
 use Rattle.log_chart.specs.declared.past.GroupPast.{GroupPast}
-use Rattle.log_chart.specs.declared.stay.Stay.{Stay}
 use Rattle.log_chart.specs.Past.{StandsFor}
-use Rattle.log_chart.specs.Stays.{AreStays}
+use Rattle.log_chart.specs.Spans.{AreSpans}
+use Rattle.log_chart.specs.Stays.{Stay}
 use Rattle.log_view.specs.declared.sums.PlaceSum.{PlaceSum}
 use Rattle.log_view.specs.declared.sums.Sums.{Sums}
 use Rattle.log_view.specs.Drawn.{IsAtTo, ShowsTo}
@@ -43,24 +43,24 @@ pub record IsPlaceTally (closed : List Stay) (last : Stay) (p : PlaceSum) : Type
   pub own : List Stay
   pub others : List Stay
   pub split : IsPermutation closed (own ++ others)
-  pub at_place : All (λ s. s.place ≡ p.place) own
-  pub elsewhere : All (λ s. s.place ≡ p.place → ⊥) others
+  pub at_place : All (λ s. s.shown ≡ p.place) own
+  pub elsewhere : All (λ s. s.shown ≡ p.place → ⊥) others
   pub tally :
-      ((last.place ≡ p.place) × ((p.times ≡ length own + 1) × (p.seconds ≡ sum_by stay_seconds own + stay_seconds last)))
-      ⊎ ((last.place ≡ p.place → ⊥) × ((p.times ≡ length own) × (p.seconds ≡ sum_by stay_seconds own)))
+      ((last.shown ≡ p.place) × ((p.times ≡ length own + 1) × (p.seconds ≡ sum_by stay_seconds own + stay_seconds last)))
+      ⊎ ((last.shown ≡ p.place → ⊥) × ((p.times ≡ length own) × (p.seconds ≡ sum_by stay_seconds own)))
 
 -- the sums of the places that a run was at, of which the last stay may go on
 pub record IsRun (records : List Record) (at : StagePlace) (places : List PlaceSum) : Type 0 where
   pub closed : List Stay
   pub last : Stay
-  pub stays : (a : ℕ → StagePlace) → IsAtTo a (places_of records) (length records) → AreStays a 1 (length records + 1) (closed ++ last ∷ [])
-  pub here : last.place ≡ at
+  pub stays : (a : ℕ → StagePlace) → IsAtTo a (places_of records) (length records) → AreSpans a 1 (length records + 1) (closed ++ last ∷ [])
+  pub here : last.shown ≡ at
   pub begun : last.first.0 ≤ length records
   pub ends : last.last.0 ≡ length records
   pub some : 1 ≤ length records
   pub sums : All (IsPlaceTally closed last) places
-  pub covered : All (λ s. HasPlace places s.place) closed
-  pub covers : HasPlace places last.place
+  pub covered : All (λ s. HasPlace places s.shown) closed
+  pub covers : HasPlace places last.shown
 
 -- the sums of the places that a run was at
 abbrev pub IsRunSummed : List Record → StagePlace → List PlaceSum → Type 0

@@ -4,8 +4,7 @@ use Rattle.std.specs.List.{flat_map}
 use Rattle.sig_types.specs.declared.numbers.StagePlace.{StagePlace}
 use Rattle.sig_types.specs.declared.record.Record.{Record}
 use Rattle.sig_types.specs.Turns.{History}
-use Rattle.log_chart.specs.Spans.{IsChart}
-use Rattle.log_chart.specs.Stays.{AreStays}
+use Rattle.log_chart.specs.Spans.{AreSpans, IsChart}
 use Rattle.log_records.specs.Records.{IsEntry}
 use Rattle.log_svg.specs.declared.diagram.Diagram.{Diagram}
 use Rattle.log_view.specs.Gathered.{faults_in, fronts_in, history_of, places_of, refusals_in, window_in}
@@ -36,7 +35,7 @@ pub record IsDrawn (names : List (List ℕ)) (records : List Record) (from to : 
   pub past_is : d.chart.past ≡ past_of from to (length records)
   pub chart : (h : History) → ShowsTo h (history_of (length names) records) (length records) →
       IsChart h (length names) from d.chart.past d.chart.rows
-  pub stays : (a : ℕ → StagePlace) → IsAtTo a (places_of records) (length records) → AreStays a from d.chart.past d.stays.items
+  pub stays : (a : ℕ → StagePlace) → IsAtTo a (places_of records) (length records) → AreSpans a from d.chart.past d.stays.items
   pub fronts : d.fronts.items ≡ flat_map fronts_in (window_in from to records)
   pub refusals : d.refusals.items ≡ flat_map refusals_in (window_in from to records)
   pub faults : d.faults.items ≡ flat_map faults_in (window_in from to records)

@@ -9,8 +9,8 @@ use Rattle.sig_types.specs.declared.refused.Fault.{Fault}
 use Rattle.sig_types.specs.declared.refused.StageRefusal.{StageRefusal}
 use Rattle.sig_types.specs.declared.refused.TurnRefusal.{TurnRefusal}
 use Rattle.sig_types.specs.Turns.{History}
-use Rattle.log_chart.specs.Spans.{IsChart}
-use Rattle.log_chart.specs.Stays.{AreStays, without_second}
+use Rattle.log_chart.specs.Spans.{AreSpans, IsChart}
+use Rattle.log_chart.specs.Stays.{without_second}
 use Rattle.log_svg.specs.declared.fronts.FrontMark.{FrontMark}
 use Rattle.log_svg.specs.declared.marks.FaultMark.{FaultMark}
 use Rattle.log_svg.specs.declared.marks.Refused.TheVariants.{Command, Turn}
@@ -69,7 +69,7 @@ pub record IsGathered (names : List (List ℕ)) (records : List Record) (from to
   pub from_is : s.from ≡ from
   pub to_is : s.to ≡ to
   pub chart : IsChart (history_of (length names) records) (length names) from (to + 1) s.rows
-  pub stays : AreStays (places_of records) from (to + 1) s.stays
+  pub stays : AreSpans (places_of records) from (to + 1) s.stays
   pub fronts : s.fronts ≡ flat_map fronts_in (window_in from to records)
   pub refusals : s.refusals ≡ flat_map refusals_in (window_in from to records)
   pub faults : s.faults ≡ flat_map faults_in (window_in from to records)

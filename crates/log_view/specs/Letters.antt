@@ -8,7 +8,7 @@ use Rattle.sig_types.specs.declared.numbers.GroupNo.{GroupNo}
 use Rattle.sig_types.specs.declared.numbers.StagePlace.{StagePlace}
 use Rattle.sig_types.specs.declared.numbers.StagePlace.TheVariants.{NoPlan, Stage, Inter}
 use Rattle.log_chart.specs.declared.span.Span.{Span}
-use Rattle.log_chart.specs.declared.stay.Stay.{Stay}
+use Rattle.log_chart.specs.Stays.{Stay}
 use Rattle.log_svg.specs.declared.fronts.FrontMark.{FrontMark}
 use Rattle.log_svg.specs.declared.marks.FaultMark.{FaultMark}
 use Rattle.log_svg.specs.declared.marks.Refused.{Refused}
@@ -100,7 +100,7 @@ stay_cells place seconds =
 -- the seconds of a stay that are in the block
 unfoldable pub stay_text : Block → Stay → List ℕ
 stay_text block s =
-    if seconds_in block s.first.0 s.last.0 == 0 then [] else stay_cells s.place (seconds_in block s.first.0 s.last.0)
+    if seconds_in block s.first.0 s.last.0 == 0 then [] else stay_cells s.shown (seconds_in block s.first.0 s.last.0)
 
 -- the row of the stages and interstages of a block's seconds
 unfoldable pub band_row : Block → List Stay → List ℕ
@@ -116,11 +116,11 @@ letter_of Green = 35
 letter_of Amber = 92
 
 -- the seconds of a span that are in the block
-abbrev pub span_text : Block → Span → List ℕ
-span_text block s = replicate (seconds_in block s.first.0 s.last.0) (letter_of s.aspect)
+abbrev pub span_text : Block → Span Aspect → List ℕ
+span_text block s = replicate (seconds_in block s.first.0 s.last.0) (letter_of s.shown)
 
 -- the row of a group: its name and what it shows in a block's seconds
-unfoldable pub group_row : Block → List ℕ → List Span → List ℕ
+unfoldable pub group_row : Block → List ℕ → List (Span Aspect) → List ℕ
 group_row block name spans = name_text block.margin name ++ flat_map (span_text block) spans ++ codes "\n"
 
 -- ---- the rows of marks

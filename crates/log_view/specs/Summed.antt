@@ -8,9 +8,9 @@ use Rattle.sig_types.specs.declared.refused.Fault.{Fault}
 use Rattle.sig_types.specs.Counts.{count_in, fronts}
 use Rattle.sig_types.specs.Turns.{trace}
 use Rattle.log_chart.specs.declared.past.GroupPast.{GroupPast}
-use Rattle.log_chart.specs.declared.stay.Stay.{Stay}
 use Rattle.log_chart.specs.Past.{StandsFor}
-use Rattle.log_chart.specs.Stays.{AreStays}
+use Rattle.log_chart.specs.Spans.{AreSpans}
+use Rattle.log_chart.specs.Stays.{Stay}
 use Rattle.log_svg.specs.declared.marks.Refused.{Refused}
 use Rattle.log_svg.specs.declared.marks.Refused.TheVariants.{Command, Turn}
 use Rattle.log_svg.specs.Marks.{IsRefused}
@@ -45,8 +45,8 @@ pub record IsPlaceSum (stays : List Stay) (p : PlaceSum) : Type 0 where
   pub own : List Stay
   pub others : List Stay
   pub split : IsPermutation stays (own ++ others)
-  pub at_place : All (λ s. s.place ≡ p.place) own
-  pub elsewhere : All (λ s. s.place ≡ p.place → ⊥) others
+  pub at_place : All (λ s. s.shown ≡ p.place) own
+  pub elsewhere : All (λ s. s.shown ≡ p.place → ⊥) others
   pub times : p.times ≡ length own
   pub seconds : p.seconds ≡ sum_by stay_seconds own
 
@@ -74,9 +74,9 @@ pub record IsSummed (names : List (List ℕ)) (records : List Record) (s : Sums)
   pub groups : (g : ℕ) (d : GroupPast) → g < length names → 1 ≤ length records →
       StandsFor (slice_index_or s.groups g d) (trace (history_of (length names) records) g) 1
   pub stays : List Stay
-  pub stays_are : AreStays (places_of records) 1 (length records + 1) stays
+  pub stays_are : AreSpans (places_of records) 1 (length records + 1) stays
   pub places : All (IsPlaceSum stays) s.places.items
-  pub covered : All (λ stay. HasPlace s.places.items stay.place) stays
+  pub covered : All (λ stay. HasPlace s.places.items stay.shown) stays
   pub apart : AreApart s.places.items
   pub refusals : AreTallies (flat_map refused_in records) (refusal_tallies s.refusals.items)
   pub faults : AreTallies (flat_map (λ r. fault_items r.fault) records) (fault_tallies s.faults.items)

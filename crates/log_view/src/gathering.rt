@@ -6,7 +6,8 @@ ghost use Rattle.sig_types.specs.declared.numbers.StagePlace.{StagePlace};
 ghost use Rattle.sig_types.specs.declared.record.Record.{Record};
 ghost use Rattle.sig_types.specs.Turns.{History};
 ghost use Rattle.log_chart.specs.Spans.{IsChart};
-ghost use Rattle.log_chart.specs.Stays.{AreStays, without_second};
+ghost use Rattle.log_chart.specs.Spans.{AreSpans};
+ghost use Rattle.log_chart.specs.Stays.{without_second};
 ghost use Rattle.log_svg.specs.Diagram.{IsShowable};
 ghost use Rattle.log_svg.specs.ShownIn.{shown_in};
 ghost use Rattle.log_view.specs.declared.form.Window.{Window};
@@ -157,8 +158,8 @@ fn add_second(diagram: &mut Diagram, rec: &Record) -> Result<(), Memory>
     ensures chart_from { diagram.new.chart.from ≡ diagram.old.chart.from }
     ensures rows { length diagram.new.chart.rows ≡ length diagram.old.chart.rows }
     ensures stays { OnOk result ((a : ℕ → StagePlace) (from : ℕ) → from ≤ rec.now.second.0 →
-        a rec.now.second.0 ≡ without_second rec.now.place → AreStays a from rec.now.second.0 diagram.old.stays.items →
-        AreStays a from (rec.now.second.0 + 1) diagram.new.stays.items) }
+        a rec.now.second.0 ≡ without_second rec.now.place → AreSpans a from rec.now.second.0 diagram.old.stays.items →
+        AreSpans a from (rec.now.second.0 + 1) diagram.new.stays.items) }
     ensures fronts { OnOk result (diagram.new.fronts.items ≡ diagram.old.fronts.items ++ fronts_in rec.now) }
     ensures refusals { OnOk result (diagram.new.refusals.items ≡ diagram.old.refusals.items ++ refusals_in rec.now) }
     ensures faults { OnOk result (diagram.new.faults.items ≡ diagram.old.faults.items ++ faults_in rec.now) }

@@ -7,7 +7,7 @@ ghost use Rattle.log_svg.specs.ShownIn.{shown_in};
 ghost use Rattle.log_view.specs.Letters.{IsBlock, band_row, block_at, block_head, block_rows, block_text, detector_word, empty_row, faults_row, filler_of, free_after, front_letter, fronts_row, fronts_rows, group_row, group_rows, groups_rows, is_numbered, is_of, letter_of, letters_in, letters_text, margin_of, marks_text, name_text, number_cell, numbers_row, refusals_row, seconds_in, span_text, stay_cells, stay_text, tick_of, ticks_row, with_front, with_letter, with_refusal};
 
 use itoa::Buffer;
-use log_chart::{Span, Stay};
+use log_chart::Span;
 use log_svg::{Diagram, FaultMark, FrontMark, RefusalMark, Refused, put_place};
 use sig_io::{Draft, Sink};
 use sig_types::{Aspect, GroupNo, ShortName, StagePlace};
@@ -208,7 +208,7 @@ fn put_cells<O: Sink>(draft: &mut Draft, sink: &mut O, place: StagePlace, second
 
 // Puts the seconds of a stay that are in the block.
 #[tactic(auto, unfolding(crate::specs::Letters::stay_text))]
-fn put_stay<O: Sink>(draft: &mut Draft, sink: &mut O, block: Block, stay: &Stay)
+fn put_stay<O: Sink>(draft: &mut Draft, sink: &mut O, block: Block, stay: &Span<StagePlace>)
     requires block { IsBlock block }
     requires room { draft.old.gone < 2 ^ 58 }
     ensures text { (start : Option (List ℕ)) (text : List ℕ) → IsDraft start (O.taken sink.old) draft.old text →
@@ -218,12 +218,12 @@ fn put_stay<O: Sink>(draft: &mut Draft, sink: &mut O, block: Block, stay: &Stay)
 {
     let seconds = seconds_in(block, stay.first.0, stay.last.0);
     if seconds > 0 {
-        put_cells(draft, sink, stay.place, seconds);
+        put_cells(draft, sink, stay.shown, seconds);
     }
 }
 
 // Puts the stages.
-fn put_band<O: Sink>(draft: &mut Draft, sink: &mut O, block: Block, stays: &[Stay])
+fn put_band<O: Sink>(draft: &mut Draft, sink: &mut O, block: Block, stays: &[Span<StagePlace>])
     requires block { IsBlock block }
     requires few { length stays.now ≤ 3600 }
     requires room { draft.old.gone < 2 ^ 57 }
@@ -252,7 +252,7 @@ fn letter_of(aspect: Aspect) -> u8
 }
 
 // Puts the seconds of a span that are in the block.
-fn put_span<O: Sink>(draft: &mut Draft, sink: &mut O, block: Block, span: &Span)
+fn put_span<O: Sink>(draft: &mut Draft, sink: &mut O, block: Block, span: &Span<Aspect>)
     requires block { IsBlock block }
     requires room { draft.old.gone < 2 ^ 58 }
     ensures text { (start : Option (List ℕ)) (text : List ℕ) → IsDraft start (O.taken sink.old) draft.old text →
@@ -261,11 +261,17 @@ fn put_span<O: Sink>(draft: &mut Draft, sink: &mut O, block: Block, span: &Span)
     ensures cause { FailsOnly (O.faults sink.old) (O.faults sink.new) draft.old.failed draft.new.failed }
 {
     let seconds = seconds_in(block, span.first.0, span.last.0);
-    put_times(draft, sink, letter_of(span.aspect), seconds);
+    put_times(draft, sink, letter_of(span.shown), seconds);
 }
 
 // Puts the spans of a group.
-fn put_row<O: Sink>(draft: &mut Draft, sink: &mut O, block: Block, name: &[u8], spans: &[Span])
+fn put_row<O: Sink>(
+    draft: &mut Draft,
+    sink: &mut O,
+    block: Block,
+    name: &[u8],
+    spans: &[Span<Aspect>],
+)
     requires block { IsBlock block }
     requires name { length name.now ≤ 32 }
     requires few { length spans.now ≤ 3600 }

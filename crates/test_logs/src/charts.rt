@@ -1,15 +1,14 @@
 // The spans of nine seconds.
 use log_chart::{Span, spans_of};
 use sig_types::Aspect::{Amber, Green, Red, RedAmber};
-use sig_types::{Aspect, GroupNo, Second};
+use sig_types::{Aspect, Second};
 use std::test::Fail;
 
 const SHOWN: [Aspect; 9] = [Red, Red, RedAmber, Green, Green, Green, Amber, Amber, Red];
 
-fn span(aspect: Aspect, first: u32, last: u32) -> Span {
+fn span(shown: Aspect, first: u32, last: u32) -> Span<Aspect> {
     Span {
-        group: GroupNo(3),
-        aspect,
+        shown,
         first: Second(first),
         last: Second(last),
     }
@@ -17,7 +16,7 @@ fn span(aspect: Aspect, first: u32, last: u32) -> Span {
 
 #[test]
 fn spans_of_nine_seconds(rt: HostRuntime) -> Result<(), Fail> {
-    let spans = spans_of(rt.alloc(), GroupNo(3), Second(10), SHOWN.as_slice())?;
+    let spans = spans_of(rt.alloc(), Second(10), SHOWN.as_slice())?;
     let want = [
         span(Red, 10, 11),
         span(RedAmber, 12, 12),

@@ -10,7 +10,7 @@ pub put_row-requires-clause-few : goal.put_row-requires-clause-few
 put_row-requires-clause-few g c =
     let is = c.requires.diagram in
     let row = is.chart.row c.args.place c.requires.place in
-    let short = row_is_short c.args.place (trace is.history c.args.place) c.args.diagram.now.from (c.args.diagram.now.to + 1) _ (omega (arith, is.order)) row in
+    let short = row_is_short (trace is.history c.args.place) c.args.diagram.now.from (c.args.diagram.now.to + 1) _ (omega (arith, is.order)) row in
     omega (arith, short, is.hour, ap length c.row.ensures)
 
 pub returns-clause-text : goal.returns-clause-text
