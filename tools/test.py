@@ -157,7 +157,7 @@ class Sentences(unittest.TestCase):
                 yield word, of, *(re.sub(r"\[([^]]*)\]\([^)]*\)", r"\1", sentence) for sentence in sentences)
 
     def test_each_has_its_row(self):
-        text = (HERE.parent / "crates" / "site_check" / "src" / "sentences.rt").read_text(encoding="utf-8")
+        text = (HERE.parent / "crates" / "site_findings" / "src" / "sentences.rt").read_text(encoding="utf-8")
         string = r'"((?:[^"\\]|\\.)*)"'
         told = set()
         for part in re.split(r"pub\(crate\) fn ", text)[1:]:

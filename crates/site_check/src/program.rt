@@ -1,13 +1,25 @@
-// The program: its first refusal, or the checked tree with its tokens.
-ghost use Rattle.std.specs.Prelude.{◌≤◌, ℕ, All, IfOk, length};
+// The program, judged: its first refusal, or the checked tree with its tokens.
+ghost use Rattle.std.specs.Prelude.{◌≡◌, ◌≤◌, ℕ, List, All, IfOk, IfErr, length};
 ghost use Rattle.vap_ast.specs.Parsed.{Parsed, IsLine};
 ghost use Rattle.vap_ast.specs.Tree.{program_of};
+ghost use Rattle.vap_check.specs.Accepted.{Accepted};
+ghost use Rattle.vap_check.specs.Numbers.{checked_of};
+ghost use Rattle.vap_check.specs.Readings.{with_readings};
 ghost use Rattle.vap_lex.specs.Kept.{HasLine};
+ghost use Rattle.vap_lex.specs.Tokens.{HasTokens};
+ghost use Rattle.vap_lex.specs.declared.token.Token.{Token};
+ghost use Rattle.vap_parse.specs.Grammar.{Accepts};
+ghost use Rattle.site_check.specs.Judged.{IsCheckedText, IsProgramOf, IsStoppedAt, JudgedBy, text_in};
+ghost use Rattle.site_check.specs.Spots.{parse_spot};
+ghost use Rattle.site_check.specs.Readings.{IsWithin};
 
 use crate::places::spot_at;
+use crate::reading::Reading;
+use crate::site::text_of;
+use crate::untaken::Untaken;
 use pua_lines::Spot;
 use site_findings::Refusal;
-use std::alloc::Global;
+use std::alloc::{AllocError, Global};
 use vap_ast::Program;
 use vap_check::{CheckRefusal, Checked, check};
 use vap_lex::{LexRefusal, Tokens, tokens};
@@ -29,7 +41,9 @@ pub(crate) enum ProgramStop {
 
 fn judge_tokens(alloc: Global, text: &[u8]) -> Result<Tokens, ProgramStop>
     requires { length text.now ≤ 1048576 }
+    ensures tokens { IfOk result (λ ts. HasTokens text.now ts) }
     ensures lines { IfOk result (λ ts. All (λ t. HasLine (length text.now) t) ts) }
+    ensures refused { IfErr result (IsStoppedAt text.now) }
 {
     match tokens(alloc, text) {
         Ok(tokens) => Ok(tokens),
@@ -41,7 +55,9 @@ fn judge_tokens(alloc: Global, text: &[u8]) -> Result<Tokens, ProgramStop>
 }
 
 // Where tokens are refused.
-fn refused_spot(text: &[u8], line: u32, why: ParseWhy) -> Spot {
+fn refused_spot(text: &[u8], line: u32, why: ParseWhy) -> Spot
+    ensures { result ≡ parse_spot text.now line why }
+{
     match why {
         ParseWhy::Unexpected(place) => spot_at(text, place, line),
         ParseWhy::Frequency | ParseWhy::TooDeep => Spot::line(line),
@@ -49,7 +65,10 @@ fn refused_spot(text: &[u8], line: u32, why: ParseWhy) -> Spot {
 }
 
 fn judge_tree(alloc: Global, text: &[u8], tokens: &Tokens) -> Result<Program, ProgramStop>
+    requires { HasTokens text.now tokens.now }
+    ensures tree { IfOk result (λ p. Accepts tokens.now (program_of p)) }
     ensures parsed { (most : ℕ) → All (λ t. IsLine most t.line) tokens.now → IfOk result (λ p. Parsed most (program_of p)) }
+    ensures refused { IfErr result (IsStoppedAt text.now) }
 {
     match parse(alloc, tokens) {
         Ok(program) => Ok(program),
@@ -63,6 +82,10 @@ fn judge_tree(alloc: Global, text: &[u8], tokens: &Tokens) -> Result<Program, Pr
 
 fn check_tree(alloc: Global, program: Program) -> Result<Checked, ProgramStop>
     requires { Parsed 1048577 (program_of program) }
+    ensures tree { IfOk result (λ c. program_of c.tree ≡ with_readings (program_of program)) }
+    ensures accepted { IfOk result (λ c. Accepted (program_of c.tree) × (c ≡ checked_of c.tree)) }
+    ensures refused { (text : List ℕ) (tokens : List Token) → HasTokens text tokens → Accepts tokens (program_of program) →
+        IfErr result (IsStoppedAt text) }
 {
     match check(alloc, program) {
         Ok(checked) => Ok(checked),
@@ -73,9 +96,11 @@ fn check_tree(alloc: Global, program: Program) -> Result<Checked, ProgramStop>
     }
 }
 
-/// Judges the text of a program, as `junction` does.
-pub(crate) fn judge_program(alloc: Global, text: &[u8]) -> Result<Judged, ProgramStop>
+// Judges the text of a program: its tokens, their tree, its readings of the cycle, and the checks.
+fn judge_text(alloc: Global, text: &[u8]) -> Result<Judged, ProgramStop>
     requires { length text.now ≤ 1048576 }
+    ensures accepted { IfOk result (λ judged. IsCheckedText text.now judged.checked) }
+    ensures refused { IfErr result (IsStoppedAt text.now) }
 {
     let tokens = match judge_tokens(alloc, text) {
         Ok(tokens) => tokens,
@@ -88,5 +113,24 @@ pub(crate) fn judge_program(alloc: Global, text: &[u8]) -> Result<Judged, Progra
     match check_tree(alloc, program) {
         Ok(checked) => Ok(Judged { tokens, checked }),
         Err(stop) => Err(stop),
+    }
+}
+
+/// Judges the program.
+pub(crate) fn judge_program(
+    alloc: Global,
+    reading: &Reading,
+) -> Result<Result<Judged, Untaken>, AllocError>
+    requires { IsWithin reading.now }
+    ensures { IfOk result (JudgedBy IsProgramOf (text_in reading.now)) }
+{
+    let text = match text_of(reading) {
+        Ok(text) => text,
+        Err(why) => return Ok(Err(why)),
+    };
+    match judge_text(alloc, text) {
+        Ok(judged) => Ok(Ok(judged)),
+        Err(ProgramStop::Memory) => Err(AllocError),
+        Err(ProgramStop::At(spot, refusal)) => Ok(Err(Untaken::Refused(spot, refusal))),
     }
 }

@@ -1,35 +1,19 @@
 // The top call.
-use crate::form::{Asked, form_of};
+ghost use Rattle.std.specs.Prelude.{◌≡◌, Err, IfOk, IfErr, OnErr};
+ghost use Rattle.std.specs.Option.{ForSome};
+ghost use Rattle.sig_io.specs.Outside.{Rose};
+ghost use Rattle.site_check.specs.Call.{IsAnswered, IsWritten, stop_note};
+ghost use Rattle.site_check.specs.Files.{files_named};
+ghost use Rattle.std.specs.Io.KnownBytes.{append_known};
+
+use crate::form::{Form, form_of};
+use crate::status::{CheckStatus, Stop, status_of, stop_note, stopped};
 use crate::whole::examine;
 use sig_io::{Files, Sink, put_all};
-use site_findings::{Finding, SiteNames, Told, write_findings};
-use std::alloc::{AllocError, Global};
+use site_findings::{SiteNames, write_findings};
+use std::alloc::Global;
 
-/// How a call ended.
-#[derive(Clone, Copy, Debug, PartialEq, Eq)]
-pub enum CheckStatus {
-    /// Nothing was found, or the words asked for help or the version.
-    Clean = 0,
-    /// There are warnings alone.
-    Warned = 1,
-    /// A file is refused.
-    Refused = 2,
-    /// The words are no form; nothing was read.
-    Words = 3,
-    /// A file could not be read. The findings of the others are written.
-    ReadFault = 4,
-    /// Standard output could not be written.
-    WriteFault = 5,
-    /// Memory was wanted and not to be had; nothing was written.
-    Memory = 6,
-}
-
-/// The exit status.
-pub fn check_status(status: CheckStatus) -> u8 {
-    status as u8
-}
-
-const HELP: &str = "\
+const HELP: &[u8] = b"\
 junction_check PROGRAM PUA TIMES INTERGREENS [DETECTORS]
   reads the files of a junction as `junction run` would, and writes for each file its first refusal, and then warnings for what a
   run accepts and is mostly meant otherwise. docs/junction_check.md has each warning's cure, docs/reasons.md all reasons.
@@ -39,76 +23,79 @@ status: 0 nothing found, 1 warnings alone, 2 a file is refused, 3 the words are 
   5 the output could not be written, 6 out of memory
 ";
 
-const VERSION: &str = "junction_check 0.1.0\n";
+const VERSION: &[u8] = b"junction_check 0.1.0\n";
 
-// What is worse of two things that are told.
-fn worse(status: CheckStatus, told: &Told) -> CheckStatus {
-    match (status, told) {
-        (CheckStatus::ReadFault, _) | (_, Told::Unread) => CheckStatus::ReadFault,
-        (CheckStatus::Refused, _) | (_, Told::Refused(_)) | (_, Told::NotJudged) => {
-            CheckStatus::Refused
-        }
-        (_, Told::Warned(_)) => CheckStatus::Warned,
-    }
-}
-
-// The status of what is found.
-fn status_of(findings: &[Finding]) -> CheckStatus {
-    let mut status = CheckStatus::Clean;
-    for finding in findings {
-        status = worse(status, &finding.told);
-    }
-    status
-}
-
-// Writes a text, and answers this status where it is written.
-fn write<O: Sink>(out: &mut O, text: &[u8], status: CheckStatus) -> CheckStatus {
+// Writes a text.
+fn write<O: Sink>(out: &mut O, text: &[u8]) -> Result<(), Stop>
+    ensures written { IsWritten text.now result (O.taken out.old) (O.taken out.new) }
+    ensures stop { IfErr result (λ stop. stop ≡ Stop.WriteFault) }
+    ensures cause { OnErr result (Rose (O.faults out.old) (O.faults out.new)) }
+{
     match put_all(out, text) {
-        Ok(()) => status,
-        Err(_fault) => CheckStatus::WriteFault,
+        Ok(()) => Ok(()),
+        Err(_fault) => Err(Stop::WriteFault),
     }
 }
 
 // Reads the files and writes what is found.
-fn findings<F: Files, O: Sink>(
+fn write_found<F: Files, O: Sink>(
     alloc: Global,
     names: &SiteNames<'_>,
     files: &mut F,
     out: &mut O,
-) -> Result<CheckStatus, AllocError> {
-    let examined = examine(alloc, names, files)?;
-    let text = write_findings(alloc, &examined, names)?;
-    Ok(write(out, &text, status_of(&examined.findings)))
-}
-
-// The note of a status.
-fn note(status: CheckStatus) -> &'static [u8] {
-    match status {
-        CheckStatus::Clean | CheckStatus::Warned | CheckStatus::Refused | CheckStatus::ReadFault =>
-            b"",
-        CheckStatus::Words => {
-            b"junction_check: Words: junction_check PROGRAM PUA TIMES INTERGREENS [DETECTORS], or --help\n"
-        }
-        CheckStatus::WriteFault => b"junction_check: WriteFault\n",
-        CheckStatus::Memory => b"junction_check: Memory\n",
+) -> Result<CheckStatus, Stop>
+    ensures answered { ForSome (F.told files.old) (λ file.
+        IsAnswered (files_named names.now) file result (O.taken out.old) (O.taken out.new)) }
+    ensures contents_stay { F.told files.new ≡ F.told files.old }
+    ensures write { result ≡ Err Stop.WriteFault → Rose (O.faults out.old) (O.faults out.new) }
+{
+    let Ok(examined) = examine(alloc, names, files) else {
+        return Err(Stop::Memory);
+    };
+    let Ok(text) = write_findings(alloc, &examined, names) else {
+        return Err(Stop::Memory);
+    };
+    match write(out, &text) {
+        Ok(()) => Ok(status_of(&examined.findings)),
+        Err(stop) => Err(stop),
     }
 }
 
-// Does what the words ask for.
-fn answer<F: Files, O: Sink>(
+// Writes a text that no file is read for.
+fn write_known<O: Sink>(out: &mut O, text: &[u8]) -> Result<CheckStatus, Stop>
+    ensures written { IsWritten text.now result (O.taken out.old) (O.taken out.new) }
+    ensures clean { IfOk result (λ s. s ≡ CheckStatus.Clean) }
+    ensures stop { IfErr result (λ stop. stop ≡ Stop.WriteFault) }
+    ensures cause { OnErr result (Rose (O.faults out.old) (O.faults out.new)) }
+{
+    match write(out, text) {
+        Ok(()) => Ok(CheckStatus::Clean),
+        Err(stop) => Err(stop),
+    }
+}
+
+// Does what is asked for.
+fn do_form<F: Files, O: Sink>(
     alloc: Global,
-    words: &[String],
+    form: &Form<'_>,
     files: &mut F,
     out: &mut O,
-) -> CheckStatus {
-    match form_of(words) {
-        Some(Asked::Help) => write(out, HELP.as_bytes(), CheckStatus::Clean),
-        Some(Asked::Version) => write(out, VERSION.as_bytes(), CheckStatus::Clean),
-        Some(Asked::Findings(names)) => match findings(alloc, &names, files, out) {
-            Ok(status) => status,
-            Err(_memory) => CheckStatus::Memory,
-        },
-        None => CheckStatus::Words,
+) -> Result<CheckStatus, Stop> {
+    match form {
+        Form::Help => write_known(out, HELP),
+        Form::Version => write_known(out, VERSION),
+        Form::Findings(names) => write_found(alloc, names, files, out),
+    }
+}
+
+// Tells in a note why a call stopped.
+fn tell_stop<N: Sink>(notes: &mut N, stop: Stop)
+    ensures { (Rose (N.faults notes.old) (N.faults notes.new) → ⊥) →
+        N.taken notes.new ≡ append_known (N.taken notes.old) (stop_note stop) }
+{
+    match put_all(notes, stop_note(stop)) {
+        Ok(()) => {}
+        Err(_fault) => {}
     }
 }
 
@@ -122,7 +109,15 @@ pub fn check_junction<F: Files, O: Sink, N: Sink>(
     out: &mut O,
     notes: &mut N,
 ) -> CheckStatus {
-    let status = answer(alloc, words, files, out);
-    let _fault = put_all(notes, note(status));
-    status
+    let Some(form) = form_of(words) else {
+        tell_stop(notes, Stop::Words);
+        return stopped(Stop::Words);
+    };
+    match do_form(alloc, &form, files, out) {
+        Ok(status) => status,
+        Err(stop) => {
+            tell_stop(notes, stop);
+            stopped(stop)
+        }
+    }
 }

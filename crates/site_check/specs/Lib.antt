@@ -1,0 +1,10 @@
+pub mod Files
+pub mod Readings
+pub mod Spots
+pub mod Found
+pub mod Judged
+pub mod Taken
+pub mod Warned
+pub mod Examined
+pub mod Call
+pub mod Asked
