@@ -1,5 +1,6 @@
 -- Where the parts of a plan stand in its PUA file.
-use Rattle.std.specs.Prelude.{◌≡◌, ℕ, ◌+◌, ◌==◌, Bool, true, false, ◌&&◌, List, [], ◌∷◌, find, Option, Some, None, if◌then◌else◌}
+use Rattle.std.specs.Prelude.{◌≡◌, ℕ, ◌+◌, ◌==◌, Bool, true, false, ◌&&◌, if◌then◌else◌}
+use Rattle.std.specs.Prelude.{List, [], ◌∷◌, find, Option, Some, None}
 use Rattle.std.specs.List.{filter_map}
 use Rattle.std.specs.Option.{option_map, option_and_then}
 use Rattle.sig_types.specs.declared.numbers.GroupNo.{GroupNo}
@@ -82,10 +83,11 @@ group_at g = record { 0 = g }
 abbrev pub ends_name : List Text → Option Text
 ends_name ws = if same_form form.Ends (form_of ws) then Some (word ws 0) else None
 
--- the group of this name, as a part of the plan, and its ends in an interstage
+-- the group of this name, as a part of the plan
 abbrev pub group_part : PlanOf → Text → Option Part
 group_part plan name = option_map (λ g. Group (group_at g)) (group_named plan name)
 
+-- the ends of the group of this name in this interstage, as a part of the plan; interstages are numbered from 1
 abbrev pub ends_part : PlanOf → ℕ → Text → Option Part
 ends_part plan i name = option_map (λ g. Ends i (group_at g)) (group_named plan name)
 
@@ -131,18 +133,19 @@ line_spot (Some p) = first_spot p.0.number p.1
 unfoldable pub part_spot : PlanOf → Text → Part → Spot
 part_spot plan text wanted = line_spot (find (λ p. is_part wanted (line_part plan p)) (placed_lines text))
 
--- the first word of the first row of the section of stages that gives this stage, of the first row of the section of groups that
--- names this group, of the line that begins this interstage, and of the first row of this interstage that gives the ends of this
--- group; stages are numbered from 1, groups and interstages from 0
+-- the first word of the row of the section of stages that gives this stage; stages are numbered from 1
 abbrev pub stage_spot : PlanOf → Text → ℕ → Spot
 stage_spot plan text s = part_spot plan text (Stage s)
 
+-- the first word of the first row of the section of groups that names this group; groups are numbered from 0
 abbrev pub group_spot : PlanOf → Text → ℕ → Spot
 group_spot plan text g = part_spot plan text (Group (group_at g))
 
+-- the first word of the line that begins the section of this interstage; interstages are numbered from 0
 abbrev pub interstage_spot : PlanOf → Text → ℕ → Spot
 interstage_spot plan text i = part_spot plan text (Interstage (i + 1))
 
+-- the first word of the first row of this interstage that gives the ends of this group; both are numbered from 0
 abbrev pub group_spot_in : PlanOf → Text → ℕ → ℕ → Spot
 group_spot_in plan text i g = part_spot plan text (Ends (i + 1) (group_at g))
 

@@ -1,10 +1,11 @@
 // Where the parts of a plan stand in its PUA file.
-ghost use Rattle.std.specs.Prelude.{◌≡◌, ◌<◌, ◌-◌, ◌^◌, ◌++◌, length, find, IfOk, OnOk, ℕ, List};
+ghost use Rattle.std.specs.Prelude.{◌≡◌, ◌<◌, ◌-◌, ◌^◌, ◌++◌, length, find, IfOk, OnOk};
 ghost use Rattle.std.specs.Option.{option_to_list};
 ghost use Rattle.pua_model.specs.Plan.{PlanOf};
 ghost use Rattle.pua_reader.specs.Words.{Text};
 ghost use Rattle.pua_lines.specs.Kinds.{place_value};
-ghost use Rattle.pua_lines.specs.Parts.{same_part, group_part, ends_part, row_part, line_part, placed_part, found_spot, part_spot, stage_spot, group_spot, interstage_spot, group_spot_in, ArePlacesIn};
+ghost use Rattle.pua_lines.specs.Parts.{same_part, group_part, ends_part, row_part, line_part, placed_part, found_spot};
+ghost use Rattle.pua_lines.specs.Parts.{part_spot, stage_spot, group_spot, interstage_spot, group_spot_in, ArePlacesIn};
 
 use crate::ends::ends_name;
 use crate::lines::{first_line, without_mark};

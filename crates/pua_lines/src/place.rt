@@ -1,5 +1,5 @@
 // Where a line of a PUA file stands.
-ghost use Rattle.std.specs.Prelude.{◌≡◌, ◌<◌, ◌≤◌, ◌+◌, ◌^◌, ◌-◌, false, true};
+ghost use Rattle.std.specs.Prelude.{◌≡◌, ◌<◌, ◌≤◌, ◌+◌, ◌^◌, ◌-◌, false};
 ghost use Rattle.pua_reader.specs.Words.{words, kind_of};
 ghost use Rattle.pua_reader.specs.Stages.{is_stage_row};
 ghost use Rattle.pua_reader.specs.SectionRows.{section_with};
