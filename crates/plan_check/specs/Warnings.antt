@@ -1,5 +1,6 @@
 -- What a plan lacks at its site, as the list of its warnings.
-use Rattle.std.specs.Prelude.{ℕ, ◌+◌, ◌==◌, Bool, true, false, ◌||◌, List, [], ◌++◌, length, Option, None, Some, option_map, option_to_list, is_some, if◌then◌else◌}
+use Rattle.std.specs.Prelude.{ℕ, ◌+◌, ◌==◌, Bool, true, false, ◌||◌, if◌then◌else◌}
+use Rattle.std.specs.Prelude.{List, [], ◌++◌, length, Option, None, Some, option_map, option_to_list, is_some}
 use Rattle.std.specs.List.{filter_map, flat_map}
 use Rattle.sig_types.specs.Words.{tabulate, least_below}
 use Rattle.sig_types.specs.Rules.{Rules}

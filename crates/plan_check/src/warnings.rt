@@ -1,6 +1,6 @@
 // What a plan lacks, and what its interstages are worth.
 ghost use Rattle.std.specs.Prelude.{◌≡◌, ◌<◌, ◌++◌, length, option_to_list, IfOk, OnOk};
-ghost use Rattle.pua_model.specs.Plan.{HasStage, groups_in};
+ghost use Rattle.pua_model.specs.Plan.{groups_in};
 ghost use Rattle.sig_tables.specs.Pairs.{between};
 ghost use Rattle.sig_tables.specs.SiteRules.{rules_of};
 ghost use Rattle.sig_guard.specs.Stands.{rules, tables};
