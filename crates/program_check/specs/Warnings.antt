@@ -1,5 +1,6 @@
 -- What a program names and never has.
-use Rattle.std.specs.Prelude.{ℕ, ◌-◌, ◌==◌, ℤ, Bool, false, ◌&&◌, if◌then◌else◌, List, [], ◌∷◌, ◌++◌, length, Option, Some, None, is_some, map, filter, flat_map, nat_eq}
+use Rattle.std.specs.Prelude.{ℕ, ◌-◌, ◌==◌, nat_eq, ℤ, Bool, false, ◌&&◌, if◌then◌else◌}
+use Rattle.std.specs.Prelude.{List, [], ◌∷◌, ◌++◌, length, map, filter, flat_map, Option, Some, None, is_some}
 use Rattle.std.specs.List.{dedup}
 use Rattle.std.specs.Ordering.{int_eq}
 use Rattle.std.specs.Str.{bytes_eq}
@@ -20,7 +21,8 @@ use Rattle.program_check.specs.declared.calls.Named.TheVariants as named
 use Rattle.program_check.specs.declared.detectors.DetectorRead.{DetectorRead}
 use Rattle.program_check.specs.declared.reads.NameRead.{NameRead}
 use Rattle.program_check.specs.declared.warnings.ProgramWarning.{ProgramWarning}
-use Rattle.program_check.specs.declared.warnings.ProgramWarning.TheVariants.{UnassignedVariable, UnknownGroup, UnknownStage, UnknownDetector, MissingInterstage, SilentDetector}
+use Rattle.program_check.specs.declared.warnings.ProgramWarning.TheVariants.{UnassignedVariable, UnknownGroup, UnknownStage}
+use Rattle.program_check.specs.declared.warnings.ProgramWarning.TheVariants.{UnknownDetector, MissingInterstage, SilentDetector}
 use Rattle.program_check.specs.declared.warnings.Warned.{Warned}
 use Rattle.program_check.specs.Calls.{calls_of}
 use Rattle.program_check.specs.Firsts.{firsts}

@@ -3,7 +3,8 @@ ghost use Rattle.std.specs.Prelude.{◌≡◌, ◌++◌, ◌≤◌, filter, map,
 ghost use Rattle.sig_types.specs.Detectors as detectors_of;
 ghost use Rattle.program_check.specs.Firsts.{firsts, unless_seen, with_key};
 ghost use Rattle.program_check.specs.Warnings as warnings_of;
-ghost use Rattle.program_check.specs.Warnings.{told, detector_in, detector_reads, is_silent, no_detector, read_of, silent, silent_read, silent_where, unknown_detectors};
+ghost use Rattle.program_check.specs.Warnings.{told, detector_in, detector_reads, no_detector, read_of, unknown_detectors};
+ghost use Rattle.program_check.specs.Warnings.{is_silent, silent, silent_read, silent_where};
 
 use crate::calls::{Call, CallKind, Named, names};
 use crate::warnings::{Meant, ProgramWarning, Warned, warn};

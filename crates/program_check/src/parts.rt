@@ -2,7 +2,8 @@
 ghost use Rattle.std.specs.Prelude.{◌≡◌, ◌++◌, Some, map, OnOk, IfOk};
 ghost use Rattle.pua_model.specs.Plan.{stage_number};
 ghost use Rattle.pua_model.specs.Plan as plan_of;
-ghost use Rattle.program_check.specs.Warnings.{told, known_stage, missing_interstage, unknown_group, unknown_in, unknown_interstage, unknown_parts, unknown_stage, unknown_where};
+ghost use Rattle.program_check.specs.Warnings.{known_stage, missing_interstage, unknown_group, unknown_interstage, unknown_stage};
+ghost use Rattle.program_check.specs.Warnings.{told, unknown_in, unknown_parts, unknown_where};
 
 use crate::calls::{Call, Named, names};
 use crate::warnings::{Meant, ProgramWarning, Warned, warn};
