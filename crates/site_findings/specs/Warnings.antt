@@ -17,19 +17,22 @@ use Rattle.plan_check.specs.declared.warnings.PlanWarning.TheVariants.{StageWith
 use Rattle.plan_check.specs.declared.warnings.Way.{Way}
 use Rattle.plan_check.specs.declared.warnings.Way.TheVariants as way
 use Rattle.program_check.specs.declared.warnings.ProgramWarning.{ProgramWarning}
-use Rattle.program_check.specs.declared.warnings.ProgramWarning.TheVariants.{UnassignedVariable, UnknownGroup, UnknownStage, UnknownDetector, MissingInterstage, SilentDetector}
+use Rattle.program_check.specs.declared.warnings.ProgramWarning.TheVariants.{UnassignedVariable, UnknownGroup, UnknownStage}
+use Rattle.program_check.specs.declared.warnings.ProgramWarning.TheVariants.{UnknownDetector, MissingInterstage, SilentDetector}
 use Rattle.pua_lines.specs.declared.section.SectionWord.{SectionWord}
 use Rattle.pua_lines.specs.declared.section.SectionWord.TheVariants.{SignalGroups, Stages, StartingStage, Interstage, End}
 use Rattle.site_findings.specs.declared.finding.Warning.{Warning}
 use Rattle.site_findings.specs.declared.finding.Warning.TheVariants.{Plan, Program, MisspeltSection}
 use Rattle.site_findings.specs.Reasons.{group_text}
 
+-- the name of a warning of a plan
 abbrev pub plan_warning_name : PlanWarning → List ℕ
 plan_warning_name (StageWithoutWay stage lacking) = codes "stage-without-way"
 plan_warning_name (GroupNeverGreen group) = codes "group-never-green"
 plan_warning_name (InterstageNotClean inter end) = codes "interstage-not-clean"
 plan_warning_name (LateRedEnd inter group late) = codes "late-red-end"
 
+-- the name of a warning of a program
 abbrev pub program_warning_name : ProgramWarning → List ℕ
 program_warning_name (UnassignedVariable name) = codes "unassigned-variable"
 program_warning_name (UnknownGroup n) = codes "unknown-group"
@@ -75,11 +78,13 @@ other_text plan (Some group) = codes ":" ++ group_text plan group
 unfoldable pub turn_text : Option PlanOf → TurnRefusal → List ℕ
 turn_text plan turn = group_text plan turn.group ++ codes ":" ++ rule_word turn.rule ++ other_text plan turn.other
 
+-- the way that a stage lacks, up to the number of the stage
 abbrev pub way_head : Way → List ℕ
 way_head way.From = codes "no interstage leads from stage "
 way_head way.To = codes "no interstage leads to stage "
 way_head way.Both = codes "no interstage leads from or to stage "
 
+-- what the lack of this way means for a run
 abbrev pub way_tail : Way → List ℕ
 way_tail way.From = codes ", so a run that is in it stays in it"
 way_tail way.To = codes ", so a run never comes to it"
@@ -126,24 +131,30 @@ plan_warning_text plan (GroupNeverGreen group) = never_green_text plan group
 plan_warning_text plan (InterstageNotClean inter end) = not_clean_text plan inter end
 plan_warning_text plan (LateRedEnd inter group late) = red_text plan inter group ++ late_text late
 
+-- a variable that a program reads and assigns nowhere
 unfoldable pub unassigned_text : List ℕ → List ℕ
 unassigned_text name = codes "the variable `" ++ name ++ codes "` is read and never assigned, so it is always 0"
 
+-- a number of a signal group that the plan doesn't have
 unfoldable pub unknown_group_text : ℤ → List ℕ
 unknown_group_text n =
     codes "the plan has no signal group with the number " ++ signed_decimal n
     ++ codes "; groups go by their numbers in the PUA file"
 
+-- a number of a stage that the plan doesn't have
 unfoldable pub unknown_stage_text : ℤ → List ℕ
 unknown_stage_text n =
     codes "the plan has no stage " ++ signed_decimal n ++ codes "; stages go by their places in the PUA file, from 1"
 
+-- a number that is no detector's
 unfoldable pub unknown_detector_text : ℤ → List ℕ
 unknown_detector_text n = signed_decimal n ++ codes " is no detector; they have the numbers 1 to 64"
 
+-- two stages with no interstage from the first one to the second
 unfoldable pub missing_text : StageNo → StageNo → List ℕ
 missing_text from to = codes "the plan has no interstage " ++ pair_text from.0 to.0
 
+-- a detector that a program reads and that has no count in the detector file
 unfoldable pub silent_text : DetNo → List ℕ
 silent_text detector =
     codes "the program reads detector " ++ decimal detector.0 ++ codes ", and the detector file never has it"

@@ -4,7 +4,8 @@ ghost use Rattle.std.specs.Fmt.{decimal, signed_decimal};
 ghost use Rattle.site_findings.specs.Put.{Puts, PutsSome, prose_of};
 ghost use Rattle.site_findings.specs.Reasons.{group_text, refusal_subject, refusal_word};
 ghost use Rattle.site_findings.specs.Shown.{blanks_after, blanks_before, caret_count, carets_below, is_blank, meant_in, shown_byte, shown_from, shown_line};
-ghost use Rattle.site_findings.specs.Text.{IsFindingsText, IsPart, IsReason, IsTold, below, counts_text, file_name, line_at, number_text, place_text, reason_text, refuses, warned_text, warns};
+ghost use Rattle.site_findings.specs.Text.{IsFindingsText, IsPart, IsReason, IsTold, refuses, warns};
+ghost use Rattle.site_findings.specs.Text.{below, counts_text, file_name, line_at, number_text, place_text, reason_text, warned_text};
 
 use crate::finding::{Examined, FileKind, Finding, Refusal, SiteNames, Told, Warning};
 use crate::lines::{line_of, part_of, record_of};

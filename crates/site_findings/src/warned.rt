@@ -1,7 +1,10 @@
 // The names and the sentences of warnings.
 ghost use Rattle.std.specs.Prelude.{◌≡◌, OnOk};
 ghost use Rattle.site_findings.specs.Put.{Puts};
-ghost use Rattle.site_findings.specs.Warnings.{end_text, inter_text, late_text, missing_text, misspelt_text, never_green_text, not_clean_text, other_text, pair_text, plan_warning_name, plan_warning_text, program_warning_name, program_warning_text, red_text, refused_text, rule_word, section_text, silent_text, turn_text, unassigned_text, unknown_detector_text, unknown_group_text, unknown_stage_text, warning_name, warning_text, way_head, way_tail, way_text};
+ghost use Rattle.site_findings.specs.Warnings.{plan_warning_name, plan_warning_text, program_warning_name, program_warning_text, warning_name, warning_text};
+ghost use Rattle.site_findings.specs.Warnings.{end_text, inter_text, late_text, never_green_text, not_clean_text, red_text, refused_text};
+ghost use Rattle.site_findings.specs.Warnings.{misspelt_text, other_text, pair_text, rule_word, section_text, turn_text, way_head, way_tail, way_text};
+ghost use Rattle.site_findings.specs.Warnings.{missing_text, silent_text, unassigned_text, unknown_detector_text, unknown_group_text, unknown_stage_text};
 
 use crate::finding::Warning;
 use crate::text::Text;
