@@ -1,5 +1,6 @@
 -- What the fields of a log's lines say.
-use Rattle.std.specs.Prelude.{ℕ, ◌-◌, ◌==◌, Bool, not, ◌&&◌, List, [], ◌∷◌, ◌++◌, codes, length, fold, replicate, slice_set, nat_lt, Option, Some, None, if◌then◌else◌}
+use Rattle.std.specs.Prelude.{ℕ, ◌-◌, ◌==◌, nat_lt, Bool, not, ◌&&◌, if◌then◌else◌}
+use Rattle.std.specs.Prelude.{List, [], ◌∷◌, ◌++◌, codes, length, fold, replicate, slice_set, Option, Some, None}
 use Rattle.std.specs.List.{list_any, position, slice_split}
 use Rattle.std.specs.Option.{option_map, option_and_then, option_zip}
 use Rattle.std.specs.Str.{bytes_eq}

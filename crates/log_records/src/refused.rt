@@ -2,7 +2,8 @@
 ghost use Rattle.std.specs.Prelude.{◌≡◌, ◌<◌, ◌≤◌, IfSome, None, Some, [], length, true, false};
 ghost use Rattle.std.specs.List.{position};
 ghost use Rattle.std.specs.Str.{bytes_eq};
-ghost use Rattle.log_records.specs.Fields.{command_in, command_rule, lone_rule, pair_rule, place_of, refusal_in, refused_in, refused_items, refused_more, parted, stage_in, turn_in};
+ghost use Rattle.log_records.specs.Fields.{command_in, command_rule, lone_rule, pair_rule, place_of, stage_in, turn_in};
+ghost use Rattle.log_records.specs.Fields.{parted, refusal_in, refused_in, refused_items, refused_more};
 
 use sig_types::text::{cut_at, number};
 use sig_types::{

@@ -8,13 +8,15 @@ pub returns-in_default-clause-picture : goal.returns-in_default-clause-picture
 returns-in_default-clause-picture c =
     let size : length c.args.field.now ≡ c.args.groups = search rules in
     sym (sized c.args.groups c.args.field.now size
-    ∙ not_spelled c.args.field.now c.loop-place.place (omega (arith, size, c.loop-place-test.true)) (rw c.from-in-loop-place.ensures at (sym c.aspect_of.ensures ∙ c.in_default.is)))
+    ∙ not_spelled c.args.field.now c.loop-place.place (omega (arith, size, c.loop-place-test.true))
+    (rw c.from-in-loop-place.ensures at (sym c.aspect_of.ensures ∙ c.in_default.is)))
 
 pub loop-place-preserved : goal.loop-place-preserved
 loop-place-preserved c =
     rw c.set.ensures record {
       size = length-set c.loop-place.picture c.loop-place.place c.in-Some.aspect ∙ c.loop-place.invariant.size;
-      each = one_more c.args.field.now c.loop-place.picture c.loop-place.place c.in-Some.aspect (omega (arith, c.loop-place.invariant.size, c.loop-place-test.true))
+      each = one_more c.args.field.now c.loop-place.picture c.loop-place.place c.in-Some.aspect
+          (omega (arith, c.loop-place.invariant.size, c.loop-place-test.true))
           c.loop-place.invariant.each (rw c.from-in-loop-place.ensures at (sym c.aspect_of.ensures ∙ c.in-Some.is));
     }
 

@@ -10,8 +10,11 @@ returns-in-Ok-false-clause-taken g c file told = rw c.in-Ok-false.field-0-test a
 pub returns-in-Err-TooLong-clause-taken : goal.returns-in-Err-TooLong-clause-taken
 returns-in-Err-TooLong-clause-taken g c file told =
     let text = unread_bytes c.args.reader.now (file (name_in c.args.reader.now)) in
-    rw c.refused.ensures
-    (refl, long_taken c.args.lines text c.too_long.result (rw c.requires.longest at (c.in-Err-TooLong.ensures.too_long file told (ap Err c.in-Err-TooLong.field-0-is))) c.too_long.ensures)
+    rw c.refused.ensures (
+      refl,
+      long_taken c.args.lines text c.too_long.result
+          (rw c.requires.longest at (c.in-Err-TooLong.ensures.too_long file told (ap Err c.in-Err-TooLong.field-0-is))) c.too_long.ensures,
+    )
 
 pub returns-then-lines-eq-MOST-clause-taken : goal.returns-then-lines-eq-MOST-clause-taken
 returns-then-lines-eq-MOST-clause-taken g c file told =
@@ -25,5 +28,7 @@ returns-then-lines-eq-MOST-clause-taken g c file told =
 pub returns-clause-taken : goal.returns-clause-taken
 returns-clause-taken g c file told =
     let bytes = file (name_in c.args.reader.now) in
-    let read = rw c.in-Ok-true.field-0-test at (c.in-Ok-true.ensures.read file told) in
-    (first_line (unread_bytes c.args.reader.now bytes) _ _ (unread_bytes c.next_line.new.self bytes) read.0, rw (c.next_line.ensures.longest, c.requires.longest) at read.1)
+    let read = rw c.in-Ok-true.field-0-test at (c.in-Ok-true.ensures.read file told) in (
+      first_line (unread_bytes c.args.reader.now bytes) _ _ (unread_bytes c.next_line.new.self bytes) read.0,
+      rw (c.next_line.ensures.longest, c.requires.longest) at read.1,
+    )

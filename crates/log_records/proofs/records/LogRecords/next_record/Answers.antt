@@ -21,7 +21,8 @@ unfolding Reads name_of names_of
 returns-in-Err-clause-next g c file told records read =
     let r = c.args.self.now in
     let bytes = file (name_of r) in
-    step_wrong r.names.items bytes r.lines records (unread_bytes r.reader bytes) c.take_line.new.reader c.in-Err.stop read.rest read.accepted (c.in-Err.ensures.taken file told)
+    step_wrong r.names.items bytes r.lines records (unread_bytes r.reader bytes) c.take_line.new.reader c.in-Err.stop read.rest read.accepted
+    (c.in-Err.ensures.taken file told)
 
 pub returns-in-Err-read_record-clause-next : goal.returns-in-Err-read_record-clause-next
 unfolding Reads name_of names_of
