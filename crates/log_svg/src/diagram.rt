@@ -4,7 +4,8 @@ ghost use Rattle.sig_io.specs.Draft.{IsDraft, FailsOnly};
 ghost use Rattle.log_svg.specs.Layout.{IsLayout};
 ghost use Rattle.log_svg.specs.Marks.{IsFaultIn};
 ghost use Rattle.log_svg.specs.ShownIn.{shown_in};
-ghost use Rattle.log_svg.specs.Diagram.{IsShowable, detectors_top, diagram_text, faults_row, faults_top, layout_in, lower_text, named_faults, rows_end, upper_text};
+ghost use Rattle.log_svg.specs.Diagram.{IsShowable, diagram_text, lower_text, upper_text};
+ghost use Rattle.log_svg.specs.Diagram.{detectors_top, faults_row, faults_top, layout_in, named_faults, rows_end};
 
 use crate::axis::put_axis;
 use crate::band::put_band;

@@ -2,7 +2,8 @@
 ghost use Rattle.std.specs.Prelude.{◌≡◌, ◌+◌, ◌-◌, ◌*◌, ◌^◌, ◌<◌, ◌≤◌, ◌++◌, ◌==◌, min, ℕ, List, Option, All, length};
 ghost use Rattle.sig_io.specs.Draft.{IsDraft, FailsOnly};
 ghost use Rattle.log_svg.specs.Layout.{IsLayout};
-ghost use Rattle.log_svg.specs.Marks.{IsFrontIn, detector_name, detector_text, detectors_text, front_text, fronts_of, has_front, row_count, shown_text, shown_to};
+ghost use Rattle.log_svg.specs.Marks.{IsFrontIn, fronts_of, has_front, row_count, shown_to};
+ghost use Rattle.log_svg.specs.Marks.{detector_name, detector_text, detectors_text, front_text, shown_text};
 
 use crate::layout::{Layout, middle_of, right_of};
 use crate::pieces::{begin_label, put_across, put_upright};

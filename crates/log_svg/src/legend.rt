@@ -57,7 +57,8 @@ fn put_refused_key<O: Sink>(draft: &mut Draft, sink: &mut O, y: u32)
     requires y { y ≤ 200000 }
     requires room { draft.old.gone < 2 ^ 57 }
     ensures text { (start : Option (List ℕ)) (text : List ℕ) → IsDraft start (O.taken sink.old) draft.old text →
-        IsDraft start (O.taken sink.new) draft.new (text ++ (triangle_text 562 (y + 10) ++ codes "/>\n" ++ label_text (codes "o") 574 (y + 10) (codes "refused"))) }
+        IsDraft start (O.taken sink.new) draft.new
+        (text ++ (triangle_text 562 (y + 10) ++ codes "/>\n" ++ label_text (codes "o") 574 (y + 10) (codes "refused"))) }
     ensures gone { draft.new.gone ≤ draft.old.gone + 4096 * 24 }
     ensures cause { FailsOnly (O.faults sink.old) (O.faults sink.new) draft.old.failed draft.new.failed }
 {

@@ -4,7 +4,8 @@ ghost use Rattle.std.specs.Option.{ForSome};
 ghost use Rattle.sig_io.specs.Draft.{IsDraft, FailsOnly};
 ghost use Rattle.signal_log.specs.Log.{fault_name, fault_text, name_of, other_of, other_text, stage_refusal_text, turn_text};
 ghost use Rattle.log_svg.specs.Layout.{IsLayout};
-ghost use Rattle.log_svg.specs.Marks.{IsFaultIn, IsMarked, IsRefused, fault_mark_text, faults_text, mark_y, refusal_text, refusals_text, title_begin, words_text};
+ghost use Rattle.log_svg.specs.Marks.{IsFaultIn, IsMarked, IsRefused, mark_y};
+ghost use Rattle.log_svg.specs.Marks.{fault_mark_text, faults_text, refusal_text, refusals_text, title_begin, words_text};
 
 use crate::layout::{Layout, middle_of};
 use crate::pieces::{begin_cross, begin_triangle};
