@@ -1,5 +1,6 @@
 -- What a diagram gathers of the records of a log.
-use Rattle.std.specs.Prelude.{◌≡◌, ℕ, ◌+◌, ◌-◌, ◌==◌, List, [], ◌∷◌, ◌++◌, length, map, take, drop, replicate, slice_index_or, Option, Some, None, if◌then◌else◌}
+use Rattle.std.specs.Prelude.{◌≡◌, ℕ, ◌+◌, ◌-◌, ◌==◌, if◌then◌else◌}
+use Rattle.std.specs.Prelude.{List, [], ◌∷◌, ◌++◌, length, map, take, drop, replicate, slice_index_or, Option, Some, None}
 use Rattle.std.specs.List.{flat_map}
 use Rattle.sig_types.specs.declared.aspect.Aspect.TheVariants.{Red}
 use Rattle.sig_types.specs.declared.numbers.StagePlace.{StagePlace}

@@ -4,7 +4,11 @@ ghost use Rattle.std.specs.Fmt.{decimal};
 ghost use Rattle.sig_io.specs.Draft.{IsDraft, FailsOnly};
 ghost use Rattle.log_svg.specs.Diagram.{IsShowable};
 ghost use Rattle.log_svg.specs.ShownIn.{shown_in};
-ghost use Rattle.log_view.specs.Letters.{IsBlock, band_row, block_at, block_head, block_rows, block_text, detector_word, empty_row, faults_row, filler_of, free_after, front_letter, fronts_row, fronts_rows, group_row, group_rows, groups_rows, is_numbered, is_of, letter_of, letters_in, letters_text, margin_of, marks_text, name_text, number_cell, numbers_row, refusals_row, seconds_in, span_text, stay_cells, stay_text, tick_of, ticks_row, with_front, with_letter, with_refusal};
+ghost use Rattle.log_view.specs.Letters.{IsBlock, block_at, block_head, block_rows, block_text, letters_in, letters_text};
+ghost use Rattle.log_view.specs.Letters.{band_row, faults_row, fronts_row, fronts_rows, group_row, group_rows, groups_rows};
+ghost use Rattle.log_view.specs.Letters.{empty_row, numbers_row, refusals_row, ticks_row, filler_of, free_after, margin_of};
+ghost use Rattle.log_view.specs.Letters.{detector_word, front_letter, is_numbered, is_of, letter_of, number_cell, seconds_in};
+ghost use Rattle.log_view.specs.Letters.{marks_text, name_text, span_text, stay_cells, stay_text, tick_of, with_front, with_letter, with_refusal};
 
 use itoa::Buffer;
 use log_chart::Span;

@@ -5,7 +5,9 @@ ghost use Rattle.std.specs.Fmt.{decimal};
 ghost use Rattle.sig_io.specs.Draft.{IsDraft, FailsOnly};
 ghost use Rattle.log_svg.specs.Marks.{IsRefused};
 ghost use Rattle.log_view.specs.Summed.{IsTextual};
-ghost use Rattle.log_view.specs.SumsText.{detector_text, detectors_to, fault_line, green_by, greens_of, greens_text, group_text, groups_text, longest_red_of, place_text, red_by, refusal_text, shown_text, sum_place, sums_text, tenths_text, times_text};
+ghost use Rattle.log_view.specs.SumsText.{detectors_to, green_by, greens_of, longest_red_of, red_by, sum_place};
+ghost use Rattle.log_view.specs.SumsText.{detector_text, fault_line, greens_text, group_text, groups_text, place_text, refusal_text};
+ghost use Rattle.log_view.specs.SumsText.{shown_text, sums_text, tenths_text, times_text};
 
 use crate::sums::{FaultTally, PlaceSum, RefusalTally, Sums};
 use log_chart::{GroupPast, Totals};

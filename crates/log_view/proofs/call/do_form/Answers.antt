@@ -11,18 +11,19 @@ pub returns-in-Ok-clause-answered : goal.returns-in-Ok-clause-answered
 returns-in-Ok-clause-answered g c file told =
     let d = c.in-Ok.diagram in
     rw c.in-Diagram.is
-    (answered (Diagram c.in-Diagram.log.now c.in-Diagram.window) file (diagram_text (shown_in d)) c.write_diagram.result _ _ (d, c.in-Ok.ensures.gathering file told, refl)
-    c.write_diagram.ensures.written)
+    (answered (Diagram c.in-Diagram.log.now c.in-Diagram.window) file (diagram_text (shown_in d)) c.write_diagram.result _ _
+    (d, c.in-Ok.ensures.gathering file told, refl) c.write_diagram.ensures.written)
 
 pub returns-in-Ok-gather-clause-answered : goal.returns-in-Ok-gather-clause-answered
 returns-in-Ok-gather-clause-answered g c file told =
     let d = c.in-Ok-gather.diagram in
     rw c.in-Text.is
-    (answered (Text c.in-Text.log.now c.in-Text.window) file (letters_text (shown_in d)) c.write_letters.result _ _ (d, c.in-Ok-gather.ensures.gathering file told, refl)
-    c.write_letters.ensures.written)
+    (answered (Text c.in-Text.log.now c.in-Text.window) file (letters_text (shown_in d)) c.write_letters.result _ _
+    (d, c.in-Ok-gather.ensures.gathering file told, refl) c.write_letters.ensures.written)
 
 pub returns-in-Ok-sum_up-clause-answered : goal.returns-in-Ok-sum_up-clause-answered
 returns-in-Ok-sum_up-clause-answered g c file told =
     let s = c.in-Ok-sum_up.sums in
     rw c.in-Sums.is
-    (answered (Sums c.in-Sums.log.now) file (sums_text s) c.write_sums.result _ _ (s, c.in-Ok-sum_up.ensures.summing file told, refl) c.write_sums.ensures.written)
+    (answered (Sums c.in-Sums.log.now) file (sums_text s) c.write_sums.result _ _
+    (s, c.in-Ok-sum_up.ensures.summing file told, refl) c.write_sums.ensures.written)

@@ -16,4 +16,6 @@ loop-place-preserved c =
 pub returns : goal.returns
 returns c =
     let size : length c.args.frame.now ≡ 64 = c.loop-place.invariant.size (omega (arith, c.loop-place-test.false)) in
-    c.loop-place.invariant.put ∙ ap (λ xs. c.args.fronts.now.items ++ fronts_from c.args.second 1 xs) (take_all c.loop-place.place c.args.frame.now (omega (arith, size, c.loop-place-test.false)))
+    c.loop-place.invariant.put
+    ∙ ap (λ xs. c.args.fronts.now.items ++ fronts_from c.args.second 1 xs)
+    (take_all c.loop-place.place c.args.frame.now (omega (arith, size, c.loop-place-test.false)))

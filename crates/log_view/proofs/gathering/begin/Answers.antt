@@ -4,5 +4,6 @@ use Rattle.log_view.proofs.gathering.begin.Goals as goal
 
 pub returns : goal.returns
 returns c =
-    draw_none c.args.names.now c.args.window.from c.args.window.to _ c.requires.window.least c.in-Ok.ensures refl refl c.in-Ok-new.ensures.from.0 c.in-Ok-new.ensures.from.1
-    (λ h. c.in-Ok-new.ensures.charted h) c.new-2.ensures.items c.new-3.ensures.items c.new-4.ensures.items c.new-5.ensures.items
+    draw_none c.args.names.now c.args.window.from c.args.window.to _ c.requires.window.least c.in-Ok.ensures refl refl
+    c.in-Ok-new.ensures.from.0 c.in-Ok-new.ensures.from.1 (λ h. c.in-Ok-new.ensures.charted h)
+    c.new-2.ensures.items c.new-3.ensures.items c.new-4.ensures.items c.new-5.ensures.items

@@ -12,8 +12,8 @@ returns-in-Err-clause-gathering g c file told =
 
 pub loop-line-init : goal.loop-line-init
 loop-line-init g c = record {
-  drawn = draw_first (g.F.Files.told c.args.files.now) c.args.log.now c.in-Ok.records c.args.window c.in-Ok-begin.diagram c.in-Ok.ensures.given c.in-Ok.ensures.opened
-      (rw c.names.ensures.names at c.in-Ok-begin.ensures);
+  drawn = draw_first (g.F.Files.told c.args.files.now) c.args.log.now c.in-Ok.records c.args.window c.in-Ok-begin.diagram
+      c.in-Ok.ensures.given c.in-Ok.ensures.opened (rw c.names.ensures.names at c.in-Ok-begin.ensures);
   told = c.in-Ok.ensures.contents_stay;
   name = c.in-Ok.ensures.name;
   live = c.in-Ok.ensures.live;
@@ -28,10 +28,12 @@ loop-line-preserved g c =
     let before = c.loop-line.invariant in
     let found = ap Ok c.in-Ok-true.field-0-test in
     record {
-      drawn = draw_next (g.F.Files.told c.args.files.now) c.args.log.now c.loop-line.records c.next_record.new.self c.args.window c.loop-line.diagram c.take_record.new.diagram c.requires
-          before.name c.in-Ok-true.ensures.names (c.in-Ok-true.ensures.given found) (λ file told. rw c.in-Ok-true.field-0-test at (c.in-Ok-true.ensures.next file (before.told ∙ told)))
-          (c.in-Ok-true.ensures.said found)
-          (λ names records window is second drawn. rw c.current.ensures at (c.in-Ok-take_record.ensures names records window is (rw c.current.ensures second) drawn)) before.drawn;
+      drawn = draw_next (g.F.Files.told c.args.files.now) c.args.log.now c.loop-line.records c.next_record.new.self c.args.window
+          c.loop-line.diagram c.take_record.new.diagram c.requires
+          before.name c.in-Ok-true.ensures.names (c.in-Ok-true.ensures.given found)
+          (λ file told. rw c.in-Ok-true.field-0-test at (c.in-Ok-true.ensures.next file (before.told ∙ told))) (c.in-Ok-true.ensures.said found)
+          (λ names records window is second drawn. rw c.current.ensures at
+          (c.in-Ok-take_record.ensures names records window is (rw c.current.ensures second) drawn)) before.drawn;
       told = c.in-Ok-true.ensures.contents_stay ∙ before.told;
       name = c.in-Ok-true.ensures.name ∙ before.name;
       live = c.in-Ok-true.ensures.live;
@@ -56,26 +58,29 @@ take_record-requires-clause-fits g c = omega (arith, c.loop-line.invariant.drawn
 pub returns-then-count-window-clause-gathering : goal.returns-then-count-window-clause-gathering
 returns-then-count-window-clause-gathering g c file told =
     let before = c.loop-line.invariant in
-    ends_early (g.F.Files.told c.args.files.now) c.args.log.now c.loop-line.records c.next_record.new.self c.args.window c.loop-line.diagram c.count-count.result before.name
-    c.count-count.ensures (c.in-Ok-false.ensures.no_record (ap Ok c.in-Ok-false.field-0-test)) (omega (arith, c.if-count-window.true))
+    ends_early (g.F.Files.told c.args.files.now) c.args.log.now c.loop-line.records c.next_record.new.self c.args.window c.loop-line.diagram
+    c.count-count.result before.name c.count-count.ensures
+    (c.in-Ok-false.ensures.no_record (ap Ok c.in-Ok-false.field-0-test)) (omega (arith, c.if-count-window.true))
     (λ f t. rw c.in-Ok-false.field-0-test at (c.in-Ok-false.ensures.next f (before.told ∙ t))) before.drawn file told
 
 pub returns-in-Ok-false-clause-gathering : goal.returns-in-Ok-false-clause-gathering
 returns-in-Ok-false-clause-gathering g c file told =
     let before = c.loop-line.invariant in
-    draw_whole (g.F.Files.told c.args.files.now) c.args.log.now c.loop-line.records c.next_record.new.self c.args.window c.loop-line.diagram c.count-count.result c.requires before.name
-    c.count-count.ensures (c.in-Ok-false.ensures.no_record (ap Ok c.in-Ok-false.field-0-test)) (omega (arith, c.if-count-window.false))
+    draw_whole (g.F.Files.told c.args.files.now) c.args.log.now c.loop-line.records c.next_record.new.self c.args.window c.loop-line.diagram
+    c.count-count.result c.requires before.name c.count-count.ensures
+    (c.in-Ok-false.ensures.no_record (ap Ok c.in-Ok-false.field-0-test)) (omega (arith, c.if-count-window.false))
     (λ f t. rw c.in-Ok-false.field-0-test at (c.in-Ok-false.ensures.next f (before.told ∙ t))) before.drawn file told
 
 pub returns-in-Ok-false-clause-shown : goal.returns-in-Ok-false-clause-shown
 returns-in-Ok-false-clause-shown g c =
     let before = c.loop-line.invariant in
     showable (names_of c.loop-line.records) before.drawn.records c.args.window c.loop-line.diagram c.requires before.few before.drawn.said
-    (omega (arith, c.if-count-window.false, c.count-count.ensures, before.drawn.count, c.in-Ok-false.ensures.no_record (ap Ok c.in-Ok-false.field-0-test))) before.drawn.drawn
+    (omega (arith, c.if-count-window.false, c.count-count.ensures, before.drawn.count, c.in-Ok-false.ensures.no_record (ap Ok c.in-Ok-false.field-0-test)))
+    before.drawn.drawn
 
 pub returns-in-Err-next_record-clause-gathering : goal.returns-in-Err-next_record-clause-gathering
 returns-in-Err-next_record-clause-gathering g c file told =
     let before = c.loop-line.invariant in
     rw c.stop_of-in-Err-next_record.ensures
-    (undrawn_next (g.F.Files.told c.args.files.now) c.args.log.now c.loop-line.records c.next_record.new.self c.args.window c.loop-line.diagram c.in-Err-next_record.stop before.name
-    (λ f t. c.in-Err-next_record.ensures.next f (before.told ∙ t)) before.drawn file told)
+    (undrawn_next (g.F.Files.told c.args.files.now) c.args.log.now c.loop-line.records c.next_record.new.self c.args.window c.loop-line.diagram
+    c.in-Err-next_record.stop before.name (λ f t. c.in-Err-next_record.ensures.next f (before.told ∙ t)) before.drawn file told)

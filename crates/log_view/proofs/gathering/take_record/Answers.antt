@@ -5,7 +5,8 @@ use Rattle.log_view.proofs.gathering.take_record.Goals as goal
 
 pub returns-in-Ok : goal.returns-in-Ok
 returns-in-Ok c names records window is second drawn =
-    draw_more names records window.from window.to c.args.diagram.now c.add_second.new.diagram c.args.rec.now is.least second (omega (arith, c.if-diagram-second.true, drawn.from_is))
+    draw_more names records window.from window.to c.args.diagram.now c.add_second.new.diagram c.args.rec.now is.least second
+    (omega (arith, c.if-diagram-second.true, drawn.from_is))
     (omega (arith, c.if-second-diagram.true, drawn.to_is)) record {
       names = c.in-Ok.ensures.names;
       from = c.in-Ok.ensures.from;
@@ -22,7 +23,8 @@ returns-in-Ok c names records window is second drawn =
 pub returns : goal.returns
 returns c names records window is second drawn = elim c.else-diagram-second.branch [
   | else-diagram-second-via-then-diagram-second+else-second-diagram w ↦
-      draw_behind names records window.from window.to c.args.diagram.now c.args.rec.now is.least is.order (omega (arith, w.if-second-diagram.false, drawn.to_is, second)) drawn
+      draw_behind names records window.from window.to c.args.diagram.now c.args.rec.now is.least is.order
+      (omega (arith, w.if-second-diagram.false, drawn.to_is, second)) drawn
   | else-diagram-second-via-else-diagram-second w ↦
       draw_before names records window.from window.to c.args.diagram.now c.args.rec.now (omega (arith, w.if-diagram-second.false, drawn.from_is, second)) drawn
 ]

@@ -11,4 +11,8 @@ returns-then-number-lt10 c =
 pub returns-else-number-lt10 : goal.returns-else-number-lt10
 returns-else-number-lt10 c =
     let n = c.args.number in
-    rw (decimal_step n (omega (arith, c.if-number-lt10.false)) (omega (arith, c.requires)), decimal_digit (n / 10) (omega (arith, c.requires)), le-ltb n 10 c.if-number-lt10.false) refl
+    rw (
+      decimal_step n (omega (arith, c.if-number-lt10.false)) (omega (arith, c.requires)),
+      decimal_digit (n / 10) (omega (arith, c.requires)),
+      le-ltb n 10 c.if-number-lt10.false,
+    ) refl

@@ -7,4 +7,5 @@ use Rattle.log_view.proofs.letters.put_band.Goals as goal
 pub returns-clause-text : goal.returns-clause-text
 unfolding band_row
 returns-clause-text g c =
-    rw (take_all c.loop-stay.stay-index c.args.stays.now (omega (arith, c.loop-stay-test.false))) at (then _ _ _ _ _ _ _ _ c.loop-stay.invariant.text c.put.ensures.text)
+    rw (take_all c.loop-stay.stay-index c.args.stays.now (omega (arith, c.loop-stay-test.false))) at
+    (then _ _ _ _ _ _ _ _ c.loop-stay.invariant.text c.put.ensures.text)

@@ -8,7 +8,8 @@ use Rattle.log_view.proofs.letters.put_band.Given as goal
 abbrev pub invariant-loop-stay : goal.invariant-loop-stay
 invariant-loop-stay g l = record {
   text : (start : Option (List ℕ)) (text : List ℕ) → IsDraft start (g.O.Sink.taken l.fn.sink) l.fn.draft text →
-      IsDraft start (g.O.Sink.taken l.sink) l.draft (text ++ (name_text l.block.margin (codes "stage") ++ flat_map (stay_text l.block) (take l.stay-index l.stays)));
+      IsDraft start (g.O.Sink.taken l.sink) l.draft
+      (text ++ (name_text l.block.margin (codes "stage") ++ flat_map (stay_text l.block) (take l.stay-index l.stays)));
   gone : l.draft.gone ≤ l.fn.draft.gone + 167936 + 258048 * l.stay-index;
   cause : FailsOnly (g.O.Sink.faults l.fn.sink) (g.O.Sink.faults l.sink) l.fn.draft.failed l.draft.failed;
 }

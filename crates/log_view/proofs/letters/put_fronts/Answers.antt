@@ -6,4 +6,5 @@ use Rattle.log_view.proofs.letters.put_fronts.Goals as goal
 pub returns-clause-text : goal.returns-clause-text
 unfolding fronts_row
 returns-clause-text g c =
-    rw (c.loop-mark.invariant.row, take_all c.loop-mark.mark-index c.args.marks.now (omega (arith, c.loop-mark-test.false)), c.detector_name.ensures) at c.put_marks.ensures.text
+    rw (c.loop-mark.invariant.row, take_all c.loop-mark.mark-index c.args.marks.now (omega (arith, c.loop-mark-test.false)), c.detector_name.ensures) at
+    c.put_marks.ensures.text

@@ -17,5 +17,6 @@ pub returns-clause-text : goal.returns-clause-text
 unfolding group_rows
 returns-clause-text g c =
     let names = c.args.diagram.now.names.items in
-    let name : c.bytes.result.now ≡ get_or names c.args.place [] = c.bytes.ensures.bytes ∙ c.index-name.ensures ∙ get_or_default names c.args.place _ [] c.requires.place in
+    let name : c.bytes.result.now ≡ get_or names c.args.place []
+    = c.bytes.ensures.bytes ∙ c.index-name.ensures ∙ get_or_default names c.args.place _ [] c.requires.place in
     then _ _ _ _ _ _ _ _ (rw (name, c.row.ensures) at c.put_row.ensures.text) (rw c.deref.ensures.value at c.put_refusals.ensures.text)

@@ -19,7 +19,8 @@ pub loop-place-preserved : goal.loop-place-preserved
 loop-place-preserved g c =
     let i = c.loop-place.invariant in
     record {
-      text = then_more _ _ _ _ _ _ _ _ _ _ i.text (rw c.loop-place.invariant.free at c.put_number_cell.ensures.text) (numbers_more c.args.block.first c.loop-place.place);
+      text = then_more _ _ _ _ _ _ _ _ _ _ i.text (rw c.loop-place.invariant.free at c.put_number_cell.ensures.text)
+          (numbers_more c.args.block.first c.loop-place.place);
       gone = omega (arith, c.put_number_cell.ensures.gone, i.gone);
       cause = grind (arith, common_steps);
       free = rw free_more (rw i.free at c.free_after-free.ensures);

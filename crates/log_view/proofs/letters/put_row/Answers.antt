@@ -7,4 +7,5 @@ use Rattle.log_view.proofs.letters.put_row.Goals as goal
 pub returns-clause-text : goal.returns-clause-text
 unfolding group_row
 returns-clause-text g c =
-    rw (take_all c.loop-span.span-index c.args.spans.now (omega (arith, c.loop-span-test.false))) at (then _ _ _ _ _ _ _ _ c.loop-span.invariant.text c.put.ensures.text)
+    rw (take_all c.loop-span.span-index c.args.spans.now (omega (arith, c.loop-span-test.false))) at
+    (then _ _ _ _ _ _ _ _ c.loop-span.invariant.text c.put.ensures.text)

@@ -26,5 +26,6 @@ loop-number-preserved g c =
 pub returns-clause-text : goal.returns-clause-text
 unfolding letters_text
 returns-clause-text g c =
-    let end : c.loop-number.number ≡ (c.args.diagram.now.to - c.args.diagram.now.from) / 60 + 1 = omega (arith, c.loop-number-test.false, c.loop-number.auto.number-end) in
+    let end : c.loop-number.number ≡ (c.args.diagram.now.to - c.args.diagram.now.from) / 60 + 1
+    = omega (arith, c.loop-number-test.false, c.loop-number.auto.number-end) in
     rw end at c.loop-number.invariant.text

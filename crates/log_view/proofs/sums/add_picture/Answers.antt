@@ -30,4 +30,5 @@ loop-place-preserved c =
     }
 
 pub returns-clause-stands : goal.returns-clause-stands
-returns-clause-stands c a g d lt is before = c.loop-place.invariant.stands a g d (omega (arith, lt, c.len-place-end.ensures.len, c.loop-place-test.false)) is before
+returns-clause-stands c a g d lt is before =
+    c.loop-place.invariant.stands a g d (omega (arith, lt, c.len-place-end.ensures.len, c.loop-place-test.false)) is before

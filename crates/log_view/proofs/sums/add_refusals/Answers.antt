@@ -15,7 +15,8 @@ returns-in-Ok c =
     let commands : List Refused = map (λ x. Command x) r.stages in
     let turns : List Refused = map (λ x. Turn x) r.turns in
     on_ok ((items : List Refused) → length items + length r.turns < 9223372036854775808 → AreTallies items mid → AreTallies (items ++ turns) new)
-    ((items : List Refused) → length items + length r.stages + length r.turns < 9223372036854775808 → AreTallies items old → AreTallies (items ++ refused_in r) new)
+    ((items : List Refused) → length items + length r.stages + length r.turns < 9223372036854775808 → AreTallies items old →
+    AreTallies (items ++ refused_in r) new)
     c.add_turns.result
     (λ more items few are. subst (λ l. AreTallies l new) (append_assoc items commands turns)
     (more (items ++ commands) (omega (arith, few, length-append items commands, length-map {B = Refused} r.stages (λ x. Command x)))

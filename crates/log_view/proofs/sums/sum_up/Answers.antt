@@ -19,7 +19,8 @@ take_record-requires-clause-next g c place d inside more =
     let second : c.current.result.now.second.0 ≡ records_given new = rw c.current.ensures is.second in
     let picture : length c.current.result.now.picture ≡ length (names_of new) = rw c.current.ensures is.picture in
     let given = c.in-Ok-true.ensures.given found in
-    before.sums.next place d (omega (arith, inside, picture, same)) (omega (arith, more, second, given, before.count)) ∙ omega (arith, second, given, before.count)
+    before.sums.next place d (omega (arith, inside, picture, same)) (omega (arith, more, second, given, before.count))
+    ∙ omega (arith, second, given, before.count)
 
 pub loop-line-preserved : goal.loop-line-preserved
 loop-line-preserved g c =
@@ -27,8 +28,8 @@ loop-line-preserved g c =
     let found = ap Ok c.in-Ok-true.field-0-test in
     record {
       summed = sum_next (g.F.Files.told c.args.files.now) c.args.log.now c.loop-line.records c.next_record.new.self c.loop-line.sums c.take_record.new.sums
-          before.name c.in-Ok-true.ensures.names (c.in-Ok-true.ensures.given found) (λ file told. rw c.in-Ok-true.field-0-test at (c.in-Ok-true.ensures.next file (before.told ∙ told)))
-          (c.in-Ok-true.ensures.said found)
+          before.name c.in-Ok-true.ensures.names (c.in-Ok-true.ensures.given found)
+          (λ file told. rw c.in-Ok-true.field-0-test at (c.in-Ok-true.ensures.next file (before.told ∙ told))) (c.in-Ok-true.ensures.said found)
           (rw c.current.ensures at c.in-Ok-take_record.ensures) before.summed;
       told = c.in-Ok-true.ensures.contents_stay ∙ before.told;
       name = c.in-Ok-true.ensures.name ∙ before.name;
@@ -48,11 +49,12 @@ returns-in-Ok-false-clause-summing g c file told =
 pub returns-in-Ok-false-clause-words : goal.returns-in-Ok-false-clause-words
 returns-in-Ok-false-clause-words g c =
     let before = c.loop-line.invariant in
-    textual (names_of c.loop-line.records) before.summed.records c.loop-line.sums before.few (omega (arith, before.summed.count, before.most)) before.summed.said before.summed.sums
+    textual (names_of c.loop-line.records) before.summed.records c.loop-line.sums before.few
+    (omega (arith, before.summed.count, before.most)) before.summed.said before.summed.sums
 
 pub returns-in-Err-next_record-clause-summing : goal.returns-in-Err-next_record-clause-summing
 returns-in-Err-next_record-clause-summing g c file told =
     let before = c.loop-line.invariant in
     rw c.stop_of-in-Err-next_record.ensures
-    (unsummed_next (g.F.Files.told c.args.files.now) c.args.log.now c.loop-line.records c.next_record.new.self c.loop-line.sums c.in-Err-next_record.stop before.name
-    (λ f t. c.in-Err-next_record.ensures.next f (before.told ∙ t)) before.summed file told)
+    (unsummed_next (g.F.Files.told c.args.files.now) c.args.log.now c.loop-line.records c.next_record.new.self c.loop-line.sums
+    c.in-Err-next_record.stop before.name (λ f t. c.in-Err-next_record.ensures.next f (before.told ∙ t)) before.summed file told)

@@ -24,8 +24,10 @@ returns c =
       vehicles = c.add_fronts.new.vehicles;
     } in
     let b = c.begins-begins.result in
-    on_ok ((items : List Fault) → length items < 9223372036854775808 → AreTallies items (fault_tallies old.faults.items) → AreTallies (items ++ fault_items r.fault) (fault_tallies new.faults.items))
-    ((names : List (List ℕ)) (records : List Record) → length r.picture ≡ length names → length r.stages ≤ 10000 → length r.turns ≤ 64 → length (flat_map refused_in records) ≤ 10064 * length records →
+    on_ok ((items : List Fault) → length items < 9223372036854775808 → AreTallies items (fault_tallies old.faults.items) →
+    AreTallies (items ++ fault_items r.fault) (fault_tallies new.faults.items))
+    ((names : List (List ℕ)) (records : List Record) → length r.picture ≡ length names → length r.stages ≤ 10000 → length r.turns ≤ 64 →
+    length (flat_map refused_in records) ≤ 10064 * length records →
     r.second.0 ≡ length records + 1 → AddsUp names records old → AddsUp names (records ++ r ∷ []) new)
     c.add_fault.result
     (λ faults names records picture stages turns few second adds.

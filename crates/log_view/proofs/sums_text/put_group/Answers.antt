@@ -17,4 +17,5 @@ returns-clause-text g c =
     (parts (codes "GROUP ") c.bytes.result.now (codes " greens:") (decimal c.greens_of.result) (codes " ended:") (decimal c.args.past.now.ended.greens)
     (greens_text c.args.past.now.ended) (codes " longest_red:") (decimal c.longest_red_of.result) (codes "\n"))
     (then _ _ _ _ _ _ _ _ (then _ _ _ _ _ _ _ _ (then _ _ _ _ _ _ _ _ (then _ _ _ _ _ _ _ _ (then _ _ _ _ _ _ _ _ (then _ _ _ _ _ _ _ _
-    c.put.ensures.text c.put-2.ensures.text) c.put_sum.ensures.text) c.put_sum-2.ensures.text) c.put_greens.ensures.text) c.put_sum-3.ensures.text) c.put-3.ensures.text))
+    c.put.ensures.text c.put-2.ensures.text) c.put_sum.ensures.text) c.put_sum-2.ensures.text) c.put_greens.ensures.text)
+    c.put_sum-3.ensures.text) c.put-3.ensures.text))

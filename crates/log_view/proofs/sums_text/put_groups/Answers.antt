@@ -21,7 +21,8 @@ loop-place-preserved g c =
     let has : n < length c.args.pasts.now = omega (arith, c.loop-place-test.true, c.requires.few, c.told-pasts) in
     record {
       text = joined _ _ _ _ _ _
-          (groups_more c.args.names.now c.args.pasts.now n c.index-names-place.result c.index-pasts-place.result c.loop-place-test.true has c.index-names-place.is)
+          (groups_more c.args.names.now c.args.pasts.now n c.index-names-place.result c.index-pasts-place.result
+          c.loop-place-test.true has c.index-names-place.is)
           (then _ _ _ _ _ _ _ _ i.text c.put_group.ensures.text);
       gone = omega (arith, c.put_group.ensures.gone, i.gone);
       cause = grind (arith, common_steps);
