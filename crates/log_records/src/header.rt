@@ -1,5 +1,5 @@
 // The header of a log.
-ghost use Rattle.std.specs.Prelude.{◌≡◌, ◌<◌, ◌≤◌, IfSome, None, Some, Ok, true, false, IfOk, MatchOption, length};
+ghost use Rattle.std.specs.Prelude.{◌≡◌, ◌≤◌, IfSome, None, Some, Ok, true, false, IfOk, MatchOption, length};
 ghost use Rattle.log_records.specs.Fields.{listed_names, names_in, stands_in, with_name};
 
 use sig_types::text::{is_name, same_name, strip};

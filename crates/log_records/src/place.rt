@@ -1,5 +1,5 @@
 // The stage, or the interstage and its second.
-ghost use Rattle.std.specs.Prelude.{◌≡◌, ◌≤◌};
+ghost use Rattle.std.specs.Prelude.{◌≡◌};
 ghost use Rattle.log_records.specs.Fields.{inter_in, place_in, stage_in};
 
 use sig_types::text::{cut_at, number, strip};

@@ -1,5 +1,5 @@
 // One record of a log.
-ghost use Rattle.std.specs.Prelude.{◌≡◌, ◌≤◌, OnOk, length};
+ghost use Rattle.std.specs.Prelude.{◌≤◌, OnOk, length};
 ghost use Rattle.log_records.specs.Records.{IsEntry, IsReason, record_reason};
 
 use crate::counts::read_counts;
