@@ -1,5 +1,5 @@
 // The head of a diagram: its size, how things look, and what it is of.
-ghost use Rattle.std.specs.Prelude.{◌≡◌, ◌+◌, ◌*◌, ◌^◌, ◌<◌, ◌≤◌, ◌++◌, ℕ, List, Option};
+ghost use Rattle.std.specs.Prelude.{◌+◌, ◌*◌, ◌^◌, ◌<◌, ◌≤◌, ◌++◌, ℕ, List, Option};
 ghost use Rattle.sig_io.specs.Draft.{IsDraft, FailsOnly};
 ghost use Rattle.log_svg.specs.Diagram.{ground_text, head_text, looks_text, open_text, seconds_title, view_text};
 ghost use Rattle.log_svg.specs.Diagram.{amber_pattern, bars_style, half_pattern, interstage_pattern, marks_style, words_style};

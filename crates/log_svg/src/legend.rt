@@ -1,5 +1,5 @@
 // The legend of a diagram.
-ghost use Rattle.std.specs.Prelude.{◌≡◌, ◌+◌, ◌*◌, ◌^◌, ◌<◌, ◌≤◌, ◌++◌, ℕ, List, Option, codes, length};
+ghost use Rattle.std.specs.Prelude.{◌+◌, ◌*◌, ◌^◌, ◌<◌, ◌≤◌, ◌++◌, ℕ, List, Option, codes, length};
 ghost use Rattle.sig_io.specs.Draft.{IsDraft, FailsOnly};
 ghost use Rattle.log_svg.specs.Svg.{box_text, label_text, triangle_text};
 ghost use Rattle.log_svg.specs.Diagram.{aspects_key, fronts_key, key_text, legend_text, marks_key};

@@ -1,5 +1,5 @@
 // The elements of the SVG text. Each call puts one at the end of a draft.
-ghost use Rattle.std.specs.Prelude.{◌≡◌, ◌+◌, ◌*◌, ◌^◌, ◌<◌, ◌≤◌, ◌++◌, ℕ, List, Option, length};
+ghost use Rattle.std.specs.Prelude.{◌+◌, ◌*◌, ◌^◌, ◌<◌, ◌≤◌, ◌++◌, ℕ, List, Option, length};
 ghost use Rattle.std.specs.Fmt.{decimal};
 ghost use Rattle.sig_io.specs.Draft.{IsDraft, FailsOnly};
 ghost use Rattle.log_svg.specs.Svg.{across_text, attribute_text, box_text, cross_text, label_begin, label_text, path_begin, triangle_text, upright_text};
