@@ -5,4 +5,6 @@ pub mod EndsRows
 pub mod PartLines
 pub mod NearSlips
 pub mod StageLines
+pub mod GroupNames
+pub mod GroupLines
 pub mod InterstageLines

@@ -52,7 +52,7 @@ row_more groups now line more = row_by (same_section section.Stages now) (is_row
     (words false line) more
 
 -- a line that gives a stage gives that one, and any other line none
-no_kind : (b : Bool) → (b && false) ≡ true → ⊥
+pub no_kind : (b : Bool) → (b && false) ≡ true → ⊥
 no_kind true e = true≢false (sym e)
 no_kind false e = true≢false (sym e)
 

@@ -12,7 +12,9 @@ mod section;
 mod spot;
 mod words;
 
-pub use laws::{interstage_lines_begin_them, near_is_one_slip, stage_lines_name_stages};
+pub use laws::{
+    group_lines_name_groups, interstage_lines_begin_them, near_is_one_slip, stage_lines_name_stages,
+};
 pub use parts::PlanLines;
 pub use section::{Misspelt, SectionWord, misspelt_sections};
 pub use spot::Spot;
