@@ -2,4 +2,3 @@ mod Arguments
 mod Distinct
 mod Folds
 mod Unassigned
-mod Told
