@@ -1,2 +1,3 @@
 mod Programs
+mod Rests
 pub mod Told

@@ -1,5 +1,5 @@
 -- What is found in all files of a junction.
-use Rattle.std.specs.Prelude.{◌≡◌, ℕ, Bool, true, false, List, [], ◌++◌, map, Option, None, Some, Result, Ok, Err}
+use Rattle.std.specs.Prelude.{◌≡◌, ℕ, Bool, true, false, List, [], ◌++◌, Option, None, Some, Result, Ok, Err}
 use Rattle.std.specs.List.{list_any}
 use Rattle.sig_types.specs.Counts.{Counts}
 use Rattle.sig_io.specs.Outside.{Contents}
@@ -14,7 +14,7 @@ use Rattle.site_check.specs.declared.program.Judged.{Judged}
 use Rattle.site_check.specs.declared.reading.Texts.{Texts}
 use Rattle.site_check.specs.declared.untaken.Untaken.{Untaken}
 use Rattle.site_check.specs.Files.{SiteFiles}
-use Rattle.site_check.specs.Found.{Found, seen, told_of}
+use Rattle.site_check.specs.Found.{told_of}
 use Rattle.site_check.specs.Judged.{AreJudged, IsHeeded, taken_in, text_in}
 use Rattle.site_check.specs.Readings.{AreTextsOf, bytes_in}
 use Rattle.site_check.specs.Warned.{program_part, section_part, site_part}
@@ -25,34 +25,34 @@ frames_in None = None
 frames_in (Some judged) = taken_in judged
 
 -- why the detector file was not taken, where one is named
-unfoldable pub told_of_frames : Option (Result (List Counts) Untaken) → List Found
+unfoldable pub told_of_frames : Option (Result (List Counts) Untaken) → List Finding
 told_of_frames None = []
 told_of_frames (Some judged) = told_of file.Detectors judged
 
 -- why the plan and the tables were not taken, in the order in which a run reads them; and after the PUA file its lines that nearly
 -- begin a section
-unfoldable pub site_refusals : Result (List ℕ) Untaken → SiteJudged → List Found
+unfoldable pub site_refusals : Result (List ℕ) Untaken → SiteJudged → List Finding
 site_refusals pua j =
     told_of file.Pua j.plan ++ (section_part pua ++ (told_of file.Times j.times ++ told_of file.Intergreens j.intergreens))
 
 -- why the program and the detector file were not taken
-unfoldable pub rest_refusals : Result Judged Untaken → Option (Result (List Counts) Untaken) → List Found
+unfoldable pub rest_refusals : Result Judged Untaken → Option (Result (List Counts) Untaken) → List Finding
 rest_refusals program frames = told_of file.Program program ++ told_of_frames frames
 
 -- the warnings of the plan, and those of the program
-unfoldable pub all_warnings : Texts → SiteJudged → Result Judged Untaken → Option (Result (List Counts) Untaken) → List Found
+unfoldable pub all_warnings : Texts → SiteJudged → Result Judged Untaken → Option (Result (List Counts) Untaken) → List Finding
 all_warnings t j program frames =
     site_part (taken_in j.plan) (bytes_in t.pua) (taken_in j.times) (taken_in j.intergreens)
-    ++ program_part (taken_in program) (taken_in j.plan) (frames_in frames)
+    ++ program_part (bytes_in t.program) (taken_in program) (taken_in j.plan) (frames_in frames)
 
 -- what is found in files that were read and judged so: the refusals, and then the warnings
-unfoldable pub found_in : Texts → Judgements → List Found
+unfoldable pub found_in : Texts → Judgements → List Finding
 found_in t j =
     site_refusals (text_in t.pua) j.site ++ (rest_refusals j.program j.frames ++ all_warnings t j.site j.program j.frames)
 
 -- what was found is that, in this order; and what its text needs is kept: the plan where it was taken, and the bytes of the texts
 pub record IsFoundIn (t : Texts) (j : Judgements) (e : Examined) : Type 0 where
-  pub findings : map seen e.findings.items ≡ found_in t j
+  pub findings : e.findings.items ≡ found_in t j
   pub plan : e.plan ≡ taken_in j.site.plan
   pub pua : e.pua.items ≡ bytes_in t.pua
   pub times : e.times.items ≡ bytes_in t.times

@@ -29,7 +29,7 @@ use Rattle.vap_parse.specs.Refusal as parsed
 use Rattle.vap_check.specs.declared.refusal.CheckRefusal.TheVariants as check
 use Rattle.vap_check.specs.Accepted.{Accepted}
 use Rattle.vap_check.specs.Accepted as checked
-use Rattle.vap_check.specs.Numbers.{Meant, checked_of}
+use Rattle.vap_check.specs.Numbers.{checked_of}
 use Rattle.vap_check.specs.Readings.{with_readings}
 use Rattle.site_findings.specs.declared.finding.Refusal.{Refusal}
 use Rattle.site_findings.specs.declared.finding.Refusal.TheVariants as refusal
@@ -124,14 +124,14 @@ abbrev pub IsStoppedAt : List ℕ → ProgramStop → Type 0
 IsStoppedAt text stop.Memory = Unit {0}
 IsStoppedAt text (stop.At spot why) = IsProgramRefusal text spot.line why × (spot ≡ refused_spot text spot.line why)
 
--- the checked program of a text
-abbrev pub IsCheckedText : List ℕ → Meant → Type 0
-IsCheckedText text c = (ts : List Token) × (p : Program) × HasTokens text ts × Accepts ts p
-    × (program_of c.tree ≡ with_readings p) × Accepted (program_of c.tree) × (c ≡ checked_of c.tree)
+-- the tokens of a text, and its checked program
+abbrev pub IsCheckedText : List ℕ → Judged → Type 0
+IsCheckedText text j = (p : Program) × HasTokens text j.tokens × Accepts j.tokens p
+    × (program_of j.checked.tree ≡ with_readings p) × Accepted (program_of j.checked.tree) × (j.checked ≡ checked_of j.checked.tree)
 
--- the checked program of a text, or its refusal
+-- the checked program of a text with its tokens, or its refusal
 abbrev pub IsProgramOf : List ℕ → Result Judged Untaken → Type 0
-IsProgramOf text (Ok judged) = IsCheckedText text judged.checked
+IsProgramOf text (Ok judged) = IsCheckedText text judged
 IsProgramOf text (Err why) = IsRefusedBy IsProgramRefusal text why
 
 -- ---- the detector file

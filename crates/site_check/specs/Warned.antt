@@ -7,22 +7,23 @@ use Rattle.sig_tables.specs.Pairs.{Pairs, between}
 use Rattle.plan_check.specs.declared.warnings.PlanWarning.{PlanWarning}
 use Rattle.plan_check.specs.declared.warnings.PlanWarning.TheVariants.{StageWithoutWay, GroupNeverGreen, InterstageNotClean, LateRedEnd}
 use Rattle.plan_check.specs.Warnings.{plan_warnings, interstage_warnings}
-use Rattle.program_check.specs.declared.warnings.ProgramWarning.{ProgramWarning}
+use Rattle.program_check.specs.declared.warnings.Warned.{Warned}
 use Rattle.program_check.specs.Warnings.{program_warnings}
 use Rattle.pua_lines.specs.declared.section.Misspelt.{Misspelt}
 use Rattle.pua_lines.specs.declared.spot.Spot.{Spot}
 use Rattle.pua_lines.specs.Parts.{group_spot, group_spot_in, interstage_spot, stage_spot}
 use Rattle.pua_lines.specs.Sections.{spelt_in}
 use Rattle.site_findings.specs.declared.finding.FileKind.TheVariants as file
-use Rattle.site_findings.specs.declared.finding.Told.TheVariants.{Warned}
+use Rattle.site_findings.specs.declared.finding.Finding.{Finding}
+use Rattle.site_findings.specs.declared.finding.Told.TheVariants as told
 use Rattle.site_findings.specs.declared.finding.Warning.TheVariants as warning
 use Rattle.site_check.specs.declared.program.Judged.{Judged}
 use Rattle.site_check.specs.declared.untaken.Untaken.{Untaken}
-use Rattle.site_check.specs.Found.{Found}
+use Rattle.site_check.specs.Spots.{warned_spot}
 
 -- a line of the PUA file that nearly begins a section
-abbrev pub of_sections : Misspelt → Found
-of_sections m = record { file = file.Pua; spot = Some m.spot; told = Warned (warning.MisspeltSection m.word) }
+abbrev pub of_sections : Misspelt → Finding
+of_sections m = record { file = file.Pua; spot = m.spot; told = told.Warned (warning.MisspeltSection m.word) }
 
 -- where what a warning of the plan means stands in this text: the row of the stage or the group, the beginning of the interstage,
 -- or the row of the group in it
@@ -33,33 +34,38 @@ plan_spot plan text (InterstageNotClean inter end) = interstage_spot plan text i
 plan_spot plan text (LateRedEnd inter group late) = group_spot_in plan text inter.0 group.0
 
 -- a warning of the plan with this text
-abbrev pub of_plan : PlanOf → List ℕ → PlanWarning → Found
-of_plan plan text w = record { file = file.Pua; spot = Some (plan_spot plan text w); told = Warned (warning.Plan w) }
+abbrev pub of_plan : PlanOf → List ℕ → PlanWarning → Finding
+of_plan plan text w = record { file = file.Pua; spot = plan_spot plan text w; told = told.Warned (warning.Plan w) }
 
--- a warning of the program
-abbrev pub of_program : ℕ × ProgramWarning → Found
-of_program at = record { file = file.Program; spot = None; told = Warned (warning.Program at.1) }
+-- a warning of the program with this text
+abbrev pub of_program : List ℕ → Judged → Warned → Finding
+of_program text program w =
+    record {
+      file = file.Program;
+      spot = warned_spot text program.tokens program.checked.names w;
+      told = told.Warned (warning.Program w.warning);
+    }
 
 -- the lines of a PUA file that nearly begin a section, where it was read
-unfoldable pub section_part : Result (List ℕ) Untaken → List Found
+unfoldable pub section_part : Result (List ℕ) Untaken → List Finding
 section_part (Ok text) = map of_sections (spelt_in text)
 section_part (Err why) = []
 
 -- what the interstages of a plan are worth, where both tables were taken
-unfoldable pub interstage_part : PlanOf → List ℕ → Option (List TimesRow) → Option Pairs → List Found
+unfoldable pub interstage_part : PlanOf → List ℕ → Option (List TimesRow) → Option Pairs → List Finding
 interstage_part plan text None pairs = []
 interstage_part plan text (Some times) None = []
 interstage_part plan text (Some times) (Some pairs) = map (of_plan plan text) (interstage_warnings plan times (between pairs))
 
 -- what the plan lacks, where it was taken, and then what its interstages are worth
-unfoldable pub site_part : Option PlanOf → List ℕ → Option (List TimesRow) → Option Pairs → List Found
+unfoldable pub site_part : Option PlanOf → List ℕ → Option (List TimesRow) → Option Pairs → List Finding
 site_part None text times pairs = []
 site_part (Some plan) text times pairs = map (of_plan plan text) (plan_warnings plan) ++ interstage_part plan text times pairs
 
 -- what the program names and never has, where it was taken
-unfoldable pub program_part : Option Judged → Option PlanOf → Option (List Counts) → List Found
-program_part None plan frames = []
-program_part (Some program) plan frames = map of_program (program_warnings program.checked plan frames)
+unfoldable pub program_part : List ℕ → Option Judged → Option PlanOf → Option (List Counts) → List Finding
+program_part text None plan frames = []
+program_part text (Some program) plan frames = map (of_program text program) (program_warnings program.checked plan frames)
 
 -- tables that were taken are of the plan
 abbrev pub AreOfOnePlan : PlanOf → Option (List TimesRow) → Option Pairs → Type 0

@@ -1,5 +1,11 @@
 // Where the names and the numbers of a program stand in its text.
+ghost use Rattle.std.specs.Prelude.{◌≡◌};
+ghost use Rattle.std.specs.Option.{option_copied};
+ghost use Rattle.program_check.specs.Calls.{constant_value};
+ghost use Rattle.site_check.specs.Spots.{argument_at, argument_spot, begins_call, call_word, command_word, is_name, is_open, is_word, name_spot, reading_word, token_spot, token_value, variable_spot, warned_spot};
+
 use crate::places::spot_at;
+use crate::program::Judged;
 use program_check::{CallKind, Meant, ProgramWarning, Warned};
 use pua_lines::Spot;
 use sig_types::{CommandKind, ReadingKind};
@@ -7,23 +13,19 @@ use vap_ast::{Meaning, Name};
 use vap_check::Checked;
 use vap_lex::{Sign, Token, TokenKind};
 
-/// A program: its text, its tokens and the checked tree.
-#[derive(Drop)]
-pub(crate) struct Source<'a> {
-    pub(crate) text: &'a [u8],
-    pub(crate) tokens: &'a [Token],
-    pub(crate) checked: &'a Checked,
-}
-
 // The word of a command or a reading, in lower case.
-fn word(kind: CallKind) -> &'static [u8] {
+fn word(kind: CallKind) -> &'static [u8]
+    ensures { result.now ≡ call_word kind }
+{
     match kind {
         CallKind::Command(kind) => command_word(kind),
         CallKind::Reading(kind) => reading_word(kind),
     }
 }
 
-fn command_word(kind: CommandKind) -> &'static [u8] {
+fn command_word(kind: CommandKind) -> &'static [u8]
+    ensures { result.now ≡ command_word kind }
+{
     match kind {
         CommandKind::Interstage => b"interstage",
         CommandKind::SgGreen => b"sg_green",
@@ -34,7 +36,9 @@ fn command_word(kind: CommandKind) -> &'static [u8] {
     }
 }
 
-fn reading_word(kind: ReadingKind) -> &'static [u8] {
+fn reading_word(kind: ReadingKind) -> &'static [u8]
+    ensures { result.now ≡ reading_word kind }
+{
     match kind {
         ReadingKind::Detection => b"detection",
         ReadingKind::Occupancy => b"occupancy",
@@ -56,76 +60,133 @@ fn reading_word(kind: ReadingKind) -> &'static [u8] {
     }
 }
 
-fn is_word(token: &Token, bytes: &[u8]) -> bool {
+fn is_word(token: &Token, bytes: &[u8]) -> bool
+    ensures { result ≡ is_word bytes.now token.now.kind }
+{
     match &token.kind {
         TokenKind::Word(name) => name.bytes() == bytes,
         TokenKind::Number(_) | TokenKind::Sign(_) => false,
     }
 }
 
-fn is_sign(token: &Token, wanted: Sign) -> bool {
+fn is_open(token: &Token) -> bool
+    ensures { result ≡ is_open token.now.kind }
+{
     match &token.kind {
-        TokenKind::Sign(sign) => *sign == wanted,
+        TokenKind::Sign(sign) => *sign == Sign::Open,
         TokenKind::Word(_) | TokenKind::Number(_) => false,
     }
 }
 
-// Whether a token is this number or a constant of this value.
-fn is_value(checked: &Checked, token: &Token, value: i32) -> bool {
-    match &token.kind {
-        TokenKind::Number(number) => *number == value,
-        TokenKind::Word(name) => checked.meaning(name) == Some(Meaning::Constant(value)),
-        TokenKind::Sign(_) => false,
+// Whether a token in this line or a later one is this word.
+fn is_name(token: &Token, line: u32, bytes: &[u8]) -> bool
+    ensures { result ≡ is_name line bytes.now token.now }
+{
+    token.line >= line && is_word(token, bytes)
+}
+
+// The value of a name that is a constant.
+fn constant(meaning: Option<Meaning>) -> Option<i32>
+    ensures { result ≡ constant_value meaning }
+{
+    match meaning {
+        Some(Meaning::Constant(value)) => Some(value),
+        Some(Meaning::Variable(_))
+        | Some(Meaning::Array(_))
+        | Some(Meaning::Sub(_))
+        | Some(Meaning::Timer(_))
+        | None => None,
     }
 }
 
-fn spot_of(text: &[u8], token: &Token) -> Spot {
+// The value of a token that is a number or a constant.
+fn token_value(checked: &Checked, token: &Token) -> Option<i32>
+    ensures { result ≡ token_value checked.now.names token.now.kind }
+{
+    match &token.kind {
+        TokenKind::Word(name) => constant(checked.meaning(name)),
+        TokenKind::Number(number) => Some(*number),
+        TokenKind::Sign(_) => None,
+    }
+}
+
+fn spot_of(text: &[u8], token: &Token) -> Spot
+    ensures { result ≡ token_spot text.now token.now.place token.now.line }
+{
     spot_at(text, token.place, token.line)
 }
 
 // Where a name stands first from a line on; that line, where it doesn't.
-fn name_spot(source: &Source<'_>, line: u32, name: &Name) -> Spot {
-    for token in source.tokens {
-        if token.line >= line && is_word(token, name.bytes()) {
-            return spot_of(source.text, token);
+fn name_spot(text: &[u8], tokens: &[Token], line: u32, name: &Name) -> Spot
+    ensures { result ≡ name_spot text.now tokens.now line name.now }
+{
+    for token in tokens {
+        if is_name(token, line, name.bytes()) {
+            return spot_of(text, token);
         }
     }
     Spot::line(line)
 }
 
-// The token of an argument with this value, where the word of the call begins these tokens: the first one, or the second one.
-fn argument<'a>(
-    source: &Source<'a>,
+// Whether these tokens begin in this line or a later one with this word and an opening bracket.
+fn begins_call(tokens: &[Token], line: u32, word: &[u8]) -> bool
+    ensures { result ≡ begins_call line word.now tokens.now }
+{
+    match tokens {
+        [head, bracket, ..] => is_name(head, line, word) && is_open(bracket),
+        [] | [_] => false,
+    }
+}
+
+// The argument at this place of the call that these tokens begin with, where it has this value.
+fn argument_at<'a>(
+    checked: &Checked,
     tokens: &'a [Token],
     line: u32,
-    kind: CallKind,
+    word: &[u8],
     place: usize,
     value: i32,
-) -> Option<&'a Token> {
-    let (head, open, arg) = (tokens.first()?, tokens.get(1)?, tokens.get(place)?);
-    let begins = is_word(head, word(kind)) && is_sign(open, Sign::Open);
-    if head.line >= line && begins && is_value(source.checked, arg, value) {
+) -> Option<&'a Token>
+    ensures { option_copied result ≡ argument_at checked.now.names line word.now place value tokens.now }
+{
+    if !begins_call(tokens, line, word) {
+        return None;
+    }
+    let arg = tokens.get(place)?;
+    if token_value(checked, arg) == Some(value) {
         Some(arg)
     } else {
         None
     }
 }
 
-// Where an argument stands; its line, where it is not found.
-fn argument_spot(source: &Source<'_>, line: u32, kind: CallKind, place: usize, value: i32) -> Spot {
-    for i in 0..source.tokens.len() {
-        let (_, rest) = source.tokens.split_at(i);
-        if let Some(arg) = argument(source, rest, line, kind, place, value) {
-            return spot_of(source.text, arg);
+// Where an argument with this value stands first from a line on; that line, where it doesn't.
+fn argument_spot(
+    text: &[u8],
+    program: &Judged,
+    line: u32,
+    kind: CallKind,
+    place: usize,
+    value: i32,
+) -> Spot
+    ensures { result ≡ argument_spot text.now program.now.tokens program.now.checked.names line kind place value }
+{
+    let tokens = program.tokens.as_slice();
+    for i in 0..tokens.len() {
+        let (_, rest) = tokens.split_at(i);
+        if let Some(arg) = argument_at(&program.checked, rest, line, word(kind), place, value) {
+            return spot_of(text, arg);
         }
     }
     Spot::line(line)
 }
 
-// Where the name of a variable stands.
-fn variable_spot(source: &Source<'_>, line: u32, warning: &ProgramWarning) -> Spot {
+// Where the variable of a warning stands.
+fn variable_spot(text: &[u8], tokens: &[Token], line: u32, warning: &ProgramWarning) -> Spot
+    ensures { result ≡ variable_spot text.now tokens.now line warning.now }
+{
     match warning {
-        ProgramWarning::UnassignedVariable(name) => name_spot(source, line, name),
+        ProgramWarning::UnassignedVariable(name) => name_spot(text, tokens, line, name),
         ProgramWarning::UnknownGroup(_)
         | ProgramWarning::UnknownStage(_)
         | ProgramWarning::UnknownDetector(_)
@@ -134,12 +195,14 @@ fn variable_spot(source: &Source<'_>, line: u32, warning: &ProgramWarning) -> Sp
     }
 }
 
-/// Where what a warning means stands.
-pub(crate) fn warned_spot(source: &Source<'_>, warned: &Warned) -> Spot {
+/// Where in the text of a program what a warning of it means stands.
+pub(crate) fn warned_spot(text: &[u8], program: &Judged, warned: &Warned) -> Spot
+    ensures { result ≡ warned_spot text.now program.now.tokens program.now.checked.names warned.now }
+{
     let line = warned.line;
     match warned.meant {
-        Meant::Variable => variable_spot(source, line, &warned.warning),
-        Meant::First(kind, value) => argument_spot(source, line, kind, 2, value),
-        Meant::Second(kind, value) => argument_spot(source, line, kind, 4, value),
+        Meant::Variable => variable_spot(text, program.tokens.as_slice(), line, &warned.warning),
+        Meant::First(kind, value) => argument_spot(text, program, line, kind, 2, value),
+        Meant::Second(kind, value) => argument_spot(text, program, line, kind, 4, value),
     }
 }

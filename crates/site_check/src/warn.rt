@@ -1,16 +1,14 @@
 // What a run accepts in silence, as findings.
 ghost use Rattle.std.specs.Prelude.{◌≡◌, ◌++◌, ℕ, List, OnOk, IfSome, map};
-ghost use Rattle.site_check.specs.Found.{seen};
 ghost use Rattle.site_check.specs.Judged.{text_in};
 ghost use Rattle.site_check.specs.Readings.{IsWithin, bytes_in};
 ghost use Rattle.pua_model.specs.Plan.{PlanOf};
 ghost use Rattle.pua_lines.specs.Parts.{ArePlacesIn};
-ghost use Rattle.program_check.specs.Warnings.{told as told_of_program};
 ghost use Rattle.site_check.specs.Warned.{AreOfOnePlan, interstage_part, of_plan, of_program, of_sections, plan_spot, program_part, section_part, site_part};
 
 use crate::program::Judged;
 use crate::reading::{Reading, shown};
-use crate::spots::{Source, warned_spot};
+use crate::spots::warned_spot;
 use crate::untaken::tell;
 use det_stream::Frames;
 use plan_check::{PlanWarning, interstage_warnings, plan_warnings};
@@ -23,7 +21,7 @@ use std::alloc::{AllocError, Global};
 
 // Tells the lines that nearly begin a section.
 fn tell_of_sections(found: Vec<Misspelt>, findings: &mut Vec<Finding>) -> Result<(), AllocError>
-    ensures { OnOk result (map seen findings.new.items ≡ map seen findings.old.items ++ map of_sections found.items) }
+    ensures { OnOk result (findings.new.items ≡ findings.old.items ++ map of_sections found.items) }
 {
     for misspelt in found {
         let told = Told::Warned(Warning::MisspeltSection(misspelt.word));
@@ -40,7 +38,7 @@ pub(crate) fn warn_of_sections(
     findings: &mut Vec<Finding>,
 ) -> Result<(), AllocError>
     requires { IsWithin reading.now }
-    ensures { OnOk result (map seen findings.new.items ≡ map seen findings.old.items ++ section_part (text_in reading.now)) }
+    ensures { OnOk result (findings.new.items ≡ findings.old.items ++ section_part (text_in reading.now)) }
 {
     match reading {
         Reading::Whole(text) => tell_of_sections(misspelt_sections(alloc, text)?, findings),
@@ -67,7 +65,7 @@ fn tell_of_plan(
     findings: &mut Vec<Finding>,
 ) -> Result<(), AllocError>
     ensures { (plan : PlanOf) (text : List ℕ) → ArePlacesIn lines.now plan text →
-        OnOk result (map seen findings.new.items ≡ map seen findings.old.items ++ map (of_plan plan text) warnings.items) }
+        OnOk result (findings.new.items ≡ findings.old.items ++ map (of_plan plan text) warnings.items) }
 {
     for warning in warnings {
         let spot = plan_spot(lines, &warning);
@@ -89,7 +87,7 @@ fn warn_of_interstages(
 ) -> Result<(), AllocError>
     requires { AreOfOnePlan plan.now times intergreens }
     ensures { (text : List ℕ) → ArePlacesIn lines.now plan.now text →
-        OnOk result (map seen findings.new.items ≡ map seen findings.old.items ++ interstage_part plan.now text times intergreens) }
+        OnOk result (findings.new.items ≡ findings.old.items ++ interstage_part plan.now text times intergreens) }
 {
     match (times, intergreens) {
         (Some(times), Some(intergreens)) => {
@@ -112,8 +110,7 @@ pub(crate) fn warn_of_site(
 ) -> Result<(), AllocError>
     requires within { IsWithin text.now }
     requires of_plan { IfSome plan.now (λ p. AreOfOnePlan p times intergreens) }
-    ensures { OnOk result
-        (map seen findings.new.items ≡ map seen findings.old.items ++ site_part plan.now (bytes_in text.now) times intergreens) }
+    ensures { OnOk result (findings.new.items ≡ findings.old.items ++ site_part plan.now (bytes_in text.now) times intergreens) }
 {
     let Some(plan) = plan else {
         return Ok(());
@@ -125,14 +122,15 @@ pub(crate) fn warn_of_site(
 
 // Tells warnings of a program.
 fn tell_of_program(
-    source: &Source<'_>,
+    text: &[u8],
+    program: &Judged,
     warnings: Vec<Warned>,
     findings: &mut Vec<Finding>,
 ) -> Result<(), AllocError>
-    ensures { OnOk result (map seen findings.new.items ≡ map seen findings.old.items ++ map of_program (map told_of_program warnings.items)) }
+    ensures { OnOk result (findings.new.items ≡ findings.old.items ++ map (of_program text.now program.now) warnings.items) }
 {
     for warned in warnings {
-        let spot = warned_spot(source, &warned);
+        let spot = warned_spot(text, program, &warned);
         let told = Told::Warned(Warning::Program(warned.warning));
         tell(findings, FileKind::Program, spot, told)?;
     }
@@ -150,16 +148,11 @@ pub(crate) fn warn_of_program(
     findings: &mut Vec<Finding>,
 ) -> Result<(), AllocError>
     ensures { OnOk result
-        (map seen findings.new.items ≡ map seen findings.old.items ++ program_part program.now plan.now frames.now) }
+        (findings.new.items ≡ findings.old.items ++ program_part (bytes_in text.now) program.now plan.now frames.now) }
 {
     let Some(program) = program else {
         return Ok(());
     };
-    let source = Source {
-        text: shown(text),
-        tokens: program.tokens.as_slice(),
-        checked: &program.checked,
-    };
     let warnings = program_warnings(alloc, &program.checked, plan, frames)?;
-    tell_of_program(&source, warnings, findings)
+    tell_of_program(shown(text), program, warnings, findings)
 }

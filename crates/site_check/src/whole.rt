@@ -1,9 +1,8 @@
 // All files of a junction, and what is found in them.
-ghost use Rattle.std.specs.Prelude.{◌≡◌, ◌≤◌, ◌++◌, IfOk, IfSome, OnOk, map};
+ghost use Rattle.std.specs.Prelude.{◌≡◌, ◌≤◌, ◌++◌, IfOk, IfSome, OnOk};
 ghost use Rattle.std.specs.Option.{ForSome};
 ghost use Rattle.site_check.specs.Examined.{IsExamined, IsFoundIn, found_in, frames_in, rest_refusals, site_refusals, told_of_frames};
 ghost use Rattle.site_check.specs.Files.{files_named};
-ghost use Rattle.site_check.specs.Found.{seen};
 ghost use Rattle.site_check.specs.Judged.{AreOfPlan, taken_in, text_in};
 ghost use Rattle.site_check.specs.Taken.{AreTaken};
 ghost use Rattle.site_check.specs.Warned.{AreOfOnePlan, program_part, site_part};
@@ -29,7 +28,7 @@ fn taken_frames(
     findings: &mut Vec<Finding>,
 ) -> Result<Option<Frames>, AllocError>
     ensures value { IfOk result (λ v. v ≡ frames_in judged) }
-    ensures told { OnOk result (map seen findings.new.items ≡ map seen findings.old.items ++ told_of_frames judged) }
+    ensures told { OnOk result (findings.new.items ≡ findings.old.items ++ told_of_frames judged) }
 {
     match judged {
         Some(judged) => taken(judged, FileKind::Detectors, findings),
@@ -56,7 +55,7 @@ fn tell_site(
 ) -> Result<Tables, AllocError>
     requires { IsWithin pua.now }
     ensures tables { IfOk result (AreTaken site) }
-    ensures told { OnOk result (map seen findings.new.items ≡ map seen findings.old.items ++ site_refusals (text_in pua.now) site) }
+    ensures told { OnOk result (findings.new.items ≡ findings.old.items ++ site_refusals (text_in pua.now) site) }
 {
     let SiteJudged {
         plan,
@@ -83,7 +82,7 @@ fn tell_rest(
 ) -> Result<(Option<Judged>, Option<Frames>), AllocError>
     ensures program { IfOk result (λ r. r.0 ≡ taken_in program) }
     ensures frames { IfOk result (λ r. r.1 ≡ frames_in frames) }
-    ensures told { OnOk result (map seen findings.new.items ≡ map seen findings.old.items ++ rest_refusals program frames) }
+    ensures told { OnOk result (findings.new.items ≡ findings.old.items ++ rest_refusals program frames) }
 {
     let program = taken(program, FileKind::Program, findings)?;
     let frames = taken_frames(frames, findings)?;
@@ -103,9 +102,9 @@ fn warn_of_all(
     requires within { AreWithin texts.now }
     requires of_plan { IfSome tables.plan (λ p. AreOfOnePlan p tables.times tables.intergreens) }
     ensures plan { IfOk result (λ plan. plan ≡ tables.plan) }
-    ensures told { OnOk result (map seen findings.new.items ≡ map seen findings.old.items
+    ensures told { OnOk result (findings.new.items ≡ findings.old.items
         ++ (site_part tables.plan (bytes_in texts.now.pua) tables.times tables.intergreens
-        ++ program_part program.now tables.plan frames.now)) }
+        ++ program_part (bytes_in texts.now.program) program.now tables.plan frames.now)) }
 {
     let Tables {
         plan,
@@ -130,10 +129,10 @@ fn tell_and_warn(
     requires within { AreWithin texts.now }
     requires of_plan { IfSome tables.plan (λ p. AreOfOnePlan p tables.times tables.intergreens) }
     ensures plan { IfOk result (λ plan. plan ≡ tables.plan) }
-    ensures told { OnOk result (map seen findings.new.items ≡ map seen findings.old.items
+    ensures told { OnOk result (findings.new.items ≡ findings.old.items
         ++ (rest_refusals program frames
         ++ (site_part tables.plan (bytes_in texts.now.pua) tables.times tables.intergreens
-        ++ program_part (taken_in program) tables.plan (frames_in frames)))) }
+        ++ program_part (bytes_in texts.now.program) (taken_in program) tables.plan (frames_in frames)))) }
 {
     let (program, frames) = tell_rest(program, frames, findings)?;
     warn_of_all(alloc, texts, tables, &program, &frames, findings)
@@ -149,7 +148,7 @@ fn tell_all(
     requires within { AreWithin texts.now }
     requires of_plan { AreOfPlan judged.site }
     ensures plan { IfOk result (λ plan. plan ≡ taken_in judged.site.plan) }
-    ensures told { OnOk result (map seen findings.new.items ≡ map seen findings.old.items ++ found_in texts.now judged) }
+    ensures told { OnOk result (findings.new.items ≡ findings.old.items ++ found_in texts.now judged) }
 {
     let Judgements {
         site,
