@@ -1,3 +1,4 @@
 mod Programs
 mod Rests
 pub mod Told
+pub mod Unread

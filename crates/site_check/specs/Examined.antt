@@ -1,5 +1,5 @@
 -- What is found in all files of a junction.
-use Rattle.std.specs.Prelude.{◌≡◌, ℕ, Bool, true, false, List, [], ◌++◌, Option, None, Some, Result, Ok, Err}
+use Rattle.std.specs.Prelude.{◌≡◌, ℕ, Bool, true, false, List, [], ◌++◌, Option, None, Some, Result}
 use Rattle.std.specs.List.{list_any}
 use Rattle.sig_types.specs.Counts.{Counts}
 use Rattle.sig_io.specs.Outside.{Contents}
@@ -15,7 +15,7 @@ use Rattle.site_check.specs.declared.reading.Texts.{Texts}
 use Rattle.site_check.specs.declared.untaken.Untaken.{Untaken}
 use Rattle.site_check.specs.Files.{SiteFiles}
 use Rattle.site_check.specs.Found.{told_of}
-use Rattle.site_check.specs.Judged.{AreJudged, IsHeeded, taken_in, text_in}
+use Rattle.site_check.specs.Judged.{AreJudged, IsHeeded, shown_of, taken_in, text_in}
 use Rattle.site_check.specs.Readings.{AreTextsOf, bytes_in}
 use Rattle.site_check.specs.Warned.{program_part, section_part, site_part}
 
@@ -67,6 +67,7 @@ pub record IsExamined (names : SiteFiles) (file : Contents) (e : Examined) : Typ
   pub judged_are : AreJudged texts judged
   pub frames_are : IsHeeded names.detectors file judged.frames
   pub found : IsFoundIn texts judged e
+  pub shown : e.detectors.items ≡ shown_of names.detectors file judged.frames
 
 -- a file could not be read
 abbrev pub is_unread_told : Told → Bool

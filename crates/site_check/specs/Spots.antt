@@ -1,5 +1,6 @@
 -- Where in the text of a program a token stands, and where a name or a number does that a warning means.
-use Rattle.std.specs.Prelude.{ℕ, ◌+◌, ◌==◌, ℤ, Bool, true, false, not, ◌||◌, ◌&&◌, if◌then◌else◌, List, [], ◌∷◌, codes, take, drop, max, nat_le, Option, None, Some, filter, filter_map, slice_get}
+use Rattle.std.specs.Prelude.{ℕ, ◌+◌, ◌==◌, max, nat_le, ℤ, Bool, true, false, not, ◌||◌, ◌&&◌, if◌then◌else◌}
+use Rattle.std.specs.Prelude.{List, [], ◌∷◌, codes, take, drop, filter, filter_map, slice_get, Option, None, Some}
 use Rattle.std.specs.List.{prefix_len, suffix_len}
 use Rattle.std.specs.Ordering.{int_eq}
 use Rattle.std.specs.Str.{bytes_eq}

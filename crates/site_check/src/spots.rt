@@ -2,7 +2,8 @@
 ghost use Rattle.std.specs.Prelude.{◌≡◌};
 ghost use Rattle.std.specs.Option.{option_copied};
 ghost use Rattle.program_check.specs.Calls.{constant_value};
-ghost use Rattle.site_check.specs.Spots.{argument_at, argument_spot, begins_call, call_word, command_word, is_name, is_open, is_word, name_spot, reading_word, token_spot, token_value, variable_spot, warned_spot};
+ghost use Rattle.site_check.specs.Spots.{argument_at, begins_call, call_word, command_word, is_name, is_open, is_word, reading_word};
+ghost use Rattle.site_check.specs.Spots.{argument_spot, name_spot, token_spot, token_value, variable_spot, warned_spot};
 
 use crate::places::spot_at;
 use crate::program::Judged;

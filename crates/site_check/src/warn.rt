@@ -4,7 +4,8 @@ ghost use Rattle.site_check.specs.Judged.{text_in};
 ghost use Rattle.site_check.specs.Readings.{IsWithin, bytes_in};
 ghost use Rattle.pua_model.specs.Plan.{PlanOf};
 ghost use Rattle.pua_lines.specs.Parts.{ArePlacesIn};
-ghost use Rattle.site_check.specs.Warned.{AreOfOnePlan, interstage_part, of_plan, of_program, of_sections, plan_spot, program_part, section_part, site_part};
+ghost use Rattle.site_check.specs.Warned.{AreOfOnePlan, interstage_part, program_part, section_part, site_part};
+ghost use Rattle.site_check.specs.Warned.{of_plan, of_program, of_sections, plan_spot};
 
 use crate::program::Judged;
 use crate::reading::{Reading, shown};

@@ -1,7 +1,9 @@
 // All files of a junction, and what is found in them.
-ghost use Rattle.std.specs.Prelude.{◌≡◌, ◌≤◌, ◌++◌, IfOk, IfSome, OnOk};
+ghost use Rattle.std.specs.Prelude.{◌≡◌, ◌≤◌, ◌++◌, true, IfOk, IfSome, OnOk};
 ghost use Rattle.std.specs.Option.{ForSome};
-ghost use Rattle.site_check.specs.Examined.{IsExamined, IsFoundIn, found_in, frames_in, rest_refusals, site_refusals, told_of_frames};
+ghost use Rattle.sig_io.specs.Outside.{Rose};
+ghost use Rattle.site_check.specs.Examined.{IsExamined, IsFoundIn, found_in, frames_in, has_unread_finding};
+ghost use Rattle.site_check.specs.Examined.{rest_refusals, site_refusals, told_of_frames};
 ghost use Rattle.site_check.specs.Files.{files_named};
 ghost use Rattle.site_check.specs.Judged.{AreOfPlan, taken_in, text_in};
 ghost use Rattle.site_check.specs.Taken.{AreTaken};
@@ -168,7 +170,8 @@ fn find(
 ) -> Result<Examined, AllocError>
     requires within { AreWithin texts }
     requires of_plan { AreOfPlan judged.site }
-    ensures { IfOk result (IsFoundIn texts judged) }
+    ensures found { IfOk result (IsFoundIn texts judged) }
+    ensures shown { IfOk result (λ e. e.detectors.items ≡ detectors.items) }
 {
     let mut findings = Vec::new(alloc);
     let plan = tell_all(alloc, &texts, judged, &mut findings)?;
@@ -184,7 +187,7 @@ fn find(
 }
 
 /// Reads and judges all files of a junction in the order PUA, times, intergreens, program, detectors, and finds what a run would
-/// accept in silence. Its one failure is want of memory.
+/// accept in silence. A file is told as not read only where a read has failed. Its one failure is want of memory.
 pub fn examine<F: Files>(
     alloc: Global,
     names: &SiteNames<'_>,
@@ -193,6 +196,7 @@ pub fn examine<F: Files>(
     ensures examined { ForSome (F.told files.old) (λ file. IfOk result (IsExamined (files_named names.now) file)) }
     ensures contents_stay { F.told files.new ≡ F.told files.old }
     ensures later { F.faults files.old ≤ F.faults files.new }
+    ensures cause { IfOk result (λ e. has_unread_finding e.findings.items ≡ true → Rose (F.faults files.old) (F.faults files.new)) }
 {
     let texts = take_texts(alloc, names, files)?;
     let (frames, bytes) = parted(alloc, heed_named(alloc, files, names.detectors)?);
