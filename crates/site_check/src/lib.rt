@@ -17,6 +17,7 @@ mod spots;
 mod status;
 mod top;
 mod untaken;
+mod usage;
 mod warn;
 mod whole;
 
