@@ -49,6 +49,7 @@ THEOREMS = [
      "junction_run", "Answers", ["JunctionAnswers"]),
     ("the whole contract of `live`", "`junction_live::live`", "junction_live", "Answers", ["LiveAnswers"]),
     ("the whole contract of `net`", "`junction_net::net`", "junction_net", "NetAnswers", ["NetAnswers"]),
+    ("the whole contract of `junction_check`", "`site_check::check_junction`", "site_check", "Call", ["IsAnswerTo", "IsNoted"]),
     ("what is found in the files of a junction, as values", "`site_check::examine`", "site_check", "Examined", ["IsExamined"]),
     ("the text of what is found in the files of a junction", "`site_findings::write_findings`", "site_findings", "Text", ["IsFindingsText"]),
     ("what a run's log says is read of it", "`log_view::a_written_log_is_read_whole`", "log_view", "Laws", ["WrittenIsRead", "OnlyWrittenIsRead"]),
