@@ -1,0 +1,10 @@
+pub mod FaultLines
+pub mod CodeLines
+pub mod ProgramLines
+pub mod TextLines
+pub mod LoadedLines
+pub mod TurnRules
+pub mod CommandRules
+pub mod PlanPlaces
+pub mod RunRecords
+pub mod WrittenLogs
