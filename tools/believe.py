@@ -53,6 +53,8 @@ THEOREMS = [
     ("what is found in the files of a junction, as values", "`site_check::examine`", "site_check", "Examined", ["IsExamined"]),
     ("the text of what is found in the files of a junction", "`site_findings::write_findings`", "site_findings", "Text", ["IsFindingsText"]),
     ("what a run's log says is read of it", "`log_view::a_written_log_is_read_whole`", "log_view", "Laws", ["WrittenIsRead", "OnlyWrittenIsRead"]),
+    ("the log of each run is read whole", "`log_laws::run_logs_are_read_whole`", "log_laws", "Laws",
+     ["LoadedRunsAreLogged", "WrittenLogsAreReadWhole"]),
 ]
 
 DEFINITION = re.compile(r"((?:abbrev |unfoldable |pub )*)(record |data )?([^\s(:{]+)(.*)")
