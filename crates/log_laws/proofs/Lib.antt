@@ -8,3 +8,5 @@ pub mod CommandRules
 pub mod PlanPlaces
 pub mod RunRecords
 pub mod WrittenLogs
+pub mod LiveFrames
+pub mod LiveLogs
