@@ -55,6 +55,7 @@ THEOREMS = [
     ("what a run's log says is read of it", "`log_view::a_written_log_is_read_whole`", "log_view", "Laws", ["WrittenIsRead", "OnlyWrittenIsRead"]),
     ("the log of each run is read whole", "`log_laws::run_logs_are_read_whole`", "log_laws", "Laws",
      ["LoadedRunsAreLogged", "WrittenLogsAreReadWhole"]),
+    ("the log of each live run is read whole", "`log_laws::live_logs_are_read_whole`", "log_laws", "LiveLaws", ["LiveLogsAreReadWhole"]),
 ]
 
 DEFINITION = re.compile(r"((?:abbrev |unfoldable |pub )*)(record |data )?([^\s(:{]+)(.*)")
