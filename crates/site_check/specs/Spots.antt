@@ -203,8 +203,8 @@ module _ (text : List ℕ) (tokens : List Token) where
   variable_spot line (warning.MissingInterstage from to) = whole_line line
   variable_spot line (warning.SilentDetector detector) = whole_line line
 
-  -- Where what is meant in a line stands: a variable by its name; a first argument behind the word of its call and the bracket, a
-  -- second one behind a first one that is one word or number, and the comma.
+  -- Where what is meant in a line stands: a variable by its name; a first argument as the second token behind the word of its call,
+  -- and a second one as the fourth, whatever the third is. Where the first argument is more than one token, that is a part of it.
   abbrev pub meant_spot : List Entry → ℕ → ProgramWarning → Meant → Spot
   meant_spot names line w meant.Variable = variable_spot line w
   meant_spot names line w (meant.First kind value) = argument_spot names line kind 2 value
