@@ -61,9 +61,8 @@ fn copy_few(counts: &mut [(u32, u32)], other: &[(u32, u32)])
     ensures first { (p : ℕ) → p < 16 → slice_index_or counts.new p (0, 0) ≡ slice_index_or other.now p (0, 0) }
     ensures rest { (p : ℕ) → 16 ≤ p → slice_index_or counts.new p (0, 0) ≡ slice_index_or counts.old p (0, 0) }
 {
-    for place in 0..FEW {
-        counts[usize::from(place)] = other[usize::from(place)];
-    }
+    let few = usize::from(FEW);
+    counts[..few].copy_from_slice(&other[..few]);
 }
 
 // Copies the places outside which the other one has nothing over cleared ones.
