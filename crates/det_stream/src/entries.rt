@@ -1,5 +1,5 @@
 // The entries of a line.
-ghost use Rattle.std.specs.Prelude.{◌≡◌, ◌<◌, ◌≤◌, ◌-◌, length, Some, None, true, MatchOption, OnOk, IfOk, IfSome, is_some, ◌&&◌, ◌==◌, ◌+◌, ◌*◌, drop, position};
+ghost use Rattle.std.specs.Prelude.{◌≡◌, ◌<◌, ◌≤◌, ◌-◌, length, replicate, Some, None, true, false, MatchOption, OnOk, IfOk, IfSome, is_some, ◌&&◌, ◌==◌, ◌+◌, ◌*◌, drop, position};
 ghost use Rattle.sig_types.specs.Text.{is_digit};
 ghost use Rattle.det_stream.specs.Totals.{HasAtMost, IsSum, RearsWithinFronts};
 ghost use Rattle.det_stream.specs.Entries.{BeginsWith, HasNumbers, HasParts, IsJudged, ends_at, entries_reason, entry_end, field_number, first_entry, frame_of, numbers_of, numbers_why};
@@ -227,9 +227,11 @@ fn next_entry(last: u32, text: &[u8]) -> Result<(Entry, usize), StreamWhy>
     }
 }
 
-/// Reads the entries of a line into a frame, whatever it had before, and adds them to the counts so far; whether no
-/// detector has more rears than fronts in these.
-pub fn read_entries(line: &[u8], totals: &mut Totals, frame: &mut Frame) -> Result<bool, StreamWhy>
+// Reads the entries of a line that isn't empty into a frame without counts, and adds them to the counts so far; whether no
+// detector has more rears than fronts in these.
+fn read_some_entries(line: &[u8], totals: &mut Totals, frame: &mut Frame) -> Result<bool, StreamWhy>
+    requires some { (length line.now == 0) ≡ false }
+    requires clear { frame.old ≡ replicate 64 (0, 0) }
     requires totals { HasAtMost (99 * 604799) totals.old }
     requires within_fronts { RearsWithinFronts totals.old }
     ensures judged { IsJudged (entries_reason line.now) result }
@@ -239,10 +241,6 @@ pub fn read_entries(line: &[u8], totals: &mut Totals, frame: &mut Frame) -> Resu
     ensures sum { OnOk result (IsSum totals.old frame.new totals.new) }
     ensures within_fronts { IfOk result (λ within. within ≡ true → RearsWithinFronts totals.new) }
 {
-    frame.clear();
-    if line.is_empty() {
-        return Ok(true);
-    }
     let mut last = 0;
     let mut rest = line;
     let mut within = true;
@@ -261,4 +259,24 @@ pub fn read_entries(line: &[u8], totals: &mut Totals, frame: &mut Frame) -> Resu
         }
         rest = behind(rest, end);
     }
+}
+
+/// Reads the entries of a line into a frame, whatever it had before, and adds them to the counts so far; whether no
+/// detector has more rears than fronts in these.
+#[inline(always)]
+pub fn read_entries(line: &[u8], totals: &mut Totals, frame: &mut Frame) -> Result<bool, StreamWhy>
+    requires totals { HasAtMost (99 * 604799) totals.old }
+    requires within_fronts { RearsWithinFronts totals.old }
+    ensures judged { IsJudged (entries_reason line.now) result }
+    ensures frame { OnOk result (frame.new ≡ frame_of line.now) }
+    ensures counts { OnOk result (HasAtMost 99 frame.new) }
+    ensures size { OnOk result (length frame.new ≡ 64) }
+    ensures sum { OnOk result (IsSum totals.old frame.new totals.new) }
+    ensures within_fronts { IfOk result (λ within. within ≡ true → RearsWithinFronts totals.new) }
+{
+    frame.clear();
+    if line.is_empty() {
+        return Ok(true);
+    }
+    read_some_entries(line, totals, frame)
 }

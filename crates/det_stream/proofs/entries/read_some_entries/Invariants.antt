@@ -1,7 +1,7 @@
 use Rattle.std.proofs.Common.{◌≡◌, ℕ, length, true}
 use Rattle.det_stream.specs.Totals.{RearsWithinFronts}
 use Rattle.det_stream.proofs.ReadLemmas.{HasEntries, HasSums}
-use Rattle.det_stream.proofs.entries.read_entries.Given as goal
+use Rattle.det_stream.proofs.entries.read_some_entries.Given as goal
 
 abbrev pub invariant-loop-found : goal.invariant-loop-found
 invariant-loop-found l = record {
