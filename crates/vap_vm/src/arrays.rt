@@ -48,6 +48,18 @@ impl Arrays {
         self.rows.len()
     }
 
+    /// The cell of an array at a place from 1; fault Index where there is no such array or no such cell.
+    pub fn cell(&self, a: usize, i: i32) -> Result<i32, FaultKind>
+        ensures { result ≡ cell_at (slice_index_or self.now a [])
+            (cell_place i (length (slice_index_or self.now a []))) }
+    {
+        if a < self.rows.len() {
+            self.read(a, i)
+        } else {
+            read_cell(&[], i)
+        }
+    }
+
     /// The cell of an array at a place from 1.
     pub fn read(&self, a: usize, i: i32) -> Result<i32, FaultKind>
         requires { a < length self.now }

@@ -1,6 +1,6 @@
 // What a pass works on.
 
-ghost use Rattle.std.specs.Prelude.{◌≡◌, [], false, IfOk};
+ghost use Rattle.std.specs.Prelude.{◌≡◌, ◌-◌, ◌≤◌, [], false, IfOk};
 ghost use Rattle.vap_vm.specs.View.{operands_of};
 
 use crate::command_list::CommandList;
@@ -14,12 +14,12 @@ use std::alloc::{AllocError, Global};
 /// What the machine works on.
 #[derive(Drop)]
 pub struct Machine {
-    pub operands: Operands,
-    pub return_places: ReturnPlaces,
-    pub slots: Slots,
-    pub commands: CommandList,
+    pub(crate) operands: Operands,
+    pub(crate) return_places: ReturnPlaces,
+    pub(crate) slots: Slots,
+    pub(crate) commands: CommandList,
     /// Whether a cell of an array was written since the last pass began.
-    pub wrote_cells: bool,
+    pub(crate) wrote_cells: bool,
 }
 
 /// What an instruction comes to.
@@ -55,9 +55,10 @@ impl Machine {
     /// no cell is written yet.
     #[tactic(auto, unfolding(crate::specs::Operands::operands_at))]
     pub fn begin(&mut self, place: usize, units: u32) -> Head
+        requires { units ≤ 10000 }
         ensures place { result.place ≡ place }
         ensures line { result.line ≡ 0 }
-        ensures units { result.units ≡ units }
+        ensures units { result.ticks - 1 ≡ units }
         ensures operands { operands_of result self.new ≡ [] }
         ensures return_places { self.new.return_places ≡ [] }
         ensures commands { self.new.commands ≡ [] }
@@ -70,7 +71,7 @@ impl Machine {
         Head {
             place,
             line: 0,
-            units,
+            ticks: units + 1,
             height: 0,
         }
     }

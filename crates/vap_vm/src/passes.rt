@@ -1,20 +1,22 @@
 // Passes of verified code, one a second.
 
-ghost use Rattle.std.specs.Prelude.{◌≡◌, ◌+◌, ◌<◌, ◌≤◌, length, map, IfOk};
+ghost use Rattle.std.specs.Prelude.{◌≡◌, ◌+◌, ◌<◌, ◌≤◌, ◌++◌, List, length, map, IfOk};
 ghost use Rattle.std.specs.List.{All};
 ghost use Rattle.sig_types.specs.Pass.{World as WorldOf};
-ghost use Rattle.sig_types.specs.Pass.{counted, unit_limit as unit_limit_of, without_commands};
+ghost use Rattle.sig_types.specs.Pass.{cell as cell_of, counted, unit_limit as unit_limit_of, without_commands};
 ghost use Rattle.vap_code.specs.Machine.{machine as machine_of, machine_steps, last_start as last_start_of};
 ghost use Rattle.vap_code.specs.Stores.{first_store};
 ghost use Rattle.vap_vm.specs.Passes.{PassIs, Ready};
+ghost use Rattle.vap_code.specs.Sights.{Sight, machine_sights};
 
 use crate::machine::{Machine, Next};
+use crate::observer::Observer;
 use crate::run::run;
 use crate::slots::{Slots, count_on};
 use crate::steps::Steps;
 use crate::world::World;
 use code_verify::{Verified, valid_code_runs_well};
-use sig_types::{Command, Fault, Memory};
+use sig_types::{Clock, Command, Fault, FaultKind, Memory};
 use std::alloc::{AllocError, Global};
 use std::marker::Model;
 use std::mem;
@@ -83,8 +85,13 @@ impl Vm {
     }
 
     /// One pass: what the code means in this world, from the variables, arrays and timers as they stand. After a
-    /// fault they are as at the call, and no command is listed. Each instruction counts one step.
-    pub fn pass<W: World, L: Ledger>(&mut self, world: &W, steps: &mut Steps<L>) -> PassEnd
+    /// fault they are as at the call, and no command is listed. Each instruction counts one step, and the observer sees it.
+    pub fn pass<W: World, L: Ledger, O: Observer>(
+        &mut self,
+        world: &W,
+        steps: &mut Steps<L>,
+        observer: &mut O,
+    ) -> PassEnd
         requires { (w : WorldOf) × W.means world.now w }
         ensures pass { (w : WorldOf) → W.means world.now w →
             PassIs (without_commands self.old.store)
@@ -92,6 +99,8 @@ impl Vm {
             result self.new.store }
         ensures counted { (w : WorldOf) → W.means world.now w → steps.new ≡
             steps.old + machine_steps self.old.code w (without_commands self.old.store) }
+        ensures seen { (w : WorldOf) → W.means world.now w → (past : List Sight) → O.saw observer.old past →
+            O.saw observer.new (past ++ machine_sights self.old.code w (without_commands self.old.store)) }
         ensures bounded { steps.new ≤ steps.old + 10241024 }
         ensures given { All (W.allows world.now) self.new.store.commands }
         ensures few { length self.new.store.commands ≤ 10000 }
@@ -106,7 +115,15 @@ impl Vm {
         let instrs = code.instrs.as_slice();
         let starts = code.starts.as_slice();
         let mut head = self.machine.begin(last_start(starts), unit_limit());
-        match run(instrs, starts, world, &mut head, &mut self.machine, steps) {
+        match run(
+            instrs,
+            starts,
+            world,
+            &mut head,
+            &mut self.machine,
+            steps,
+            observer,
+        ) {
             Next::End => PassEnd::Done,
             Next::Fault(kind) => {
                 mem::swap(&mut self.machine.slots, &mut self.before);
@@ -118,6 +135,27 @@ impl Vm {
             }
             Next::Following | Next::Jumped => unreachable!(),
         }
+    }
+
+    /// The variables, in the order of their numbers.
+    pub fn variables(&self) -> &[i32]
+        ensures { result.now ≡ self.now.store.variables }
+    {
+        self.machine.slots.variables.as_slice()
+    }
+
+    /// The timers, in the order of their numbers.
+    pub fn timers(&self) -> &[Clock]
+        ensures { result.now ≡ self.now.store.timers }
+    {
+        self.machine.slots.timers.as_slice()
+    }
+
+    /// The cell of an array at a place from 1; fault Index where there is none.
+    pub fn cell(&self, array: u16, place: i32) -> Result<i32, FaultKind>
+        ensures { result ≡ cell_of self.now.store array place }
+    {
+        self.machine.slots.arrays.cell(array as usize, place)
     }
 
     /// The commands of the last pass in order; none after a fault or before the first pass.

@@ -51,6 +51,13 @@ impl ReturnPlaces {
         self.items.pop()
     }
 
+    /// How many places are kept.
+    pub fn count(&self) -> usize
+        ensures { result ≡ length self.now }
+    {
+        self.items.len()
+    }
+
     /// Takes all places away.
     pub fn clear(&mut self)
         ensures { self.new ≡ [] }

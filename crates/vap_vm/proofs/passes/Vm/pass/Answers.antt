@@ -1,10 +1,11 @@
-use Rattle.std.proofs.Common.{◌≡◌, length, map, sym, ap, ◌∙◌, subst, arith, false, inl, inr}
+use Rattle.std.proofs.Common.{◌≡◌, length, map, ◌++◌, sym, ap, ◌∙◌, subst, arith, false, inl, inr}
 use Rattle.sig_types.specs.Pass.{unit_limit, Done, Unfinished}
 use Rattle.vap_code.specs.Machine.{last_start, machine}
 use Rattle.vap_vm.specs.Passes.{Kept}
 use Rattle.vap_vm.specs.Run.{end_of}
+use Rattle.vap_code.specs.Sights.{machine_sights}
 use Rattle.vap_vm.specs.View.{state_of, store_of, SameSizes}
-use Rattle.vap_vm.proofs.PassFacts.{begun_state, start_of, exec_is, steps_is, over_is, room_is, ready_done, few_done, never, ready_fault, restored, step_limit_number}
+use Rattle.vap_vm.proofs.PassFacts.{begun_state, start_of, exec_is, steps_is, sights_is, over_is, room_is, ready_done, few_done, never, ready_fault, restored, step_limit_number}
 use Rattle.vap_vm.proofs.Sizes.{sizes_on, sizes_back}
 use Rattle.vap_vm.proofs.passes.Vm.pass.Goals as goal
 
@@ -186,3 +187,37 @@ returns-in-Fault-clause-bounded g c =
     let r = c.valid_code_runs_well.ensures s.code w (start_of kept) c.code-code.ensures.valid c.self.invariant.0.fits in
     let steps = steps_is kept instrs starts same_instrs same_starts (state_of c.begin-head.result c.begin-head.new.self) begun w in
     omega (arith, steps, c.run.ensures.counted w c.requires.1, r.few, step_limit_number)
+
+pub returns-in-End-clause-seen : goal.returns-in-End-clause-seen
+returns-in-End-clause-seen g c =
+    let s = c.self.inside in
+    let kept : Kept = record { code = s.code; store = store_of s.machine; seconds = s.seconds } in
+    let instrs = c.as_slice-instrs.result.now in
+    let starts = c.as_slice-starts.result.now in
+    let same_instrs = c.as_slice-instrs.ensures.value ∙ ap (λ code. code.instrs) c.code-code.ensures.same in
+    let same_starts = c.as_slice-starts.ensures.value ∙ ap (λ code. code.starts) c.code-code.ensures.same in
+    let begun = begun_state c.begin-head.result c.begin-head.new.self s.machine.slots (last_start s.code.starts) unit_limit
+    (c.begin-head.ensures.place ∙ c.last_start.ensures ∙ ap last_start same_starts) c.begin-head.ensures.line
+    (c.begin-head.ensures.units ∙ c.unit_limit.ensures.same) c.begin-head.ensures.operands c.begin-head.ensures.return_places
+    c.begin-head.ensures.commands c.begin-head.ensures.slots in
+    λ w m past h. subst (λ (k : Kept). g.O.Observer.saw c.run.new.observer (past ++ machine_sights k.code w (start_of k))) c.self.view_is
+    (subst (λ x. g.O.Observer.saw c.run.new.observer (past ++ x))
+    (sights_is kept instrs starts same_instrs same_starts (state_of c.begin-head.result c.begin-head.new.self) begun w)
+    (c.run.ensures.seen w m past h))
+
+pub returns-in-Fault-clause-seen : goal.returns-in-Fault-clause-seen
+returns-in-Fault-clause-seen g c =
+    let s = c.self.inside in
+    let kept : Kept = record { code = s.code; store = store_of s.machine; seconds = s.seconds } in
+    let instrs = c.as_slice-instrs.result.now in
+    let starts = c.as_slice-starts.result.now in
+    let same_instrs = c.as_slice-instrs.ensures.value ∙ ap (λ code. code.instrs) c.code-code.ensures.same in
+    let same_starts = c.as_slice-starts.ensures.value ∙ ap (λ code. code.starts) c.code-code.ensures.same in
+    let begun = begun_state c.begin-head.result c.begin-head.new.self s.machine.slots (last_start s.code.starts) unit_limit
+    (c.begin-head.ensures.place ∙ c.last_start.ensures ∙ ap last_start same_starts) c.begin-head.ensures.line
+    (c.begin-head.ensures.units ∙ c.unit_limit.ensures.same) c.begin-head.ensures.operands c.begin-head.ensures.return_places
+    c.begin-head.ensures.commands c.begin-head.ensures.slots in
+    λ w m past h. subst (λ (k : Kept). g.O.Observer.saw c.run.new.observer (past ++ machine_sights k.code w (start_of k))) c.self.view_is
+    (subst (λ x. g.O.Observer.saw c.run.new.observer (past ++ x))
+    (sights_is kept instrs starts same_instrs same_starts (state_of c.begin-head.result c.begin-head.new.self) begun w)
+    (c.run.ensures.seen w m past h))

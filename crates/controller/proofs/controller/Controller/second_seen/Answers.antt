@@ -1,6 +1,7 @@
 use Rattle.std.proofs.Common.{◌≡◌, ◌∙◌, ℕ, ◌+◌, ◌-◌, List, [], ◌∷◌, ◌++◌, length, sym, ap, subst, arith, length-append}
-use Rattle.sig_types.specs.Pass.{begun, commands_after}
-use Rattle.controller.specs.Controls.{StandsFor, site_of, logic_of, last_record}
+use Rattle.sig_types.specs.Pass.{begun, commands_after, without_commands}
+use Rattle.vap_code.specs.Sights.{machine_sights}
+use Rattle.controller.specs.Controls.{StandsFor, site_of, logic_of, code_of, last_record}
 use Rattle.sig_types.specs.Detectors.{ClearsUntil}
 use Rattle.controller.specs.declared.cycle.Cycle.{Cycle}
 use Rattle.controller.specs.Cycles.{KeepsCycle, cycle_before, last_length, cycles_after}
@@ -17,11 +18,41 @@ use Rattle.controller.specs.Second.{record_after, past_after, orders_after, clea
 use Rattle.actuation.proofs.Sums.{clears_of}
 use Rattle.controller.proofs.Pictures.{last-append, picture_is, guard_is_safe}
 use Rattle.controller.proofs.Seconds.{passed_in}
-use Rattle.controller.proofs.controller.Controller.second.Goals as goal
+use Rattle.controller.proofs.controller.Controller.second_seen.Goals as goal
+
+pub returns-clause-seen : goal.returns-clause-seen
+unfolding StandsFor site_of code_of
+returns-clause-seen g c = λ past s shown saw.
+    let me = c.args.self.now in
+    let frame = c.args.frame.now in
+    let frames = past.frames ++ frame ∷ [] in
+    let stages : StagesStand c.step.new.self me.plan past.orders (length past.frames + 1) = c.step.ensures past.orders (length past.frames) s.stages in
+    let stages_k : StagesStand c.step.new.self me.plan past.orders (next_second past) =
+    subst (λ k. StagesStand c.step.new.self me.plan past.orders k) (sym s.seconds) stages in
+    let standing : Standing me.plan me.guard c.step.new.self c.take.new.self me.cycle past frames = record {
+      guard_stands = s.guard;
+      stages_stand = stages_k;
+      actuation_stands = c.take.ensures past.frames past.clears s.readings;
+      cycle_stands = s.cycles.last ∙ ap (cycle_before past.cycles) (sym s.seconds);
+      seconds = length-append past.frames (frame ∷ []) ∙ sym s.seconds;
+      begun = omega (arith, s.seconds);
+      until = subst (λ n. ClearsUntil past.clears n)
+          (let n : length past.frames ≡ length frames - 1 = omega (arith, length-append past.frames (frame ∷ [])) in n)
+          (clears_of me.actuation past.frames past.clears s.readings);
+    } in
+    let second : me.last.second.0 + 1 ≡ next_second past = ap (λ n. n + 1) s.numbered ∙ sym s.seconds in
+    let w = world_in me.plan past frames in
+    let begins : without_commands c.begin_second.new.self.store ≡ begun past.store =
+    ap without_commands c.begin_second.ensures.store ∙ ap begun s.store in
+    let sights : machine_sights c.begin_second.new.self.code w (without_commands c.begin_second.new.self.store)
+    ≡ machine_sights me.vm.code w (begun past.store)
+    = λ i. machine_sights (c.begin_second.ensures.code i) w (begins i) in
+    subst (λ x. g.O.Observer.saw c.make_pass-end.new.observer (shown ++ x)) sights
+    (c.make_pass-end.ensures.seen past frames standing second shown saw)
 
 pub returns-clause-record : goal.returns-clause-record
 unfolding StandsFor record_after last_record site_of logic_of
-returns-clause-record c = λ past s.
+returns-clause-record g c = λ past s.
     let me = c.args.self.now in
     let frame = c.args.frame.now in
     let frames = past.frames ++ frame ∷ [] in
@@ -60,7 +91,7 @@ returns-clause-record c = λ past s.
       second = record { 0 = second i };
       place = place i;
       picture = picture i;
-      frame = c.copy_from.ensures.counts i;
+      frame = c.keep_frame.ensures i;
       stages = refused i;
       turns = turns i;
       fault = fault i;
@@ -68,7 +99,7 @@ returns-clause-record c = λ past s.
 
 pub returns-clause-stands : goal.returns-clause-stands
 unfolding StandsFor past_after site_of logic_of
-returns-clause-stands c = λ past s.
+returns-clause-stands g c = λ past s.
     let me = c.args.self.now in
     let frame = c.args.frame.now in
     let frames = past.frames ++ frame ∷ [] in
@@ -115,9 +146,9 @@ returns-clause-stands c = λ past s.
       stages = subst (λ k. StagesStand c.obey.new.stages me.plan (orders_after me.plan (next_second past) past.orders (commands_after e)) k) (sym len)
           (subst (λ os. StagesStand c.obey.new.stages me.plan os (next_second past)) orders after);
       readings = readings;
-      cycles = subst (λ (x : List Cycle × ℕ). KeepsCycle c.after-self.result x.0 x.1)
+      cycles = subst (λ (x : List Cycle × ℕ). KeepsCycle c.go_on.new.self x.0 x.1)
           (λ i. (cycles_after (second i) past.cycles ((c.last_length.ensures ∙ ap last_length commands) i), (second ∙ sym len) i))
-          (c.after-self.ensures past.cycles (length past.frames) (ap (λ n. n + 1) (sym s.numbered)) s.cycles);
+          (c.go_on.ensures past.cycles (length past.frames) (ap (λ n. n + 1) (sym s.numbered)) s.cycles);
       store = p.store_is;
       began = c.make_pass-end.ensures.seconds ∙ c.begin_second.ensures.seconds ∙ ap (λ n. n + 1) s.began ∙ sym long;
       seconds = length-append past.history _ ∙ ap (λ n. n + 1) (sym len);
@@ -130,7 +161,7 @@ returns-clause-stands c = λ past s.
 
 pub make_pass-end-requires-clause-stands : goal.make_pass-end-requires-clause-stands
 unfolding StandsFor
-make_pass-end-requires-clause-stands c =
+make_pass-end-requires-clause-stands g c =
     let past = c.requires.0 in
     let s = c.requires.1 in
     let me = c.args.self.now in
@@ -155,6 +186,6 @@ make_pass-end-requires-clause-stands c =
 
 pub make_picture-requires-clause-settled : goal.make_picture-requires-clause-settled
 unfolding StandsFor
-make_picture-requires-clause-settled c = λ stage is.
+make_picture-requires-clause-settled g c = λ stage is.
     let shown = c.requires.1.settled stage is in
     record { numbered = shown.numbered; place = shown.place; picture = shown.picture; wished = shown.wished; shown = shown.shown }
