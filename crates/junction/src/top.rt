@@ -1,6 +1,7 @@
 // The top call.
 ghost use Rattle.std.specs.Prelude.{◌≡◌, true, false, map, string_bytes};
-ghost use Rattle.junction_run.specs.Answers.{JunctionAnswers, seen};
+ghost use Rattle.sig_io.specs.Seen.{seen};
+ghost use Rattle.junction_run.specs.Answers.{JunctionAnswers};
 ghost use Rattle.junction_live.specs.Answers.{LiveAnswers};
 ghost use Rattle.junction_live.specs.Form.{begins_live};
 ghost use Rattle.junction_net.specs.Form.{begins_net};

@@ -13,21 +13,6 @@ watches_more number (s ∷ sights) sight =
     (let same : number + 1 + length sights ≡ number + length (s ∷ sights) = omega arith in same)
     ∙ sym (append_assoc (watch_text number s) (watches_from (number + 1) sights) (watch_text (number + length (s ∷ sights)) sight))
 
--- after a text
-pub line_more : (text : List ℕ) (sights : List Sight) (sight : Sight) (number : ℕ) → number ≡ 1 + length sights →
-    (text ++ watches_from 1 sights) ++ watch_text number sight ≡ text ++ watches_from 1 (sights ++ sight ∷ [])
-line_more text sights sight number is =
-    ap (λ n. (text ++ watches_from 1 sights) ++ watch_text n sight) is
-    ∙ append_assoc text (watches_from 1 sights) (watch_text (1 + length sights) sight)
-    ∙ ap (λ l. text ++ l) (sym (watches_more 1 sights sight))
-
--- a text and the parts of a line after it
-pub parts_put : (t a b c d e f g : List ℕ) →
-    ((((((t ++ a) ++ b) ++ c) ++ d) ++ e) ++ f) ++ g ≡ t ++ ((((((a ++ b) ++ c) ++ d) ++ e) ++ f) ++ g)
-parts_put t a b c d e f g =
-    ap (λ x. ((((x ++ c) ++ d) ++ e) ++ f) ++ g) (append_assoc t a b)
-    ∙ ap (λ x. (((x ++ d) ++ e) ++ f) ++ g) (append_assoc t (a ++ b) c)
-    ∙ ap (λ x. ((x ++ e) ++ f) ++ g) (append_assoc t ((a ++ b) ++ c) d)
-    ∙ ap (λ x. (x ++ f) ++ g) (append_assoc t (((a ++ b) ++ c) ++ d) e)
-    ∙ ap (λ x. x ++ g) (append_assoc t ((((a ++ b) ++ c) ++ d) ++ e) f)
-    ∙ append_assoc t (((((a ++ b) ++ c) ++ d) ++ e) ++ f) g
+pub line_more : (sights : List Sight) (sight : Sight) (number : ℕ) → number ≡ 1 + length sights →
+    watches_from 1 sights ++ watch_text number sight ≡ watches_from 1 (sights ++ sight ∷ [])
+line_more sights sight number is = ap (λ n. watches_from 1 sights ++ watch_text n sight) is ∙ sym (watches_more 1 sights sight)

@@ -3,9 +3,10 @@ use Rattle.std.specs.Prelude.{◌≡◌, ℕ, List, Option, None, Some, false}
 use Rattle.std.specs.Option.{ForSome}
 use Rattle.std.specs.Io.KnownBytes.{append_known}
 use Rattle.sig_io.specs.Outside.{Contents, Rose}
+use Rattle.sig_io.specs.Seen.{Seen}
 use Rattle.junction_run.specs.declared.status.Status.{Status}
 use Rattle.junction_run.specs.declared.status.Status.TheVariants.{Words, ReadFault, WriteFault}
-use Rattle.junction_run.specs.Answers.{Seen, WordsAnswer, may_write}
+use Rattle.junction_run.specs.Answers.{WordsAnswer, may_write}
 use Rattle.junction_run.specs.Notes.{IsNote}
 use Rattle.junction_live.specs.Form.{LiveWords, live_form, files_of}
 use Rattle.junction_live.specs.Answer.{Meets, NoteMeets}

@@ -1,13 +1,13 @@
 -- The cell of a run with watchers, as it is made.
-use Rattle.std.specs.Prelude.{◌≡◌, ◌<◌, ◌≤◌, ℕ, length, Option, None, Some}
+use Rattle.std.specs.Prelude.{◌≡◌, ◌+◌, ◌≤◌, ℕ, length, Option, None, Some}
 use Rattle.picture_cell.specs.Sides.{IsOpening}
 use Rattle.junction_live.specs.declared.cell.WatchedCell.{WatchedCell}
 
--- a cell for pictures of so many groups, with room for more seconds than there are frames; its watchers have not looked
+-- a cell for pictures of so many groups, with room for the second of each frame and the closing one; its watchers have not looked
 pub record IsCellFor (groups frames : ℕ) (w : WatchedCell) : Type 0 where
   pub opening : IsOpening groups (length w.watchers.items) w.cell.seconds w.cell w.publisher w.watchers.items
   pub few : length w.watchers.items ≤ 8
-  pub room : frames < w.cell.seconds
+  pub seconds_are : w.cell.seconds ≡ frames + 1
 
 -- how many watchers a cell has, if there is one
 abbrev pub watchers_in : Option WatchedCell → ℕ

@@ -1,10 +1,10 @@
 -- Laws over the definitions alone.
 use Rattle.std.specs.Prelude.{◌≡◌, ℕ, List, Option, Some, ◌⊎◌, Result}
 use Rattle.sig_io.specs.Outside.{Contents, Rose}
+use Rattle.sig_io.specs.Seen.{Seen}
 use Rattle.junction_run.specs.declared.status.Status.{Status}
 use Rattle.junction_run.specs.declared.status.Status.TheVariants.{Memory}
 use Rattle.sig_types.specs.Counts.{Counts}
-use Rattle.junction_run.specs.Answers.{Seen}
 use Rattle.junction_run.specs.Guarded.{IsGuardedLog}
 use Rattle.junction_run.specs.Loading.{Playing, Unloaded}
 use Rattle.junction_live.specs.Form.{LiveWords}

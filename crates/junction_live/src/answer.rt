@@ -2,11 +2,12 @@
 ghost use Rattle.std.specs.Prelude.{◌≡◌, ◌≤◌, IfOk, IfErr, false, length, map, string_bytes};
 ghost use Rattle.std.specs.Option.{ForSome};
 ghost use Rattle.sig_io.specs.Outside.{Rose};
+ghost use Rattle.sig_io.specs.Seen.{seen};
 ghost use Rattle.sig_types.specs.Counts.{AreFrames};
 ghost use Rattle.pua_model.specs.Plan.{groups_in};
 ghost use Rattle.vap_ast.specs.Syntax.{Program};
 ghost use Rattle.det_stream.specs.Stream.{stream_of};
-ghost use Rattle.junction_run.specs.Answers.{may_write, seen};
+ghost use Rattle.junction_run.specs.Answers.{may_write};
 ghost use Rattle.junction_run.specs.Loading.{program_at};
 ghost use Rattle.junction_run.specs.Sites.{Runs, site_in};
 ghost use Rattle.junction_run.specs.Stop.{status_of as status_of_stop, StopsAt, StopsWith};

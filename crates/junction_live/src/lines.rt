@@ -1,6 +1,6 @@
 // The lines of the watchers.
-ghost use Rattle.std.specs.Prelude.{◌≡◌, ◌+◌, ◌*◌, ◌^◌, ◌<◌, ◌≤◌, ◌++◌, ℕ, List, [], length, Option};
-ghost use Rattle.sig_io.specs.Draft.{IsDraft, FailsOnly};
+ghost use Rattle.std.specs.Prelude.{◌≤◌, List, length};
+ghost use Rattle.sig_io.specs.Draft.{Puts};
 ghost use Rattle.sig_io.specs.Outside.{HasCause};
 ghost use Rattle.picture_cell.specs.Sides.{IsPublisherOf};
 ghost use Rattle.junction_live.specs.Sights.{Sight, AreSights, watch_text, watches_from};
@@ -12,11 +12,8 @@ use signal_log::put_letters;
 
 // Puts the line of the watcher of this number at the end of a draft.
 fn put_watch<O: Sink>(number: u32, seen: &Watched, draft: &mut Draft, sink: &mut O)
-    requires { draft.old.gone < 2 ^ 61 }
-    ensures text { (start : Option (List ℕ)) (text : List ℕ) → IsDraft start (O.taken sink.old) draft.old text →
-        IsDraft start (O.taken sink.new) draft.new (text ++ watch_text number (seen.now.second.0, seen.now.picture)) }
-    ensures gone { draft.new.gone ≤ draft.old.gone + 4096 * 7 }
-    ensures cause { FailsOnly (O.faults sink.old) (O.faults sink.new) draft.old.failed draft.new.failed }
+    ensures { Puts O.taken O.faults draft.old draft.new sink.old sink.new
+        (watch_text number (seen.now.second.0, seen.now.picture)) }
 {
     draft.put(sink, b"WATCH ");
     draft.put_number(sink, number);
@@ -38,12 +35,8 @@ fn put_watches<O: Sink>(
     requires publisher { IsPublisherOf cell.now publisher.old }
     requires watchers { AreWatchersOf cell.now watchers.items }
     requires few { length watchers.items ≤ 8 }
-    requires nothing_gone { draft.old.gone ≡ 0 }
-    ensures text { (sights : List Sight) × AreSights (length watchers.items) publisher.old.entries sights
-        × ((start : Option (List ℕ)) (text : List ℕ) → IsDraft start (O.taken sink.old) draft.old text →
-        IsDraft start (O.taken sink.new) draft.new (text ++ watches_from 1 sights)) }
-    ensures room { draft.new.gone < 2 ^ 60 }
-    ensures cause { FailsOnly (O.faults sink.old) (O.faults sink.new) draft.old.failed draft.new.failed }
+    ensures { (sights : List Sight) × AreSights (length watchers.items) publisher.old.entries sights
+        × Puts O.taken O.faults draft.old draft.new sink.old sink.new (watches_from 1 sights) }
 {
     let mut number = 0u32;
     for watcher in watchers {

@@ -1,5 +1,5 @@
 // The controller's side.
-ghost use Rattle.std.specs.Prelude.{◌≡◌, ◌<◌, ◌≤◌, ◌^◌, ℕ, [], slice_index_or};
+ghost use Rattle.std.specs.Prelude.{◌≡◌, ◌≤◌, ℕ, [], slice_index_or};
 ghost use Rattle.sig_io.specs.Draft.{FailsOnly};
 ghost use Rattle.sig_io.specs.Outside.{Rose};
 ghost use Rattle.controller.specs.Controls.{site_of, logic_of};
@@ -26,11 +26,9 @@ fn put_seconds<O: Sink, G: Gate>(
     requires none_made { HasMadeNone controller.old }
     requires unread { (w : ℕ) → slice_index_or tick.old.loads w [] ≡ [] }
     requires at_most { seconds ≤ 604800 }
-    requires nothing_gone { draft.old.gone ≡ 0 }
     ensures table { tick.new.table ≡ tick.old.table }
     ensures put { SecondsPut seconds controller.old controller.new tick.new draft.old draft.new
         (O.taken out.old) (O.taken out.new) }
-    ensures room { draft.new.gone < 2 ^ 60 }
     ensures site { site_of controller.new ≡ site_of controller.old }
     ensures logic { logic_of controller.new ≡ logic_of controller.old }
     ensures cause { FailsOnly (O.faults out.old) (O.faults out.new) draft.old.failed draft.new.failed }

@@ -5,13 +5,14 @@ use Rattle.std.specs.Prelude.{All}
 use Rattle.std.specs.Io.KnownBytes.{append_known}
 use Rattle.sig_io.specs.Memory.{contents_of}
 use Rattle.sig_io.specs.Outside.{Contents, Rose}
+use Rattle.sig_io.specs.Seen.{seen}
 use Rattle.det_stream.specs.declared.refusal.StreamWhy.{StreamWhy}
 use Rattle.det_stream.specs.Stream.{stream_of}
 use Rattle.junction_run.specs.declared.status.Status.{Status}
 use Rattle.junction_run.specs.declared.status.Status.TheVariants.{Done, Memory, Words, ReadFault, WriteFault, RefusedFile, RefusedLine}
 use Rattle.junction_run.specs.declared.status.Status.TheVariants as status
 use Rattle.junction_run.specs.Answer.{Meets, answer_to, answered, log_answer, GainedBy, stream_status, stream_note}
-use Rattle.junction_run.specs.Answers.{FormAnswer, JunctionAnswers, seen}
+use Rattle.junction_run.specs.Answers.{FormAnswer, JunctionAnswers}
 use Rattle.junction_run.specs.Form.{SiteWords, ProgramFile, files_of}
 use Rattle.junction_run.specs.Laws.{LoadsOnce}
 use Rattle.junction_run.specs.Loading.{Unloaded, Playing, Loads, site_of, AfterSite, IsSource, played_at}

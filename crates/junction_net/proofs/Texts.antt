@@ -78,8 +78,7 @@ text_cut start now next jobs k n job low here taken cut =
     let front : List ℕ = text_from 1 (map result_of (take k jobs)) in
     let piece : List ℕ = job_text (k + 1) (result_of job) in
     let rest : List ℕ = text_from (k + 2) (map result_of (drop (suc k) jobs)) in
-    let here_cut = cut_off start now next (length front) piece n (front ++ piece)
-    (record { front = front; whole = refl; count = refl; taken = taken }) cut.some cut.taken in (
+    let here_cut = cut_off start now next front piece n (front ++ piece) refl taken cut.some cut.taken in (
       length front + n,
       subst (λ text. IsCut start next (length front + n) text) (sym (split_text jobs k job low here))
           (cut_more start next (length front + n) (front ++ piece) rest here_cut),

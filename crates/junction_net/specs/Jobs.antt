@@ -1,9 +1,10 @@
 -- The runs of the junctions of a list.
 use Rattle.std.specs.Prelude.{◌≡◌, ◌<◌, ℕ, List, Some, [], ◌∷◌, length, map, codes, string_bytes, slice_index_or}
 use Rattle.sig_io.specs.Memory.{contents_of}
+use Rattle.sig_io.specs.Seen.{seen}
 use Rattle.junction_run.specs.declared.status.Status.{Status}
 use Rattle.junction_run.specs.declared.status.Status.TheVariants as status
-use Rattle.junction_run.specs.Answers.{JunctionAnswers, seen}
+use Rattle.junction_run.specs.Answers.{JunctionAnswers}
 use Rattle.junction_net.specs.declared.jobs.Job.{Job}
 use Rattle.junction_net.specs.List.{JobWords}
 use Rattle.junction_net.specs.Results.{JobResult}

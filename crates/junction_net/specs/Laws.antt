@@ -2,10 +2,10 @@
 use Rattle.std.specs.Prelude.{◌≡◌, ◌⊎◌, ℕ, List, Some, Result, Ok, Err}
 use Rattle.std.specs.List.{AllByRecursion}
 use Rattle.sig_io.specs.Outside.{Contents, Rose}
+use Rattle.sig_io.specs.Seen.{Seen}
 use Rattle.junction_run.specs.declared.status.Status.{Status}
 use Rattle.junction_run.specs.declared.status.Status.TheVariants.{Done, Memory}
 use Rattle.junction_run.specs.Answer.{unloaded_answer}
-use Rattle.junction_run.specs.Answers.{Seen}
 use Rattle.junction_run.specs.Loading.{Unloaded}
 use Rattle.junction_net.specs.Jobs.{IsEnd}
 use Rattle.junction_net.specs.List.{JobWords}

@@ -3,9 +3,10 @@ use Rattle.std.specs.Prelude.{◌≡◌, ℕ, List, Option, None, Some, false}
 use Rattle.std.specs.Option.{ForSome}
 use Rattle.std.specs.Io.KnownBytes.{append_known}
 use Rattle.sig_io.specs.Outside.{Contents, Rose}
+use Rattle.sig_io.specs.Seen.{Seen}
 use Rattle.junction_run.specs.declared.status.Status.{Status}
 use Rattle.junction_run.specs.declared.status.Status.TheVariants.{Words, ReadFault, WriteFault, RefusedLine}
-use Rattle.junction_run.specs.Answers.{Seen, WordsAnswer, may_write}
+use Rattle.junction_run.specs.Answers.{WordsAnswer, may_write}
 use Rattle.junction_net.specs.Form.{net_form}
 use Rattle.junction_net.specs.Net.{Meets, IsNetNote, NoteMeets}
 

@@ -3,7 +3,8 @@ ghost use Rattle.std.specs.Prelude.{◌≡◌, ◌≤◌, Err, Ok, IfErr, IfOk, 
 ghost use Rattle.std.specs.Option.{ForSome};
 ghost use Rattle.std.specs.Io.KnownBytes.{append_known};
 ghost use Rattle.sig_io.specs.Outside.{Rose};
-ghost use Rattle.junction_run.specs.Answers.{may_write, seen};
+ghost use Rattle.sig_io.specs.Seen.{seen};
+ghost use Rattle.junction_run.specs.Answers.{may_write};
 ghost use Rattle.junction_run.specs.declared.status.Status.TheVariants as status;
 ghost use Rattle.junction_net.specs.Jobs.{result_of};
 ghost use Rattle.junction_net.specs.Load.{ReachedIn, files_of_jobs};

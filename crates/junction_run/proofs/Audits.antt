@@ -125,23 +125,17 @@ inters_text-more plan i (e ∷ es) end =
     ap (λ t. inter_text plan i e ++ t) (inters_text-more plan (i + 1) es end ∙ ap (λ k. inters_text plan (i + 1) es ++ inter_text plan k end) same)
     ∙ sym (append_assoc (inter_text plan i e) (inters_text plan (i + 1) es) (inter_text plan last end))
 
--- the same after a text
-pub more_lines : (plan : PlanOf) (n : ℕ) (ends : List InterEnd) (end : InterEnd) (text : List ℕ) → length ends ≡ n →
-    (text ++ inters_text plan 0 ends) ++ inter_text plan n end ≡ text ++ inters_text plan 0 (ends ++ end ∷ [])
-more_lines plan n ends end text count =
+pub more_lines : (plan : PlanOf) (n : ℕ) (ends : List InterEnd) (end : InterEnd) → length ends ≡ n →
+    inters_text plan 0 ends ++ inter_text plan n end ≡ inters_text plan 0 (ends ++ end ∷ [])
+more_lines plan n ends end count =
     let last : n ≡ 0 + length ends = omega (arith, count) in
-    let more : inters_text plan 0 ends ++ inter_text plan n end ≡ inters_text plan 0 (ends ++ end ∷ [])
-    = ap (λ k. inters_text plan 0 ends ++ inter_text plan k end) last ∙ sym (inters_text-more plan 0 ends end) in
-    append_assoc text (inters_text plan 0 ends) (inter_text plan n end) ∙ ap (λ t. text ++ t) more
+    ap (λ k. inters_text plan 0 ends ++ inter_text plan k end) last ∙ sym (inters_text-more plan 0 ends end)
 
 -- the line of an interstage, in its pieces
-pub inter_is : (plan : PlanOf) (i : ℕ) (end : InterEnd) (text : List ℕ) (from to : ℕ) → from ≡ (interstage_at plan i).from → to ≡ (interstage_at plan i).to →
-    ((text ++ (codes "INTER " ++ decimal from ++ codes "-" ++ decimal to ++ codes " ")) ++ end_text plan.names end) ++ codes "\n" ≡ text ++
-    inter_text plan i end
-inter_is plan i end text from to first last =
-    let stages : List ℕ = codes "INTER " ++ decimal from ++ codes "-" ++ decimal to ++ codes " " in
-    ap (λ t. t ++ codes "\n") (append_assoc text stages (end_text plan.names end)) ∙ append_assoc text (stages ++ end_text plan.names end) (codes "\n")
-    ∙ (λ j. text ++ (codes "INTER " ++ decimal (first j) ++ codes "-" ++ decimal (last j) ++ codes " " ++ end_text plan.names end ++ codes "\n"))
+pub inter_is : (plan : PlanOf) (i : ℕ) (end : InterEnd) (from to : ℕ) → from ≡ (interstage_at plan i).from → to ≡ (interstage_at plan i).to →
+    codes "INTER " ++ decimal from ++ codes "-" ++ decimal to ++ codes " " ++ end_text plan.names end ++ codes "\n" ≡ inter_text plan i end
+inter_is plan i end from to first last =
+    λ j. codes "INTER " ++ decimal (first j) ++ codes "-" ++ decimal (last j) ++ codes " " ++ end_text plan.names end ++ codes "\n"
 
 -- ---- the verdict
 

@@ -27,10 +27,11 @@ use Rattle.std.proofs.Common.{
 }
 use Rattle.std.proofs.lemmas.List.{append-nil}
 use Rattle.std.proofs.lemmas.List.Elements.{Contains-append_left}
-use Rattle.std.specs.Prelude.{Contains, IfErr, Bool, IsTrue, true, false, MatchBool}
+use Rattle.std.specs.Prelude.{Contains, IfErr, OnErr, Bool, IsTrue, true, false, MatchBool}
 use Rattle.std.specs.Io.KnownBytes.{append_known}
 use Rattle.sig_io.specs.Outside.{Contents, Rose}
-use Rattle.sig_io.specs.Draft.{IsCut, IsWhole, IsDraft, Held, FailsOnly}
+use Rattle.sig_io.specs.Draft.{IsCut, IsCutAt, IsWhole, IsDraft, Held, FailsOnly}
+use Rattle.sig_io.specs.declared.whole.PutFault.{PutFault}
 use Rattle.sig_io.proofs.Drafts.{cut_more}
 use Rattle.sig_types.specs.Counts.{Counts}
 use Rattle.det_stream.specs.Stream.{Stream, stream_of}
@@ -286,9 +287,17 @@ played_alike p q name stream (Err (Play stop)) old new same is = was_alike p q n
 -- ---- the draft of a log
 
 -- a draft that failed was cut
-pub is_cut : (start now : Option (List ℕ)) (draft : Held) (text : List ℕ) → draft.failed ≡ true → IsDraft start now draft text → IsCut start now draft.gone text
+pub is_cut : (start now : Option (List ℕ)) (draft : Held) (text : List ℕ) → draft.failed ≡ true → IsDraft start now draft text →
+    (n : ℕ) × IsCut start now n text
 is_cut start now draft text failed is =
-    subst (λ b. MatchBool b (IsCut start now draft.gone text) (IsWhole start now draft.gone draft.bytes text)) failed is
+    let at = subst (λ b. MatchBool b (IsCutAt start now draft.gone text) (IsWhole start now draft.gone draft.bytes text)) failed is in
+    (at.n, at.cut)
+
+-- a text that was not taken whole was cut
+pub some_cut : (r : Result (Unit {0}) PutFault) (start now : Option (List ℕ)) (text : List ℕ) → IfErr r (λ f. IsCutAt start now f.taken text) →
+    OnErr r ((n : ℕ) × IsCut start now n text)
+some_cut (Ok u) start now text is = tt
+some_cut (Err f) start now text is = (is.n, is.cut)
 
 -- what was finished was written
 pub written_so : {A : Type 0} (r : Result A PlayStop) (name : List ℕ) (failed : Bool) (log : List ℕ) (old new : Option (List ℕ)) →

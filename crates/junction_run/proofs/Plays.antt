@@ -1,8 +1,9 @@
 -- A detector file that is being played.
 use Rattle.std.proofs.Common.{◌≡◌, ◌∙◌, ℕ, List, [], ◌∷◌, ◌++◌, Option, refl, sym, ap, subst}
 use Rattle.std.specs.Option.{ForSome}
+use Rattle.std.proofs.lemmas.List.{append-nil}
 use Rattle.sig_io.specs.Outside.{Contents}
-use Rattle.sig_io.specs.Draft.{Held, IsDraft}
+use Rattle.sig_io.specs.Draft.{Held, IsDraft, Puts}
 use Rattle.sig_types.specs.Counts.{Counts, Takes}
 use Rattle.sig_types.specs.Pass.{Store}
 use Rattle.sig_types.specs.declared.record.Record.{Record}
@@ -58,11 +59,10 @@ pub takes_next : (p : Playing) (frames : List Counts) (f : Counts) → Takes fra
 takes_next p frames f takes = subst (λ fs. Takes fs f) (sym (frames_at p.logic p.site (opening p.site p.store) frames)) takes
 
 -- what was held has gone, and no second was made
-pub sent : {start now : Controller} {lines : Lines} {told : Option Contents} {name : List ℕ} {old mid new : Option (List ℕ)} {first held later : Held} →
-    Underway start now lines told name old mid first held →
-    ((begin : Option (List ℕ)) (text : List ℕ) → IsDraft begin mid held text → IsDraft begin new later text) →
-    Underway start now lines told name old new first later
-sent {start} u goes = record {
+pub sent : {O : Type 0} {taken : O → Option (List ℕ)} {faults : O → ℕ} {out sunk : O} {start now : Controller} {lines : Lines} {told : Option Contents}
+    {name : List ℕ} {old : Option (List ℕ)} {first held later : Held} → Puts taken faults held later out sunk [] →
+    Underway start now lines told name old (taken out) first held → Underway start now lines told name old (taken sunk) first later
+sent {taken = taken} {sunk = sunk} {start = start} {later = later} puts u = record {
   frames = u.frames;
   gave = u.gave;
   reads = u.reads;
@@ -70,7 +70,9 @@ sent {start} u goes = record {
   logic_is = u.logic_is;
   plan = u.plan;
   stands = u.stands;
-  put = λ store begin s d. goes begin (log_of (playing_of start store) u.frames) (u.put store begin s d);
+  put = λ store begin s d.
+      let log : List ℕ = log_of (playing_of start store) u.frames in
+      subst (λ t. IsDraft begin (taken sunk) later t) (append-nil log) (puts.text begin log (u.put store begin s d));
 }
 
 -- one second more

@@ -3,23 +3,13 @@ use Rattle.std.specs.Prelude.{◌≡◌, ℕ, Bool, true, false, List, Option, N
 use Rattle.std.specs.Option.{ForSome}
 use Rattle.std.specs.Io.KnownBytes.{append_known}
 use Rattle.sig_io.specs.Outside.{Contents, Rose}
+use Rattle.sig_io.specs.Seen.{Seen}
 use Rattle.junction_run.specs.declared.status.Status.{Status}
 use Rattle.junction_run.specs.declared.status.Status.TheVariants.{Done, Memory, Words, ReadFault, WriteFault, RefusedFile, RefusedLine, TooLong}
 use Rattle.junction_run.specs.Form.{Form, form_of, files_of, reads_lines, writes_lines}
 use Rattle.junction_run.specs.Answer.{Meets, note_of}
 use Rattle.junction_run.specs.Guarded.{IsSafe}
 use Rattle.junction_run.specs.Notes.{IsNote, NoteMeets}
-
--- what an object of the outside tells, and its count of faults, before a call and after it
-pub record Seen (T : Type 0) : Type 0 where
-  pub old : Option T
-  pub new : Option T
-  pub before : ℕ
-  pub after : ℕ
-
--- what was told, and counted, before a call and after it
-abbrev pub seen : {T : Type 0} → (old new : Option T) → (before after : ℕ) → Seen T
-seen old new before after = record { old = old; new = new; before = before; after = after }
 
 -- whether out may have gained anything with this status, where what is made of a line is written before the next is read, or not
 abbrev pub may_write : Bool → Status → Bool

@@ -1,6 +1,7 @@
 -- Laws over the definitions alone.
 use Rattle.std.specs.Prelude.{◌≡◌, List, ℕ, Option, Some, IfSome, Result, Ok, ◌⊎◌}
 use Rattle.sig_io.specs.Outside.{Contents, Rose}
+use Rattle.sig_io.specs.Seen.{Seen}
 use Rattle.sig_types.specs.Counts.{Counts}
 use Rattle.controller.specs.Guarded.{IsGuardedRun}
 use Rattle.controller.specs.Past.{Site}
@@ -13,7 +14,7 @@ use Rattle.junction_run.specs.Loading.{Unloaded, Refusal, Loaded, Loads, Logged,
 use Rattle.junction_run.specs.Programs.{ProgramIs}
 use Rattle.vap_ast.specs.Syntax.{Program}
 use Rattle.junction_run.specs.Answer.{answer_to, Meets}
-use Rattle.junction_run.specs.Answers.{Seen, FormAnswer}
+use Rattle.junction_run.specs.Answers.{FormAnswer}
 
 -- files give one thing
 abbrev pub LoadsOnce : Type 0

@@ -1,7 +1,7 @@
 -- Why a text is refused, as a note tells it.
-use Rattle.std.specs.Prelude.{ℕ, List, [], ◌++◌, codes, slice_index_or}
+use Rattle.std.specs.Prelude.{ℕ, List, ◌++◌, codes}
 use Rattle.std.specs.Fmt.{decimal}
-use Rattle.sig_types.specs.declared.numbers.GroupNo.{GroupNo}
+use Rattle.pua_model.specs.Plan.{name_of}
 use Rattle.pua_reader.specs.declared.refusal.PuaWhy.{PuaWhy}
 use Rattle.pua_reader.specs.declared.refusal.PuaWhy.TheVariants as pua
 use Rattle.sig_tables.specs.declared.refusal.TableWhy.{TableWhy}
@@ -40,10 +40,6 @@ plan_reason pua.NoStart = codes "NoStart"
 plan_reason pua.PairTwice = codes "PairTwice"
 plan_reason (pua.Inconsistent inter group name) = codes "Inconsistent " ++ decimal inter ++ codes " " ++ name
 plan_reason pua.Limit = codes "Limit"
-
--- the name of a group; no bytes where there is no such group
-abbrev pub name_of : List (List ℕ) → GroupNo → List ℕ
-name_of names group = slice_index_or names group.0 []
 
 -- the reason of a refused table, with the names of the groups that it speaks of
 abbrev pub table_reason : List (List ℕ) → TableWhy → List ℕ

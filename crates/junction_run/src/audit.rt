@@ -1,5 +1,5 @@
 // The command that judges a log.
-ghost use Rattle.std.specs.Prelude.{◌≡◌, ◌≤◌, ◌^◌, ◌∷◌, ℕ, [], List, true, false, IfOk, IfErr, OnOk, length};
+ghost use Rattle.std.specs.Prelude.{◌≡◌, ◌≤◌, ◌^◌, ◌∷◌, ℕ, [], List, true, false, IfOk, IfErr, OnErr, OnOk, length};
 ghost use Rattle.std.specs.Option.{ForSome};
 ghost use Rattle.std.specs.Io.KnownBytes.{append_known};
 ghost use Rattle.sig_io.specs.Draft.{IsCut};
@@ -80,7 +80,7 @@ fn write_audit<O: Sink>(
     requires one_plan { (rules guard.old).count ≡ groups_in plan.now }
     ensures written { (ends : List InterEnd) × AreEnds plan.now (rules guard.old) (length plan.now.interstages) ends
         × OnOk result (O.taken out.new ≡ append_known (O.taken out.old) (judged_text plan.now verdict ends))
-        × IfErr result (λ f. IsCut (O.taken out.old) (O.taken out.new) f.taken (judged_text plan.now verdict ends)) }
+        × OnErr result ((n : ℕ) × IsCut (O.taken out.old) (O.taken out.new) n (judged_text plan.now verdict ends)) }
     ensures cause { HasCause (O.faults out.old) (O.faults out.new) result }
 {
     let mut draft = Draft::new();

@@ -1,7 +1,7 @@
 // The text of what is judged of a log.
 ghost use Rattle.std.specs.Prelude.{◌≡◌, ◌<◌, ◌≤◌, ◌+◌, ◌*◌, ◌^◌, ◌++◌, ℕ, List, Option, IfSome, codes, length};
 ghost use Rattle.std.specs.Fmt.{decimal};
-ghost use Rattle.sig_io.specs.Draft.{IsDraft, FailsOnly};
+ghost use Rattle.sig_io.specs.Draft.{Puts};
 ghost use Rattle.sig_types.specs.Recorded.{IsTurn};
 ghost use Rattle.sig_types.specs.declared.refused.TurnRefusal.{TurnRefusal};
 ghost use Rattle.pua_model.specs.Plan.{groups_in};
@@ -21,24 +21,16 @@ use signal_log::{put_turn, rule_name};
 
 // Puts the name of a group.
 fn put_name<O: Sink>(draft: &mut Draft, sink: &mut O, plan: &Plan, g: GroupNo)
-    requires group { g.0 < groups_in plan.now }
-    requires room { draft.old.gone < 2 ^ 60 }
-    ensures text { (start : Option (List ℕ)) (text : List ℕ) → IsDraft start (O.taken sink.old) draft.old text →
-        IsDraft start (O.taken sink.new) draft.new (text ++ name_of plan.now.names g) }
-    ensures gone { draft.new.gone ≤ draft.old.gone + 4096 }
-    ensures cause { FailsOnly (O.faults sink.old) (O.faults sink.new) draft.old.failed draft.new.failed }
+    requires { g.0 < groups_in plan.now }
+    ensures { Puts O.taken O.faults draft.old draft.new sink.old sink.new (name_of plan.now.names g) }
 {
     draft.put(sink, plan.group_name(g).as_bytes());
 }
 
 // Puts the name of the other group after a space, where there is one.
 fn put_other<O: Sink>(draft: &mut Draft, sink: &mut O, plan: &Plan, other: Option<GroupNo>)
-    requires group { IfSome other (λ g. g.0 < groups_in plan.now) }
-    requires room { draft.old.gone < 2 ^ 59 }
-    ensures text { (start : Option (List ℕ)) (text : List ℕ) → IsDraft start (O.taken sink.old) draft.old text →
-        IsDraft start (O.taken sink.new) draft.new (text ++ other_name plan.now.names other) }
-    ensures gone { draft.new.gone ≤ draft.old.gone + 4096 * 2 }
-    ensures cause { FailsOnly (O.faults sink.old) (O.faults sink.new) draft.old.failed draft.new.failed }
+    requires { IfSome other (λ g. g.0 < groups_in plan.now) }
+    ensures { Puts O.taken O.faults draft.old draft.new sink.old sink.new (other_name plan.now.names other) }
 {
     match other {
         None => {}
@@ -51,12 +43,8 @@ fn put_other<O: Sink>(draft: &mut Draft, sink: &mut O, plan: &Plan, other: Optio
 
 // Puts the second and the rule of a breach.
 fn put_breach<O: Sink>(draft: &mut Draft, sink: &mut O, second: u32, rule: Rule)
-    requires { draft.old.gone < 2 ^ 59 }
-    ensures text { (start : Option (List ℕ)) (text : List ℕ) → IsDraft start (O.taken sink.old) draft.old text →
-        IsDraft start (O.taken sink.new) draft.new
-        (text ++ (codes "BROKEN " ++ decimal second ++ codes " " ++ rule_name rule ++ codes " ")) }
-    ensures gone { draft.new.gone ≤ draft.old.gone + 4096 * 5 }
-    ensures cause { FailsOnly (O.faults sink.old) (O.faults sink.new) draft.old.failed draft.new.failed }
+    ensures { Puts O.taken O.faults draft.old draft.new sink.old sink.new
+        (codes "BROKEN " ++ decimal second ++ codes " " ++ rule_name rule ++ codes " ") }
 {
     draft.put(sink, b"BROKEN ");
     draft.put_number(sink, second);
@@ -67,12 +55,8 @@ fn put_breach<O: Sink>(draft: &mut Draft, sink: &mut O, second: u32, rule: Rule)
 
 /// Puts the verdict on the pictures.
 pub(crate) fn put_verdict<O: Sink>(verdict: Verdict, plan: &Plan, draft: &mut Draft, sink: &mut O)
-    requires named { IsNamed (groups_in plan.now) verdict }
-    requires room { draft.old.gone < 2 ^ 58 }
-    ensures text { (start : Option (List ℕ)) (text : List ℕ) → IsDraft start (O.taken sink.old) draft.old text →
-        IsDraft start (O.taken sink.new) draft.new (text ++ verdict_text plan.now.names verdict) }
-    ensures gone { draft.new.gone ≤ draft.old.gone + 4096 * 8 }
-    ensures cause { FailsOnly (O.faults sink.old) (O.faults sink.new) draft.old.failed draft.new.failed }
+    requires { IsNamed (groups_in plan.now) verdict }
+    ensures { Puts O.taken O.faults draft.old draft.new sink.old sink.new (verdict_text plan.now.names verdict) }
 {
     match verdict {
         Verdict::Safe(records) => {
@@ -94,12 +78,8 @@ pub(crate) fn put_verdict<O: Sink>(verdict: Verdict, plan: &Plan, draft: &mut Dr
 
 // Puts what becomes of an interstage.
 fn put_end<O: Sink>(end: InterEnd, plan: &Plan, draft: &mut Draft, sink: &mut O)
-    requires turn { (t : ℕ) (turn : TurnRefusal) → end ≡ inter.Refused t turn → IsTurn (groups_in plan.now) turn }
-    requires room { draft.old.gone < 2 ^ 57 }
-    ensures text { (start : Option (List ℕ)) (text : List ℕ) → IsDraft start (O.taken sink.old) draft.old text →
-        IsDraft start (O.taken sink.new) draft.new (text ++ end_text plan.now.names end) }
-    ensures gone { draft.new.gone ≤ draft.old.gone + 4096 * 8 }
-    ensures cause { FailsOnly (O.faults sink.old) (O.faults sink.new) draft.old.failed draft.new.failed }
+    requires { (t : ℕ) (turn : TurnRefusal) → end ≡ inter.Refused t turn → IsTurn (groups_in plan.now) turn }
+    ensures { Puts O.taken O.faults draft.old draft.new sink.old sink.new (end_text plan.now.names end) }
 {
     match end {
         InterEnd::Clean => draft.put(sink, b"clean"),
@@ -114,12 +94,8 @@ fn put_end<O: Sink>(end: InterEnd, plan: &Plan, draft: &mut Draft, sink: &mut O)
 
 // Puts the two stages of an interstage.
 fn put_stages<O: Sink>(draft: &mut Draft, sink: &mut O, from: StageNo, to: StageNo)
-    requires { draft.old.gone < 2 ^ 59 }
-    ensures text { (start : Option (List ℕ)) (text : List ℕ) → IsDraft start (O.taken sink.old) draft.old text →
-        IsDraft start (O.taken sink.new) draft.new
-        (text ++ (codes "INTER " ++ decimal from.0 ++ codes "-" ++ decimal to.0 ++ codes " ")) }
-    ensures gone { draft.new.gone ≤ draft.old.gone + 4096 * 5 }
-    ensures cause { FailsOnly (O.faults sink.old) (O.faults sink.new) draft.old.failed draft.new.failed }
+    ensures { Puts O.taken O.faults draft.old draft.new sink.old sink.new
+        (codes "INTER " ++ decimal from.0 ++ codes "-" ++ decimal to.0 ++ codes " ") }
 {
     draft.put(sink, b"INTER ");
     draft.put_number(sink, u32::from(from.0));
@@ -132,11 +108,7 @@ fn put_stages<O: Sink>(draft: &mut Draft, sink: &mut O, from: StageNo, to: Stage
 fn put_inter<O: Sink>(i: InterNo, end: InterEnd, plan: &Plan, draft: &mut Draft, sink: &mut O)
     requires interstage { i.0 < length plan.now.interstages }
     requires turn { (t : ℕ) (turn : TurnRefusal) → end ≡ inter.Refused t turn → IsTurn (groups_in plan.now) turn }
-    requires room { draft.old.gone < 2 ^ 56 }
-    ensures text { (start : Option (List ℕ)) (text : List ℕ) → IsDraft start (O.taken sink.old) draft.old text →
-        IsDraft start (O.taken sink.new) draft.new (text ++ inter_text plan.now i.0 end) }
-    ensures gone { draft.new.gone ≤ draft.old.gone + 4096 * 16 }
-    ensures cause { FailsOnly (O.faults sink.old) (O.faults sink.new) draft.old.failed draft.new.failed }
+    ensures { Puts O.taken O.faults draft.old draft.new sink.old sink.new (inter_text plan.now i.0 end) }
 {
     let (from, to) = plan.ends(i);
     put_stages(draft, sink, from, to);
@@ -146,13 +118,9 @@ fn put_inter<O: Sink>(i: InterNo, end: InterEnd, plan: &Plan, draft: &mut Draft,
 
 /// Tries each interstage of the plan over the guard, and puts a line of each.
 pub(crate) fn put_inters<O: Sink>(plan: &Plan, guard: &mut Guard, draft: &mut Draft, sink: &mut O)
-    requires one_plan { (rules guard.old).count ≡ groups_in plan.now }
-    requires room { draft.old.gone < 2 ^ 55 }
-    ensures text { (ends : List InterEnd) × AreEnds plan.now (rules guard.old) (length plan.now.interstages) ends
-        × ((start : Option (List ℕ)) (text : List ℕ) → IsDraft start (O.taken sink.old) draft.old text →
-        IsDraft start (O.taken sink.new) draft.new (text ++ inters_text plan.now 0 ends)) }
-    ensures gone { draft.new.gone ≤ draft.old.gone + 4096 * 4096 }
-    ensures cause { FailsOnly (O.faults sink.old) (O.faults sink.new) draft.old.failed draft.new.failed }
+    requires { (rules guard.old).count ≡ groups_in plan.now }
+    ensures { (ends : List InterEnd) × AreEnds plan.now (rules guard.old) (length plan.now.interstages) ends
+        × Puts O.taken O.faults draft.old draft.new sink.old sink.new (inters_text plan.now 0 ends) }
 {
     let mut turns = TurnRefusals::empty();
     for i in 0..plan.interstages() {

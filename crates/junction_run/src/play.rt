@@ -1,13 +1,13 @@
 // The seconds of a run.
-ghost use Rattle.std.specs.Prelude.{◌≡◌, ◌≤◌, ◌<◌, ◌+◌, ◌*◌, ◌^◌, [], ℕ, List, true, false, Option, IfErr};
+ghost use Rattle.std.specs.Prelude.{◌≡◌, ◌≤◌, ◌+◌, [], ℕ, List, true, false, Option, Ok, Err, IfErr, is_ok};
 ghost use Rattle.std.specs.Option.{ForSome};
-ghost use Rattle.sig_io.specs.Draft.{IsDraft, FailsOnly};
+ghost use Rattle.sig_io.specs.Draft.{FailsOnly, IsDraft, Puts};
 ghost use Rattle.sig_io.specs.Outside.{Rose};
 ghost use Rattle.sig_types.specs.Counts.{Counts};
 ghost use Rattle.sig_types.specs.Pass.{Store};
 ghost use Rattle.controller.specs.Past.{opening};
 ghost use Rattle.controller.specs.Controls.{StandsFor, site_of};
-ghost use Rattle.det_stream.specs.Answers.{Gave, Reads, is_live, is_ready, name_of, second_of};
+ghost use Rattle.det_stream.specs.Answers.{AnswersNext, Gave, GaveOneMore, Reads, is_live, is_ready, name_of, second_of};
 ghost use Rattle.det_stream.specs.Stream.{stream_of};
 ghost use Rattle.junction_run.specs.Played.{playing_of, IsPlayed, IsPlayStop, IsWritten};
 ghost use Rattle.junction_run.specs.Records.{log_of};
@@ -22,16 +22,35 @@ use signal_log::{put_header, put_second};
 
 // Lets what was made go out before the detector file is asked for bytes, which may wait for whoever writes it.
 fn send_before_wait<O: Sink>(lines: &Lines, draft: &mut Draft, out: &mut O)
-    requires room { draft.old.gone < 2 ^ 62 }
-    ensures text { (start : Option (List ℕ)) (text : List ℕ) → IsDraft start (O.taken out.old) draft.old text →
-        IsDraft start (O.taken out.new) draft.new text }
+    ensures puts { Puts O.taken O.faults draft.old draft.new out.old out.new [] }
     ensures sent { is_ready lines.now ≡ false → draft.new.failed ≡ false → draft.new.bytes ≡ [] }
-    ensures gone { draft.new.gone ≤ draft.old.gone + 4096 }
-    ensures cause { FailsOnly (O.faults out.old) (O.faults out.new) draft.old.failed draft.new.failed }
 {
     if !lines.is_ready() {
         draft.send(out);
     }
+}
+
+// Reads the next line. Nothing that was made is held where the detector file is asked for bytes, which may wait.
+#[inline(always)]
+fn next_frame<F: Files>(
+    lines: &mut Lines,
+    files: &mut F,
+    _draft: &Draft,
+) -> Result<bool, StreamRefusal>
+    requires live { is_live lines.old ≡ true }
+    requires sent { is_ready lines.old ≡ false → _draft.now.failed ≡ false → _draft.now.bytes ≡ [] }
+    ensures gave { result ≡ Ok true → GaveOneMore lines.old lines.new }
+    ensures next { ForSome (F.told files.old) (λ file. AnswersNext (file (name_of lines.old)) lines.old lines.new result) }
+    ensures second { result ≡ Ok true → second_of lines.new ≡ second_of lines.old + 1 }
+    ensures at_most { result ≡ Ok true → second_of lines.new ≤ 604800 }
+    ensures live { is_live lines.new ≡ is_ok result }
+    ensures no_memory { result ≡ Err StreamRefusal.Memory → ⊥ }
+    ensures name { name_of lines.new ≡ name_of lines.old }
+    ensures contents_stay { F.told files.new ≡ F.told files.old }
+    ensures later { F.faults files.old ≤ F.faults files.new }
+    ensures cause { result ≡ Err StreamRefusal.Fault → Rose (F.faults files.old) (F.faults files.new) }
+{
+    lines.next_frame(files)
 }
 
 // Makes a second for each line of the detector file, and puts its record, up to the end of the file, a refused line, a fault
@@ -49,13 +68,11 @@ fn put_seconds<'a, F: Files, O: Sink>(
     requires none_given { second_of lines.old ≡ 0 }
     requires gave { Gave lines.old [] }
     requires unread { (bytes : List ℕ) → Reads lines.old bytes [] }
-    requires room { draft.old.gone ≤ 2 ^ 28 }
     ensures played { (store : Store) → StandsFor controller.old (opening (site_of controller.old) store) →
         (frames : List Counts)
         × ((start : Option (List ℕ)) → IsDraft start (O.taken out.old) draft.old (log_of (playing_of controller.old store) []) →
         IsDraft start (O.taken out.new) draft.new (log_of (playing_of controller.old store) frames))
         × ForSome (F.told files.old) (λ file. IsPlayed word.now result (stream_of (file (name_of lines.old))) frames) }
-    ensures room { draft.new.gone < 2 ^ 60 }
     ensures stops { IfErr result (λ stop. IsPlayStop word.now draft.new.failed stop) }
     ensures contents_stay { F.told files.new ≡ F.told files.old }
     ensures later { F.faults files.old ≤ F.faults files.new }
@@ -67,7 +84,7 @@ fn put_seconds<'a, F: Files, O: Sink>(
         if draft.failed() {
             return Err(PlayStop::WriteFault);
         }
-        match lines.next_frame(files) {
+        match next_frame(lines, files, draft) {
             Ok(true) => {}
             Ok(false) => return Ok(()),
             Err(StreamRefusal::Memory) => unreachable!(),

@@ -1,7 +1,7 @@
 // Why a file is refused, as a note tells it.
 ghost use Rattle.std.specs.Prelude.{◌≡◌, ◌++◌, codes};
+ghost use Rattle.pua_model.specs.Plan.{name_of};
 ghost use Rattle.junction_run.specs.Reasons.{
-  name_of,
   plan_reason,
   table_reason,
   lex_reason,

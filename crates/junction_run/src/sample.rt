@@ -1,5 +1,5 @@
 // A sample: what the seconds of a controller add up to, over frames that are drawn from a seed.
-ghost use Rattle.std.specs.Prelude.{◌≡◌, ◌≤◌, false, List, OnOk, IfErr};
+ghost use Rattle.std.specs.Prelude.{◌≡◌, ◌≤◌, false, ℕ, List, OnOk, OnErr, IfErr};
 ghost use Rattle.std.specs.Option.{ForSome};
 ghost use Rattle.std.specs.Io.KnownBytes.{append_known};
 ghost use Rattle.sig_io.specs.Draft.{IsCut};
@@ -64,7 +64,7 @@ fn write_summary<O: Sink>(
     ensures ok { (rs : List Record) → SummaryStands summary.now (groups_in plan.now) rs →
         OnOk result (O.taken out.new ≡ append_known (O.taken out.old) (summary_text plan.now.names seed seconds rs)) }
     ensures fault { (rs : List Record) → SummaryStands summary.now (groups_in plan.now) rs →
-        IfErr result (λ f. IsCut (O.taken out.old) (O.taken out.new) f.taken (summary_text plan.now.names seed seconds rs)) }
+        OnErr result ((n : ℕ) × IsCut (O.taken out.old) (O.taken out.new) n (summary_text plan.now.names seed seconds rs)) }
     ensures cause { HasCause (O.faults out.old) (O.faults out.new) result }
 {
     let mut draft = Draft::new();

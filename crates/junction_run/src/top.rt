@@ -2,7 +2,8 @@
 ghost use Rattle.std.specs.Prelude.{◌≡◌, ◌≤◌, true, false, Some, IfErr, map, string_bytes};
 ghost use Rattle.std.specs.Option.{ForSome};
 ghost use Rattle.sig_io.specs.Outside.{Rose};
-ghost use Rattle.junction_run.specs.Answers.{FormAnswer, JunctionAnswers, may_write, seen};
+ghost use Rattle.sig_io.specs.Seen.{seen};
+ghost use Rattle.junction_run.specs.Answers.{FormAnswer, JunctionAnswers, may_write};
 ghost use Rattle.junction_run.specs.Ended.{IsEnded};
 ghost use Rattle.junction_run.specs.Form.{files_of, reads_lines, writes_lines};
 ghost use Rattle.junction_run.specs.FormWords.{form_in};

@@ -19,11 +19,6 @@ shown_spans layout a spans are k d lt = let is = are.each k d lt in record {
   end = let end = is.end in omega arith;
 }
 
-pub few_spans : {T : Type 0} (layout : Layout) (a : ℕ → T) (spans : List (Span T)) → IsLayout layout → AreSpans a layout.from (layout.to + 1) spans → length spans ≤ 3600
-few_spans layout a spans is are =
-    let order = is.order in let hour = is.hour in
-    let few = row_is_short a layout.from (layout.to + 1) spans (omega arith) are in omega (arith, few, hour)
-
 -- the rows of one group more
 pub groups_more : (layout : Layout) (top : ℕ) (names : List (List ℕ)) (rows : List (List (Span Aspect))) (n : ℕ) →
     groups_text layout top names rows (n + 1) ≡ groups_text layout top names rows n ++ group_text layout (top + 20 * n) (get_or names n []) (get_or rows n [])

@@ -193,10 +193,6 @@ pub record IsShowable (s : Shown) : Type 0 where
   pub history : History
   pub chart : IsChart history (length s.names) s.from (s.to + 1) s.rows
   pub stays : All (IsShown (layout_in s)) s.stays
-  pub few_stays : length s.stays ≤ 3600
   pub fronts : All (IsFrontIn (layout_in s)) s.fronts
-  pub few_fronts : length s.fronts ≤ 230400
   pub refusals : All (IsMarked (length s.names) (layout_in s)) s.refusals
-  pub few_refusals : length s.refusals ≤ 4294967296
   pub faults : All (IsFaultIn (layout_in s)) s.faults
-  pub few_faults : length s.faults ≤ 3600

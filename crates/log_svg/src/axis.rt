@@ -1,6 +1,6 @@
 // The lines down and the labels of the seconds.
 ghost use Rattle.std.specs.Prelude.{◌≡◌, ◌+◌, ◌-◌, ◌*◌, ◌^◌, ◌<◌, ◌≤◌, ◌++◌, ℕ, List, Option};
-ghost use Rattle.sig_io.specs.Draft.{IsDraft, FailsOnly};
+ghost use Rattle.sig_io.specs.Draft.{Puts};
 ghost use Rattle.log_svg.specs.Layout.{IsLayout};
 ghost use Rattle.log_svg.specs.Axis.{axis_text, label_step, labelled_text, second_text, tick_step, ticked_text};
 
@@ -35,12 +35,8 @@ fn tick_step(scale: u32) -> u32
 
 // Puts a second with a label: a thin line through all rows, a tick and the number above and below.
 fn put_labelled<O: Sink>(draft: &mut Draft, sink: &mut O, x: u32, end: u32, second: u32)
-    requires end { end ≤ 100000 }
-    requires room { draft.old.gone < 2 ^ 57 }
-    ensures text { (start : Option (List ℕ)) (text : List ℕ) → IsDraft start (O.taken sink.old) draft.old text →
-        IsDraft start (O.taken sink.new) draft.new (text ++ labelled_text x end second) }
-    ensures gone { draft.new.gone ≤ draft.old.gone + 4096 * 59 }
-    ensures cause { FailsOnly (O.faults sink.old) (O.faults sink.new) draft.old.failed draft.new.failed }
+    requires { end ≤ 100000 }
+    ensures { Puts O.taken O.faults draft.old draft.new sink.old sink.new (labelled_text x end second) }
 {
     put_upright(draft, sink, b"b", x, (44, end + 2));
     put_upright(draft, sink, b"c", x, (42, 50));
@@ -51,12 +47,8 @@ fn put_labelled<O: Sink>(draft: &mut Draft, sink: &mut O, x: u32, end: u32, seco
 
 // Puts a second with a tick alone.
 fn put_ticked<O: Sink>(draft: &mut Draft, sink: &mut O, x: u32, end: u32)
-    requires end { end ≤ 100000 }
-    requires room { draft.old.gone < 2 ^ 57 }
-    ensures text { (start : Option (List ℕ)) (text : List ℕ) → IsDraft start (O.taken sink.old) draft.old text →
-        IsDraft start (O.taken sink.new) draft.new (text ++ ticked_text x end) }
-    ensures gone { draft.new.gone ≤ draft.old.gone + 4096 * 18 }
-    ensures cause { FailsOnly (O.faults sink.old) (O.faults sink.new) draft.old.failed draft.new.failed }
+    requires { end ≤ 100000 }
+    ensures { Puts O.taken O.faults draft.old draft.new sink.old sink.new (ticked_text x end) }
 {
     put_upright(draft, sink, b"c", x, (46, 50));
     put_upright(draft, sink, b"c", x, (end + 2, end + 6));
@@ -67,11 +59,7 @@ fn put_second<O: Sink>(draft: &mut Draft, sink: &mut O, layout: Layout, end: u32
     requires layout { IsLayout layout }
     requires second { (layout.from ≤ second) × (second ≤ layout.to) }
     requires end { end ≤ 100000 }
-    requires room { draft.old.gone < 2 ^ 56 }
-    ensures text { (start : Option (List ℕ)) (text : List ℕ) → IsDraft start (O.taken sink.old) draft.old text →
-        IsDraft start (O.taken sink.new) draft.new (text ++ second_text layout end second) }
-    ensures gone { draft.new.gone ≤ draft.old.gone + 4096 * 59 }
-    ensures cause { FailsOnly (O.faults sink.old) (O.faults sink.new) draft.old.failed draft.new.failed }
+    ensures { Puts O.taken O.faults draft.old draft.new sink.old sink.new (second_text layout end second) }
 {
     let x = x_of(layout, second);
     if second % label_step(layout.scale) == 0 {
@@ -85,11 +73,7 @@ fn put_second<O: Sink>(draft: &mut Draft, sink: &mut O, layout: Layout, end: u32
 pub fn put_axis<O: Sink>(draft: &mut Draft, sink: &mut O, layout: Layout, end: u32)
     requires layout { IsLayout layout }
     requires end { end ≤ 100000 }
-    requires room { draft.old.gone < 2 ^ 55 }
-    ensures text { (start : Option (List ℕ)) (text : List ℕ) → IsDraft start (O.taken sink.old) draft.old text →
-        IsDraft start (O.taken sink.new) draft.new (text ++ axis_text layout end (layout.to + 1 - layout.from)) }
-    ensures gone { draft.new.gone ≤ draft.old.gone + 2 ^ 30 }
-    ensures cause { FailsOnly (O.faults sink.old) (O.faults sink.new) draft.old.failed draft.new.failed }
+    ensures { Puts O.taken O.faults draft.old draft.new sink.old sink.new (axis_text layout end (layout.to + 1 - layout.from)) }
 {
     for place in 0..layout.to + 1 - layout.from {
         put_second(draft, sink, layout, end, layout.from + place);

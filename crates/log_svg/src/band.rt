@@ -1,6 +1,6 @@
 // The band of stages and interstages.
 ghost use Rattle.std.specs.Prelude.{◌≡◌, ◌+◌, ◌-◌, ◌*◌, ◌/◌, ◌^◌, ◌<◌, ◌≤◌, ◌++◌, ℕ, List, Option, All, length};
-ghost use Rattle.sig_io.specs.Draft.{IsDraft, FailsOnly};
+ghost use Rattle.sig_io.specs.Draft.{Puts};
 ghost use Rattle.log_svg.specs.Layout.{IsLayout};
 ghost use Rattle.log_svg.specs.Svg.{IsShown};
 ghost use Rattle.log_svg.specs.Band.{band_text, is_named, name_letters, place_class, place_name, stage_digits, stay_name, stay_text, stay_words};
@@ -50,11 +50,7 @@ fn name_letters(place: StagePlace) -> u32
 
 /// Puts the name of a stage or an interstage: `S1`, `1-2`, or a dash where there is no stage.
 pub fn put_place<O: Sink>(draft: &mut Draft, sink: &mut O, place: StagePlace)
-    requires { draft.old.gone < 2 ^ 59 }
-    ensures text { (start : Option (List ℕ)) (text : List ℕ) → IsDraft start (O.taken sink.old) draft.old text →
-        IsDraft start (O.taken sink.new) draft.new (text ++ place_name place) }
-    ensures gone { draft.new.gone ≤ draft.old.gone + 4096 * 3 }
-    ensures cause { FailsOnly (O.faults sink.old) (O.faults sink.new) draft.old.failed draft.new.failed }
+    ensures { Puts O.taken O.faults draft.old draft.new sink.old sink.new (place_name place) }
 {
     match place {
         StagePlace::NoPlan => draft.put(sink, b"-"),
@@ -74,11 +70,7 @@ pub fn put_place<O: Sink>(draft: &mut Draft, sink: &mut O, place: StagePlace)
 fn put_stay_name<O: Sink>(draft: &mut Draft, sink: &mut O, layout: Layout, stay: &Span<StagePlace>)
     requires layout { IsLayout layout }
     requires stay { IsShown layout stay.now }
-    requires room { draft.old.gone < 2 ^ 58 }
-    ensures text { (start : Option (List ℕ)) (text : List ℕ) → IsDraft start (O.taken sink.old) draft.old text →
-        IsDraft start (O.taken sink.new) draft.new (text ++ stay_name layout stay.now) }
-    ensures gone { draft.new.gone ≤ draft.old.gone + 4096 * 18 }
-    ensures cause { FailsOnly (O.faults sink.old) (O.faults sink.new) draft.old.failed draft.new.failed }
+    ensures { Puts O.taken O.faults draft.old draft.new sink.old sink.new (stay_name layout stay.now) }
 {
     let middle = x_of(layout, stay.first.0) + width_of(layout, stay) / 2;
     begin_label(draft, sink, b"m", middle, 73);
@@ -99,11 +91,7 @@ fn is_named(layout: Layout, stay: &Span<StagePlace>) -> bool
 fn put_stay_words<O: Sink>(draft: &mut Draft, sink: &mut O, layout: Layout, stay: &Span<StagePlace>)
     requires layout { IsLayout layout }
     requires stay { IsShown layout stay.now }
-    requires room { draft.old.gone < 2 ^ 58 }
-    ensures text { (start : Option (List ℕ)) (text : List ℕ) → IsDraft start (O.taken sink.old) draft.old text →
-        IsDraft start (O.taken sink.new) draft.new (text ++ stay_words layout stay.now) }
-    ensures gone { draft.new.gone ≤ draft.old.gone + 4096 * 18 }
-    ensures cause { FailsOnly (O.faults sink.old) (O.faults sink.new) draft.old.failed draft.new.failed }
+    ensures { Puts O.taken O.faults draft.old draft.new sink.old sink.new (stay_words layout stay.now) }
 {
     if is_named(layout, stay) {
         put_stay_name(draft, sink, layout, stay);
@@ -114,11 +102,7 @@ fn put_stay_words<O: Sink>(draft: &mut Draft, sink: &mut O, layout: Layout, stay
 fn put_stay<O: Sink>(draft: &mut Draft, sink: &mut O, layout: Layout, stay: &Span<StagePlace>)
     requires layout { IsLayout layout }
     requires stay { IsShown layout stay.now }
-    requires room { draft.old.gone < 2 ^ 57 }
-    ensures text { (start : Option (List ℕ)) (text : List ℕ) → IsDraft start (O.taken sink.old) draft.old text →
-        IsDraft start (O.taken sink.new) draft.new (text ++ stay_text layout stay.now) }
-    ensures gone { draft.new.gone ≤ draft.old.gone + 4096 * 42 }
-    ensures cause { FailsOnly (O.faults sink.old) (O.faults sink.new) draft.old.failed draft.new.failed }
+    ensures { Puts O.taken O.faults draft.old draft.new sink.old sink.new (stay_text layout stay.now) }
 {
     let width = width_of(layout, stay);
     let x = x_of(layout, stay.first.0);
@@ -135,12 +119,7 @@ pub fn put_band<O: Sink>(
 )
     requires layout { IsLayout layout }
     requires stays { All (IsShown layout) stays.now }
-    requires few { length stays.now ≤ 3600 }
-    requires room { draft.old.gone < 2 ^ 56 }
-    ensures text { (start : Option (List ℕ)) (text : List ℕ) → IsDraft start (O.taken sink.old) draft.old text →
-        IsDraft start (O.taken sink.new) draft.new (text ++ band_text layout stays.now) }
-    ensures gone { draft.new.gone ≤ draft.old.gone + 172032 * length stays.now }
-    ensures cause { FailsOnly (O.faults sink.old) (O.faults sink.new) draft.old.failed draft.new.failed }
+    ensures { Puts O.taken O.faults draft.old draft.new sink.old sink.new (band_text layout stays.now) }
 {
     for stay in stays {
         put_stay(draft, sink, layout, stay);

@@ -1,6 +1,6 @@
 // A whole signal timing diagram.
 ghost use Rattle.std.specs.Prelude.{◌≡◌, ◌+◌, ◌-◌, ◌*◌, ◌^◌, ◌<◌, ◌≤◌, ◌++◌, ℕ, List, Option, All, length};
-ghost use Rattle.sig_io.specs.Draft.{IsDraft, FailsOnly};
+ghost use Rattle.sig_io.specs.Draft.{Puts};
 ghost use Rattle.log_svg.specs.Layout.{IsLayout};
 ghost use Rattle.log_svg.specs.Marks.{IsFaultIn};
 ghost use Rattle.log_svg.specs.ShownIn.{shown_in};
@@ -88,13 +88,8 @@ fn put_named_faults<O: Sink>(
 )
     requires layout { IsLayout layout }
     requires marks { All (IsFaultIn layout) marks.now }
-    requires few { length marks.now ≤ 3600 }
     requires y { y ≤ 100000 }
-    requires room { draft.old.gone < 2 ^ 53 }
-    ensures text { (start : Option (List ℕ)) (text : List ℕ) → IsDraft start (O.taken sink.old) draft.old text →
-        IsDraft start (O.taken sink.new) draft.new (text ++ named_faults layout y marks.now) }
-    ensures gone { draft.new.gone ≤ draft.old.gone + 2 ^ 30 }
-    ensures cause { FailsOnly (O.faults sink.old) (O.faults sink.new) draft.old.failed draft.new.failed }
+    ensures { Puts O.taken O.faults draft.old draft.new sink.old sink.new (named_faults layout y marks.now) }
 {
     put_label(draft, sink, b"d", layout.left - 12, y + 11, b"faults");
     put_faults(draft, sink, layout, y, marks);
@@ -110,13 +105,8 @@ fn put_faults_row<O: Sink>(
 )
     requires layout { IsLayout layout }
     requires marks { All (IsFaultIn layout) marks.now }
-    requires few { length marks.now ≤ 3600 }
     requires y { y ≤ 100000 }
-    requires room { draft.old.gone < 2 ^ 53 }
-    ensures text { (start : Option (List ℕ)) (text : List ℕ) → IsDraft start (O.taken sink.old) draft.old text →
-        IsDraft start (O.taken sink.new) draft.new (text ++ faults_row layout y marks.now) }
-    ensures gone { draft.new.gone ≤ draft.old.gone + 2 ^ 30 }
-    ensures cause { FailsOnly (O.faults sink.old) (O.faults sink.new) draft.old.failed draft.new.failed }
+    ensures { Puts O.taken O.faults draft.old draft.new sink.old sink.new (faults_row layout y marks.now) }
 {
     if marks.len() > 0 {
         put_named_faults(draft, sink, layout, y, marks);
@@ -125,12 +115,8 @@ fn put_faults_row<O: Sink>(
 
 // Puts the head, the seconds, the band and the rows of groups.
 fn put_upper<O: Sink>(draft: &mut Draft, sink: &mut O, diagram: &Diagram)
-    requires diagram { IsShowable (shown_in diagram.now) }
-    requires room { draft.old.gone < 2 ^ 52 }
-    ensures text { (start : Option (List ℕ)) (text : List ℕ) → IsDraft start (O.taken sink.old) draft.old text →
-        IsDraft start (O.taken sink.new) draft.new (text ++ upper_text (shown_in diagram.now)) }
-    ensures gone { draft.new.gone ≤ draft.old.gone + 2 ^ 38 }
-    ensures cause { FailsOnly (O.faults sink.old) (O.faults sink.new) draft.old.failed draft.new.failed }
+    requires { IsShowable (shown_in diagram.now) }
+    ensures { Puts O.taken O.faults draft.old draft.new sink.old sink.new (upper_text (shown_in diagram.now)) }
 {
     let layout = layout_in(diagram);
     let end = rows_end(diagram);
@@ -144,12 +130,8 @@ fn put_upper<O: Sink>(draft: &mut Draft, sink: &mut O, diagram: &Diagram)
 
 // Puts the marks, the rows of faults and detectors, and the legend.
 fn put_lower<O: Sink>(draft: &mut Draft, sink: &mut O, diagram: &Diagram)
-    requires diagram { IsShowable (shown_in diagram.now) }
-    requires room { draft.old.gone < 2 ^ 52 }
-    ensures text { (start : Option (List ℕ)) (text : List ℕ) → IsDraft start (O.taken sink.old) draft.old text →
-        IsDraft start (O.taken sink.new) draft.new (text ++ lower_text (shown_in diagram.now)) }
-    ensures gone { draft.new.gone ≤ draft.old.gone + 2 ^ 49 }
-    ensures cause { FailsOnly (O.faults sink.old) (O.faults sink.new) draft.old.failed draft.new.failed }
+    requires { IsShowable (shown_in diagram.now) }
+    ensures { Puts O.taken O.faults draft.old draft.new sink.old sink.new (lower_text (shown_in diagram.now)) }
 {
     let layout = layout_in(diagram);
     put_refusals(draft, sink, &diagram.names, layout, 84, &diagram.refusals);
@@ -161,12 +143,8 @@ fn put_lower<O: Sink>(draft: &mut Draft, sink: &mut O, diagram: &Diagram)
 
 /// Puts the text of the diagram.
 pub fn put_diagram<O: Sink>(draft: &mut Draft, sink: &mut O, diagram: &Diagram)
-    requires diagram { IsShowable (shown_in diagram.now) }
-    requires room { draft.old.gone < 2 ^ 51 }
-    ensures text { (start : Option (List ℕ)) (text : List ℕ) → IsDraft start (O.taken sink.old) draft.old text →
-        IsDraft start (O.taken sink.new) draft.new (text ++ diagram_text (shown_in diagram.now)) }
-    ensures gone { draft.new.gone ≤ draft.old.gone + 2 ^ 50 }
-    ensures cause { FailsOnly (O.faults sink.old) (O.faults sink.new) draft.old.failed draft.new.failed }
+    requires { IsShowable (shown_in diagram.now) }
+    ensures { Puts O.taken O.faults draft.old draft.new sink.old sink.new (diagram_text (shown_in diagram.now)) }
 {
     put_upper(draft, sink, diagram);
     put_lower(draft, sink, diagram);

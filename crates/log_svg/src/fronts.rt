@@ -1,6 +1,6 @@
 // The rows of the detectors.
 ghost use Rattle.std.specs.Prelude.{◌≡◌, ◌+◌, ◌-◌, ◌*◌, ◌^◌, ◌<◌, ◌≤◌, ◌++◌, ◌==◌, min, ℕ, List, Option, All, length};
-ghost use Rattle.sig_io.specs.Draft.{IsDraft, FailsOnly};
+ghost use Rattle.sig_io.specs.Draft.{Puts};
 ghost use Rattle.log_svg.specs.Layout.{IsLayout};
 ghost use Rattle.log_svg.specs.Marks.{IsFrontIn, fronts_of, has_front, row_count, shown_to};
 ghost use Rattle.log_svg.specs.Marks.{detector_name, detector_text, detectors_text, front_text, shown_text};
@@ -26,11 +26,7 @@ fn put_front<O: Sink>(draft: &mut Draft, sink: &mut O, layout: Layout, y: u32, m
     requires layout { IsLayout layout }
     requires mark { IsFrontIn layout mark.now }
     requires y { y ≤ 100000 }
-    requires room { draft.old.gone < 2 ^ 57 }
-    ensures text { (start : Option (List ℕ)) (text : List ℕ) → IsDraft start (O.taken sink.old) draft.old text →
-        IsDraft start (O.taken sink.new) draft.new (text ++ front_text layout y mark.now) }
-    ensures gone { draft.new.gone ≤ draft.old.gone + 4096 * 9 }
-    ensures cause { FailsOnly (O.faults sink.old) (O.faults sink.new) draft.old.failed draft.new.failed }
+    ensures { Puts O.taken O.faults draft.old draft.new sink.old sink.new (front_text layout y mark.now) }
 {
     let top = y + 10 - 3 * mark.fronts.min(3);
     put_upright(
@@ -53,13 +49,8 @@ fn put_fronts<O: Sink>(
 )
     requires layout { IsLayout layout }
     requires marks { All (IsFrontIn layout) marks.now }
-    requires few { length marks.now ≤ 230400 }
     requires y { y ≤ 100000 }
-    requires room { draft.old.gone < 2 ^ 56 }
-    ensures text { (start : Option (List ℕ)) (text : List ℕ) → IsDraft start (O.taken sink.old) draft.old text →
-        IsDraft start (O.taken sink.new) draft.new (text ++ fronts_of layout y detector.0 marks.now) }
-    ensures gone { draft.new.gone ≤ draft.old.gone + 36864 * length marks.now }
-    ensures cause { FailsOnly (O.faults sink.old) (O.faults sink.new) draft.old.failed draft.new.failed }
+    ensures { Puts O.taken O.faults draft.old draft.new sink.old sink.new (fronts_of layout y detector.0 marks.now) }
 {
     for mark in marks {
         if mark.detector.0 == detector.0 {
@@ -72,11 +63,7 @@ fn put_fronts<O: Sink>(
 fn put_name<O: Sink>(draft: &mut Draft, sink: &mut O, layout: Layout, y: u32, detector: DetNo)
     requires layout { IsLayout layout }
     requires y { y ≤ 100000 }
-    requires room { draft.old.gone < 2 ^ 57 }
-    ensures text { (start : Option (List ℕ)) (text : List ℕ) → IsDraft start (O.taken sink.old) draft.old text →
-        IsDraft start (O.taken sink.new) draft.new (text ++ detector_name layout y detector.0) }
-    ensures gone { draft.new.gone ≤ draft.old.gone + 4096 * 17 }
-    ensures cause { FailsOnly (O.faults sink.old) (O.faults sink.new) draft.old.failed draft.new.failed }
+    ensures { Puts O.taken O.faults draft.old draft.new sink.old sink.new (detector_name layout y detector.0) }
 {
     begin_label(draft, sink, b"d", layout.left - 12, y + 11);
     draft.put(sink, b"D");
@@ -95,13 +82,8 @@ fn put_detector<O: Sink>(
 )
     requires layout { IsLayout layout }
     requires marks { All (IsFrontIn layout) marks.now }
-    requires few { length marks.now ≤ 230400 }
     requires y { y ≤ 100000 }
-    requires room { draft.old.gone < 2 ^ 55 }
-    ensures text { (start : Option (List ℕ)) (text : List ℕ) → IsDraft start (O.taken sink.old) draft.old text →
-        IsDraft start (O.taken sink.new) draft.new (text ++ detector_text layout y marks.now detector.0) }
-    ensures gone { draft.new.gone ≤ draft.old.gone + 2 ^ 35 }
-    ensures cause { FailsOnly (O.faults sink.old) (O.faults sink.new) draft.old.failed draft.new.failed }
+    ensures { Puts O.taken O.faults draft.old draft.new sink.old sink.new (detector_text layout y marks.now detector.0) }
 {
     put_name(draft, sink, layout, y, detector);
     put_across(draft, sink, y + 13, right_of(layout));
@@ -134,13 +116,8 @@ fn put_shown<O: Sink>(
 )
     requires layout { IsLayout layout }
     requires marks { All (IsFrontIn layout) marks.now }
-    requires few { length marks.now ≤ 230400 }
     requires y { y ≤ 100000 }
-    requires room { draft.old.gone < 2 ^ 55 }
-    ensures text { (start : Option (List ℕ)) (text : List ℕ) → IsDraft start (O.taken sink.old) draft.old text →
-        IsDraft start (O.taken sink.new) draft.new (text ++ shown_text layout y marks.now detector.0) }
-    ensures gone { draft.new.gone ≤ draft.old.gone + 2 ^ 35 }
-    ensures cause { FailsOnly (O.faults sink.old) (O.faults sink.new) draft.old.failed draft.new.failed }
+    ensures { Puts O.taken O.faults draft.old draft.new sink.old sink.new (shown_text layout y marks.now detector.0) }
 {
     if has_front(marks, detector) {
         put_detector(draft, sink, layout, y, detector, marks);
@@ -169,13 +146,8 @@ pub fn put_detectors<O: Sink>(
 )
     requires layout { IsLayout layout }
     requires marks { All (IsFrontIn layout) marks.now }
-    requires few { length marks.now ≤ 230400 }
     requires y { y ≤ 90000 }
-    requires room { draft.old.gone < 2 ^ 54 }
-    ensures text { (start : Option (List ℕ)) (text : List ℕ) → IsDraft start (O.taken sink.old) draft.old text →
-        IsDraft start (O.taken sink.new) draft.new (text ++ detectors_text layout y marks.now 64) }
-    ensures gone { draft.new.gone ≤ draft.old.gone + 2 ^ 41 }
-    ensures cause { FailsOnly (O.faults sink.old) (O.faults sink.new) draft.old.failed draft.new.failed }
+    ensures { Puts O.taken O.faults draft.old draft.new sink.old sink.new (detectors_text layout y marks.now 64) }
 {
     let mut shown = 0;
     for place in 0..64u8 {

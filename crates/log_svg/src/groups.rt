@@ -1,6 +1,6 @@
 // The rows of all groups.
 ghost use Rattle.std.specs.Prelude.{◌+◌, ◌*◌, ◌^◌, ◌<◌, ◌≤◌, ◌++◌, ℕ, List, Option, length};
-ghost use Rattle.sig_io.specs.Draft.{IsDraft, FailsOnly};
+ghost use Rattle.sig_io.specs.Draft.{Puts};
 ghost use Rattle.sig_types.specs.Turns.{History};
 ghost use Rattle.log_chart.specs.Spans.{IsChart};
 ghost use Rattle.log_svg.specs.Layout.{IsLayout};
@@ -25,11 +25,8 @@ pub fn put_groups<O: Sink>(
     requires names { length names.now ≤ 64 }
     requires chart { (h : History) × IsChart h (length names.now) layout.from (layout.to + 1) chart.now.rows }
     requires top { top ≤ 1000 }
-    requires room { draft.old.gone < 2 ^ 53 }
-    ensures text { (start : Option (List ℕ)) (text : List ℕ) → IsDraft start (O.taken sink.old) draft.old text →
-        IsDraft start (O.taken sink.new) draft.new (text ++ groups_text layout top names.now chart.now.rows (length names.now)) }
-    ensures gone { draft.new.gone ≤ draft.old.gone + 2 ^ 36 }
-    ensures cause { FailsOnly (O.faults sink.old) (O.faults sink.new) draft.old.failed draft.new.failed }
+    ensures { Puts O.taken O.faults draft.old draft.new sink.old sink.new
+        (groups_text layout top names.now chart.now.rows (length names.now)) }
 {
     for place in 0..names.len() {
         let name = &names[place];

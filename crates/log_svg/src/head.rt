@@ -1,6 +1,6 @@
 // The head of a diagram: its size, how things look, and what it is of.
 ghost use Rattle.std.specs.Prelude.{◌+◌, ◌*◌, ◌^◌, ◌<◌, ◌≤◌, ◌++◌, ℕ, List, Option};
-ghost use Rattle.sig_io.specs.Draft.{IsDraft, FailsOnly};
+ghost use Rattle.sig_io.specs.Draft.{Puts};
 ghost use Rattle.log_svg.specs.Diagram.{ground_text, head_text, looks_text, open_text, seconds_title, view_text};
 ghost use Rattle.log_svg.specs.Diagram.{amber_pattern, bars_style, half_pattern, interstage_pattern, marks_style, words_style};
 
@@ -10,11 +10,7 @@ use sig_io::{Draft, Sink};
 
 // Puts what part of the plane is shown.
 fn put_view<O: Sink>(draft: &mut Draft, sink: &mut O, width: u32, height: u32)
-    requires { draft.old.gone < 2 ^ 60 }
-    ensures text { (start : Option (List ℕ)) (text : List ℕ) → IsDraft start (O.taken sink.old) draft.old text →
-        IsDraft start (O.taken sink.new) draft.new (text ++ view_text width height) }
-    ensures gone { draft.new.gone ≤ draft.old.gone + 4096 * 4 }
-    ensures cause { FailsOnly (O.faults sink.old) (O.faults sink.new) draft.old.failed draft.new.failed }
+    ensures { Puts O.taken O.faults draft.old draft.new sink.old sink.new (view_text width height) }
 {
     draft.put(sink, b" viewBox=\"0 0 ");
     draft.put_number(sink, width);
@@ -24,11 +20,7 @@ fn put_view<O: Sink>(draft: &mut Draft, sink: &mut O, width: u32, height: u32)
 
 // Puts the beginning of the text, by the size of the picture.
 fn open_svg<O: Sink>(draft: &mut Draft, sink: &mut O, width: u32, height: u32)
-    requires { draft.old.gone < 2 ^ 59 }
-    ensures text { (start : Option (List ℕ)) (text : List ℕ) → IsDraft start (O.taken sink.old) draft.old text →
-        IsDraft start (O.taken sink.new) draft.new (text ++ open_text width height) }
-    ensures gone { draft.new.gone ≤ draft.old.gone + 4096 * 16 }
-    ensures cause { FailsOnly (O.faults sink.old) (O.faults sink.new) draft.old.failed draft.new.failed }
+    ensures { Puts O.taken O.faults draft.old draft.new sink.old sink.new (open_text width height) }
 {
     draft.put(sink, b"<svg xmlns=\"http://www.w3.org/2000/svg\"");
     put_attribute(draft, sink, b"width", width);
@@ -42,11 +34,7 @@ fn open_svg<O: Sink>(draft: &mut Draft, sink: &mut O, width: u32, height: u32)
 
 // Puts how bars look.
 fn put_bars_style<O: Sink>(draft: &mut Draft, sink: &mut O)
-    requires { draft.old.gone < 2 ^ 60 }
-    ensures text { (start : Option (List ℕ)) (text : List ℕ) → IsDraft start (O.taken sink.old) draft.old text →
-        IsDraft start (O.taken sink.new) draft.new (text ++ bars_style) }
-    ensures gone { draft.new.gone ≤ draft.old.gone + 4096 * 4 }
-    ensures cause { FailsOnly (O.faults sink.old) (O.faults sink.new) draft.old.failed draft.new.failed }
+    ensures { Puts O.taken O.faults draft.old draft.new sink.old sink.new bars_style }
 {
     draft.put(
         sink,
@@ -68,11 +56,7 @@ fn put_bars_style<O: Sink>(draft: &mut Draft, sink: &mut O)
 
 // Puts how words look.
 fn put_words_style<O: Sink>(draft: &mut Draft, sink: &mut O)
-    requires { draft.old.gone < 2 ^ 60 }
-    ensures text { (start : Option (List ℕ)) (text : List ℕ) → IsDraft start (O.taken sink.old) draft.old text →
-        IsDraft start (O.taken sink.new) draft.new (text ++ words_style) }
-    ensures gone { draft.new.gone ≤ draft.old.gone + 4096 * 3 }
-    ensures cause { FailsOnly (O.faults sink.old) (O.faults sink.new) draft.old.failed draft.new.failed }
+    ensures { Puts O.taken O.faults draft.old draft.new sink.old sink.new words_style }
 {
     draft.put(
         sink,
@@ -88,11 +72,7 @@ fn put_words_style<O: Sink>(draft: &mut Draft, sink: &mut O)
 // Puts how lines and marks look.
 #[tactic(auto, unfolding(crate::specs::Diagram::marks_style))]
 fn put_marks_style<O: Sink>(draft: &mut Draft, sink: &mut O)
-    requires { draft.old.gone < 2 ^ 60 }
-    ensures text { (start : Option (List ℕ)) (text : List ℕ) → IsDraft start (O.taken sink.old) draft.old text →
-        IsDraft start (O.taken sink.new) draft.new (text ++ marks_style) }
-    ensures gone { draft.new.gone ≤ draft.old.gone + 4096 * 1 }
-    ensures cause { FailsOnly (O.faults sink.old) (O.faults sink.new) draft.old.failed draft.new.failed }
+    ensures { Puts O.taken O.faults draft.old draft.new sink.old sink.new marks_style }
 {
     draft.put(
         sink,
@@ -102,11 +82,7 @@ fn put_marks_style<O: Sink>(draft: &mut Draft, sink: &mut O)
 
 // Puts the pattern of red-amber, dark over light.
 fn put_half_pattern<O: Sink>(draft: &mut Draft, sink: &mut O)
-    requires { draft.old.gone < 2 ^ 60 }
-    ensures text { (start : Option (List ℕ)) (text : List ℕ) → IsDraft start (O.taken sink.old) draft.old text →
-        IsDraft start (O.taken sink.new) draft.new (text ++ half_pattern) }
-    ensures gone { draft.new.gone ≤ draft.old.gone + 4096 * 2 }
-    ensures cause { FailsOnly (O.faults sink.old) (O.faults sink.new) draft.old.failed draft.new.failed }
+    ensures { Puts O.taken O.faults draft.old draft.new sink.old sink.new half_pattern }
 {
     draft.put(
         sink,
@@ -120,11 +96,7 @@ fn put_half_pattern<O: Sink>(draft: &mut Draft, sink: &mut O)
 
 // Puts the pattern of amber, striped.
 fn put_amber_pattern<O: Sink>(draft: &mut Draft, sink: &mut O)
-    requires { draft.old.gone < 2 ^ 60 }
-    ensures text { (start : Option (List ℕ)) (text : List ℕ) → IsDraft start (O.taken sink.old) draft.old text →
-        IsDraft start (O.taken sink.new) draft.new (text ++ amber_pattern) }
-    ensures gone { draft.new.gone ≤ draft.old.gone + 4096 * 2 }
-    ensures cause { FailsOnly (O.faults sink.old) (O.faults sink.new) draft.old.failed draft.new.failed }
+    ensures { Puts O.taken O.faults draft.old draft.new sink.old sink.new amber_pattern }
 {
     draft.put(
         sink,
@@ -138,11 +110,7 @@ fn put_amber_pattern<O: Sink>(draft: &mut Draft, sink: &mut O)
 
 // Puts the pattern of interstages, thinly striped.
 fn put_interstage_pattern<O: Sink>(draft: &mut Draft, sink: &mut O)
-    requires { draft.old.gone < 2 ^ 60 }
-    ensures text { (start : Option (List ℕ)) (text : List ℕ) → IsDraft start (O.taken sink.old) draft.old text →
-        IsDraft start (O.taken sink.new) draft.new (text ++ interstage_pattern) }
-    ensures gone { draft.new.gone ≤ draft.old.gone + 4096 * 2 }
-    ensures cause { FailsOnly (O.faults sink.old) (O.faults sink.new) draft.old.failed draft.new.failed }
+    ensures { Puts O.taken O.faults draft.old draft.new sink.old sink.new interstage_pattern }
 {
     draft.put(
         sink,
@@ -156,11 +124,7 @@ fn put_interstage_pattern<O: Sink>(draft: &mut Draft, sink: &mut O)
 
 // Puts how everything looks.
 fn put_styles<O: Sink>(draft: &mut Draft, sink: &mut O)
-    requires { draft.old.gone < 2 ^ 59 }
-    ensures text { (start : Option (List ℕ)) (text : List ℕ) → IsDraft start (O.taken sink.old) draft.old text →
-        IsDraft start (O.taken sink.new) draft.new (text ++ (bars_style ++ words_style ++ marks_style)) }
-    ensures gone { draft.new.gone ≤ draft.old.gone + 4096 * 8 }
-    ensures cause { FailsOnly (O.faults sink.old) (O.faults sink.new) draft.old.failed draft.new.failed }
+    ensures { Puts O.taken O.faults draft.old draft.new sink.old sink.new (bars_style ++ words_style ++ marks_style) }
 {
     put_bars_style(draft, sink);
     put_words_style(draft, sink);
@@ -169,11 +133,7 @@ fn put_styles<O: Sink>(draft: &mut Draft, sink: &mut O)
 
 // Puts how everything looks, and the patterns.
 fn put_looks<O: Sink>(draft: &mut Draft, sink: &mut O)
-    requires { draft.old.gone < 2 ^ 58 }
-    ensures text { (start : Option (List ℕ)) (text : List ℕ) → IsDraft start (O.taken sink.old) draft.old text →
-        IsDraft start (O.taken sink.new) draft.new (text ++ looks_text) }
-    ensures gone { draft.new.gone ≤ draft.old.gone + 4096 * 14 }
-    ensures cause { FailsOnly (O.faults sink.old) (O.faults sink.new) draft.old.failed draft.new.failed }
+    ensures { Puts O.taken O.faults draft.old draft.new sink.old sink.new looks_text }
 {
     put_styles(draft, sink);
     put_half_pattern(draft, sink);
@@ -183,11 +143,7 @@ fn put_looks<O: Sink>(draft: &mut Draft, sink: &mut O)
 
 // Puts a white ground.
 fn put_ground<O: Sink>(draft: &mut Draft, sink: &mut O, width: u32, height: u32)
-    requires { draft.old.gone < 2 ^ 59 }
-    ensures text { (start : Option (List ℕ)) (text : List ℕ) → IsDraft start (O.taken sink.old) draft.old text →
-        IsDraft start (O.taken sink.new) draft.new (text ++ ground_text width height) }
-    ensures gone { draft.new.gone ≤ draft.old.gone + 4096 * 12 }
-    ensures cause { FailsOnly (O.faults sink.old) (O.faults sink.new) draft.old.failed draft.new.failed }
+    ensures { Puts O.taken O.faults draft.old draft.new sink.old sink.new (ground_text width height) }
 {
     draft.put(sink, b"<rect fill=\"#fff\"");
     put_attribute(draft, sink, b"width", width);
@@ -197,11 +153,7 @@ fn put_ground<O: Sink>(draft: &mut Draft, sink: &mut O, width: u32, height: u32)
 
 // Puts what the diagram is of.
 fn put_title<O: Sink>(draft: &mut Draft, sink: &mut O, from: u32, to: u32)
-    requires { draft.old.gone < 2 ^ 59 }
-    ensures text { (start : Option (List ℕ)) (text : List ℕ) → IsDraft start (O.taken sink.old) draft.old text →
-        IsDraft start (O.taken sink.new) draft.new (text ++ seconds_title from to) }
-    ensures gone { draft.new.gone ≤ draft.old.gone + 4096 * 5 }
-    ensures cause { FailsOnly (O.faults sink.old) (O.faults sink.new) draft.old.failed draft.new.failed }
+    ensures { Puts O.taken O.faults draft.old draft.new sink.old sink.new (seconds_title from to) }
 {
     draft.put(sink, b"Signal timing diagram, seconds ");
     draft.put_number(sink, from);
@@ -212,11 +164,7 @@ fn put_title<O: Sink>(draft: &mut Draft, sink: &mut O, from: u32, to: u32)
 
 /// Puts the head of a diagram of this size.
 pub fn put_head<O: Sink>(draft: &mut Draft, sink: &mut O, width: u32, height: u32, layout: Layout)
-    requires { draft.old.gone < 2 ^ 57 }
-    ensures text { (start : Option (List ℕ)) (text : List ℕ) → IsDraft start (O.taken sink.old) draft.old text →
-        IsDraft start (O.taken sink.new) draft.new (text ++ head_text width height layout) }
-    ensures gone { draft.new.gone ≤ draft.old.gone + 4096 * 61 }
-    ensures cause { FailsOnly (O.faults sink.old) (O.faults sink.new) draft.old.failed draft.new.failed }
+    ensures { Puts O.taken O.faults draft.old draft.new sink.old sink.new (head_text width height layout) }
 {
     open_svg(draft, sink, width, height);
     put_looks(draft, sink);

@@ -1,6 +1,6 @@
 // The legend of a diagram.
 ghost use Rattle.std.specs.Prelude.{◌+◌, ◌*◌, ◌^◌, ◌<◌, ◌≤◌, ◌++◌, ℕ, List, Option, codes, length};
-ghost use Rattle.sig_io.specs.Draft.{IsDraft, FailsOnly};
+ghost use Rattle.sig_io.specs.Draft.{Puts};
 ghost use Rattle.log_svg.specs.Svg.{box_text, label_text, triangle_text};
 ghost use Rattle.log_svg.specs.Diagram.{aspects_key, fronts_key, key_text, legend_text, marks_key};
 
@@ -13,11 +13,7 @@ fn put_key<O: Sink>(draft: &mut Draft, sink: &mut O, class: &[u8], x: u32, y: u3
     requires x { x ≤ 10000 }
     requires word { length word.now ≤ 4096 }
     requires y { y ≤ 200000 }
-    requires room { draft.old.gone < 2 ^ 57 }
-    ensures text { (start : Option (List ℕ)) (text : List ℕ) → IsDraft start (O.taken sink.old) draft.old text →
-        IsDraft start (O.taken sink.new) draft.new (text ++ key_text class.now x y word.now) }
-    ensures gone { draft.new.gone ≤ draft.old.gone + 4096 * 40 }
-    ensures cause { FailsOnly (O.faults sink.old) (O.faults sink.new) draft.old.failed draft.new.failed }
+    ensures { Puts O.taken O.faults draft.old draft.new sink.old sink.new (key_text class.now x y word.now) }
 {
     put_box(draft, sink, class, (x, y), 24, 12);
     put_label(draft, sink, b"o", x + 30, y + 10, word);
@@ -25,12 +21,9 @@ fn put_key<O: Sink>(draft: &mut Draft, sink: &mut O, class: &[u8], x: u32, y: u3
 
 // Puts the line of red with its word.
 fn put_red_key<O: Sink>(draft: &mut Draft, sink: &mut O, y: u32)
-    requires y { y ≤ 200000 }
-    requires room { draft.old.gone < 2 ^ 57 }
-    ensures text { (start : Option (List ℕ)) (text : List ℕ) → IsDraft start (O.taken sink.old) draft.old text →
-        IsDraft start (O.taken sink.new) draft.new (text ++ (box_text (codes "r") 12 (y + 5) 24 2 ++ label_text (codes "o") 42 (y + 10) (codes "red"))) }
-    ensures gone { draft.new.gone ≤ draft.old.gone + 4096 * 40 }
-    ensures cause { FailsOnly (O.faults sink.old) (O.faults sink.new) draft.old.failed draft.new.failed }
+    requires { y ≤ 200000 }
+    ensures { Puts O.taken O.faults draft.old draft.new sink.old sink.new
+        ((box_text (codes "r") 12 (y + 5) 24 2 ++ label_text (codes "o") 42 (y + 10) (codes "red"))) }
 {
     put_box(draft, sink, b"r", (12, y + 5), 24, 2);
     put_label(draft, sink, b"o", 42, y + 10, b"red");
@@ -38,12 +31,8 @@ fn put_red_key<O: Sink>(draft: &mut Draft, sink: &mut O, y: u32)
 
 // Puts the bars of the aspects with their words.
 fn put_aspects_key<O: Sink>(draft: &mut Draft, sink: &mut O, y: u32)
-    requires y { y ≤ 200000 }
-    requires room { draft.old.gone < 2 ^ 56 }
-    ensures text { (start : Option (List ℕ)) (text : List ℕ) → IsDraft start (O.taken sink.old) draft.old text →
-        IsDraft start (O.taken sink.new) draft.new (text ++ aspects_key y) }
-    ensures gone { draft.new.gone ≤ draft.old.gone + 4096 * 176 }
-    ensures cause { FailsOnly (O.faults sink.old) (O.faults sink.new) draft.old.failed draft.new.failed }
+    requires { y ≤ 200000 }
+    ensures { Puts O.taken O.faults draft.old draft.new sink.old sink.new (aspects_key y) }
 {
     put_red_key(draft, sink, y);
     put_key(draft, sink, b"u", 82, y, b"red-amber");
@@ -54,13 +43,9 @@ fn put_aspects_key<O: Sink>(draft: &mut Draft, sink: &mut O, y: u32)
 
 // Puts the mark of refused commands with its word.
 fn put_refused_key<O: Sink>(draft: &mut Draft, sink: &mut O, y: u32)
-    requires y { y ≤ 200000 }
-    requires room { draft.old.gone < 2 ^ 57 }
-    ensures text { (start : Option (List ℕ)) (text : List ℕ) → IsDraft start (O.taken sink.old) draft.old text →
-        IsDraft start (O.taken sink.new) draft.new
-        (text ++ (triangle_text 562 (y + 10) ++ codes "/>\n" ++ label_text (codes "o") 574 (y + 10) (codes "refused"))) }
-    ensures gone { draft.new.gone ≤ draft.old.gone + 4096 * 24 }
-    ensures cause { FailsOnly (O.faults sink.old) (O.faults sink.new) draft.old.failed draft.new.failed }
+    requires { y ≤ 200000 }
+    ensures { Puts O.taken O.faults draft.old draft.new sink.old sink.new
+        ((triangle_text 562 (y + 10) ++ codes "/>\n" ++ label_text (codes "o") 574 (y + 10) (codes "refused"))) }
 {
     begin_triangle(draft, sink, 562, y + 10);
     draft.put(sink, b"/>\n");
@@ -69,12 +54,8 @@ fn put_refused_key<O: Sink>(draft: &mut Draft, sink: &mut O, y: u32)
 
 // Puts the marks with their words.
 fn put_marks_key<O: Sink>(draft: &mut Draft, sink: &mut O, y: u32)
-    requires y { y ≤ 200000 }
-    requires room { draft.old.gone < 2 ^ 56 }
-    ensures text { (start : Option (List ℕ)) (text : List ℕ) → IsDraft start (O.taken sink.old) draft.old text →
-        IsDraft start (O.taken sink.new) draft.new (text ++ marks_key y) }
-    ensures gone { draft.new.gone ≤ draft.old.gone + 4096 * 48 }
-    ensures cause { FailsOnly (O.faults sink.old) (O.faults sink.new) draft.old.failed draft.new.failed }
+    requires { y ≤ 200000 }
+    ensures { Puts O.taken O.faults draft.old draft.new sink.old sink.new (marks_key y) }
 {
     put_refused_key(draft, sink, y);
     begin_cross(draft, sink, 648, y + 2);
@@ -84,12 +65,8 @@ fn put_marks_key<O: Sink>(draft: &mut Draft, sink: &mut O, y: u32)
 
 // Puts the ticks of fronts with their word.
 fn put_fronts_key<O: Sink>(draft: &mut Draft, sink: &mut O, y: u32)
-    requires y { y ≤ 200000 }
-    requires room { draft.old.gone < 2 ^ 57 }
-    ensures text { (start : Option (List ℕ)) (text : List ℕ) → IsDraft start (O.taken sink.old) draft.old text →
-        IsDraft start (O.taken sink.new) draft.new (text ++ fronts_key y) }
-    ensures gone { draft.new.gone ≤ draft.old.gone + 4096 * 43 }
-    ensures cause { FailsOnly (O.faults sink.old) (O.faults sink.new) draft.old.failed draft.new.failed }
+    requires { y ≤ 200000 }
+    ensures { Puts O.taken O.faults draft.old draft.new sink.old sink.new (fronts_key y) }
 {
     put_upright(draft, sink, b"t", 724, (y + 6, y + 12));
     put_upright(draft, sink, b"t", 732, (y + 3, y + 12));
@@ -99,12 +76,8 @@ fn put_fronts_key<O: Sink>(draft: &mut Draft, sink: &mut O, y: u32)
 
 /// Puts the legend at this height.
 pub fn put_legend<O: Sink>(draft: &mut Draft, sink: &mut O, y: u32)
-    requires y { y ≤ 200000 }
-    requires room { draft.old.gone < 2 ^ 55 }
-    ensures text { (start : Option (List ℕ)) (text : List ℕ) → IsDraft start (O.taken sink.old) draft.old text →
-        IsDraft start (O.taken sink.new) draft.new (text ++ legend_text y) }
-    ensures gone { draft.new.gone ≤ draft.old.gone + 4096 * 307 }
-    ensures cause { FailsOnly (O.faults sink.old) (O.faults sink.new) draft.old.failed draft.new.failed }
+    requires { y ≤ 200000 }
+    ensures { Puts O.taken O.faults draft.old draft.new sink.old sink.new (legend_text y) }
 {
     put_aspects_key(draft, sink, y);
     put_key(draft, sink, b"i", 436, y, b"interstage");

@@ -1,7 +1,7 @@
 // The marks of refused commands and of faults.
 ghost use Rattle.std.specs.Prelude.{◌≡◌, ◌+◌, ◌-◌, ◌*◌, ◌/◌, ◌^◌, ◌<◌, ◌≤◌, ◌++◌, ℕ, List, Option, All, Some, length};
 ghost use Rattle.std.specs.Option.{ForSome};
-ghost use Rattle.sig_io.specs.Draft.{IsDraft, FailsOnly};
+ghost use Rattle.sig_io.specs.Draft.{Puts};
 ghost use Rattle.signal_log.specs.Log.{fault_name, fault_text, name_of, other_of, other_text, stage_refusal_text, turn_text};
 ghost use Rattle.log_svg.specs.Layout.{IsLayout};
 ghost use Rattle.log_svg.specs.Marks.{IsFaultIn, IsMarked, IsRefused, mark_y};
@@ -54,12 +54,8 @@ fn mark_y(top: u32, refused: Refused) -> u32
 
 // Puts the name of a group.
 fn put_name<O: Sink>(draft: &mut Draft, sink: &mut O, names: &[ShortName], group: GroupNo)
-    requires group { group.0 < length names.now }
-    requires room { draft.old.gone < 2 ^ 60 }
-    ensures text { (start : Option (List ℕ)) (text : List ℕ) → IsDraft start (O.taken sink.old) draft.old text →
-        IsDraft start (O.taken sink.new) draft.new (text ++ name_of names.now group) }
-    ensures gone { draft.new.gone ≤ draft.old.gone + 4096 }
-    ensures cause { FailsOnly (O.faults sink.old) (O.faults sink.new) draft.old.failed draft.new.failed }
+    requires { group.0 < length names.now }
+    ensures { Puts O.taken O.faults draft.old draft.new sink.old sink.new (name_of names.now group) }
 {
     draft.put(sink, names[usize::from(group.0)].bytes());
 }
@@ -82,12 +78,8 @@ fn other_of(rule: Rule, other: Option<GroupNo>) -> Option<GroupNo>
 
 // Puts the other group where there is one.
 fn put_other<O: Sink>(draft: &mut Draft, sink: &mut O, names: &[ShortName], other: Option<GroupNo>)
-    requires group { ForSome other (λ g. g.0 < length names.now) }
-    requires room { draft.old.gone < 2 ^ 59 }
-    ensures text { (start : Option (List ℕ)) (text : List ℕ) → IsDraft start (O.taken sink.old) draft.old text →
-        IsDraft start (O.taken sink.new) draft.new (text ++ other_text names.now other) }
-    ensures gone { draft.new.gone ≤ draft.old.gone + 4096 * 2 }
-    ensures cause { FailsOnly (O.faults sink.old) (O.faults sink.new) draft.old.failed draft.new.failed }
+    requires { ForSome other (λ g. g.0 < length names.now) }
+    ensures { Puts O.taken O.faults draft.old draft.new sink.old sink.new (other_text names.now other) }
 {
     match other {
         None => {}
@@ -100,12 +92,8 @@ fn put_other<O: Sink>(draft: &mut Draft, sink: &mut O, names: &[ShortName], othe
 
 // Puts a refused turn.
 fn put_turn<O: Sink>(draft: &mut Draft, sink: &mut O, names: &[ShortName], turn: TurnRefusal)
-    requires turn { IsRefused (length names.now) (Refused.Turn turn) }
-    requires room { draft.old.gone < 2 ^ 58 }
-    ensures text { (start : Option (List ℕ)) (text : List ℕ) → IsDraft start (O.taken sink.old) draft.old text →
-        IsDraft start (O.taken sink.new) draft.new (text ++ turn_text names.now turn) }
-    ensures gone { draft.new.gone ≤ draft.old.gone + 4096 * 5 }
-    ensures cause { FailsOnly (O.faults sink.old) (O.faults sink.new) draft.old.failed draft.new.failed }
+    requires { IsRefused (length names.now) (Refused.Turn turn) }
+    ensures { Puts O.taken O.faults draft.old draft.new sink.old sink.new (turn_text names.now turn) }
 {
     put_name(draft, sink, names, turn.group);
     draft.put(sink, b":");
@@ -115,11 +103,7 @@ fn put_turn<O: Sink>(draft: &mut Draft, sink: &mut O, names: &[ShortName], turn:
 
 // Puts a refused stage command.
 fn put_command<O: Sink>(draft: &mut Draft, sink: &mut O, refusal: StageRefusal)
-    requires { draft.old.gone < 2 ^ 58 }
-    ensures text { (start : Option (List ℕ)) (text : List ℕ) → IsDraft start (O.taken sink.old) draft.old text →
-        IsDraft start (O.taken sink.new) draft.new (text ++ stage_refusal_text refusal) }
-    ensures gone { draft.new.gone ≤ draft.old.gone + 4096 * 5 }
-    ensures cause { FailsOnly (O.faults sink.old) (O.faults sink.new) draft.old.failed draft.new.failed }
+    ensures { Puts O.taken O.faults draft.old draft.new sink.old sink.new (stage_refusal_text refusal) }
 {
     draft.put_number(sink, u32::from(refusal.from.0));
     draft.put(sink, b"-");
@@ -130,12 +114,8 @@ fn put_command<O: Sink>(draft: &mut Draft, sink: &mut O, refusal: StageRefusal)
 
 /// Puts what the log says of a refused command: `a-b:RULE`, `NAME:RULE` or `NAME:RULE:OTHER`.
 pub fn put_refused<O: Sink>(draft: &mut Draft, sink: &mut O, names: &[ShortName], refused: Refused)
-    requires refused { IsRefused (length names.now) refused }
-    requires room { draft.old.gone < 2 ^ 58 }
-    ensures text { (start : Option (List ℕ)) (text : List ℕ) → IsDraft start (O.taken sink.old) draft.old text →
-        IsDraft start (O.taken sink.new) draft.new (text ++ words_text names.now refused) }
-    ensures gone { draft.new.gone ≤ draft.old.gone + 4096 * 5 }
-    ensures cause { FailsOnly (O.faults sink.old) (O.faults sink.new) draft.old.failed draft.new.failed }
+    requires { IsRefused (length names.now) refused }
+    ensures { Puts O.taken O.faults draft.old draft.new sink.old sink.new (words_text names.now refused) }
 {
     match refused {
         Refused::Turn(turn) => put_turn(draft, sink, names, turn),
@@ -145,11 +125,7 @@ pub fn put_refused<O: Sink>(draft: &mut Draft, sink: &mut O, names: &[ShortName]
 
 // Puts the beginning of what is told of a mark where one points at it.
 fn begin_title<O: Sink>(draft: &mut Draft, sink: &mut O, second: u32)
-    requires { draft.old.gone < 2 ^ 59 }
-    ensures text { (start : Option (List ℕ)) (text : List ℕ) → IsDraft start (O.taken sink.old) draft.old text →
-        IsDraft start (O.taken sink.new) draft.new (text ++ title_begin second) }
-    ensures gone { draft.new.gone ≤ draft.old.gone + 4096 * 2 }
-    ensures cause { FailsOnly (O.faults sink.old) (O.faults sink.new) draft.old.failed draft.new.failed }
+    ensures { Puts O.taken O.faults draft.old draft.new sink.old sink.new (title_begin second) }
 {
     draft.put(sink, b"><title>");
     draft.put_number(sink, second);
@@ -167,11 +143,7 @@ fn put_refusal<O: Sink>(
     requires layout { IsLayout layout }
     requires mark { IsMarked (length names.now) layout mark.now }
     requires top { (24 ≤ top) × (top ≤ 1000) }
-    requires room { draft.old.gone < 2 ^ 57 }
-    ensures text { (start : Option (List ℕ)) (text : List ℕ) → IsDraft start (O.taken sink.old) draft.old text →
-        IsDraft start (O.taken sink.new) draft.new (text ++ refusal_text names.now layout top mark.now) }
-    ensures gone { draft.new.gone ≤ draft.old.gone + 4096 * 16 }
-    ensures cause { FailsOnly (O.faults sink.old) (O.faults sink.new) draft.old.failed draft.new.failed }
+    ensures { Puts O.taken O.faults draft.old draft.new sink.old sink.new (refusal_text names.now layout top mark.now) }
 {
     let tip = mark_y(top, mark.refused);
     begin_triangle(draft, sink, middle_of(layout, mark.second), tip);
@@ -192,13 +164,8 @@ pub fn put_refusals<O: Sink>(
 )
     requires layout { IsLayout layout }
     requires marks { All (IsMarked (length names.now) layout) marks.now }
-    requires few { length marks.now ≤ 2 ^ 32 }
     requires top { (24 ≤ top) × (top ≤ 1000) }
-    requires room { draft.old.gone < 2 ^ 53 }
-    ensures text { (start : Option (List ℕ)) (text : List ℕ) → IsDraft start (O.taken sink.old) draft.old text →
-        IsDraft start (O.taken sink.new) draft.new (text ++ refusals_text names.now layout top marks.now) }
-    ensures gone { draft.new.gone ≤ draft.old.gone + 65536 * length marks.now }
-    ensures cause { FailsOnly (O.faults sink.old) (O.faults sink.new) draft.old.failed draft.new.failed }
+    ensures { Puts O.taken O.faults draft.old draft.new sink.old sink.new (refusals_text names.now layout top marks.now) }
 {
     for mark in marks {
         put_refusal(draft, sink, names, layout, top, mark);
@@ -221,11 +188,7 @@ pub fn fault_name(kind: FaultKind) -> &'static [u8]
 
 /// Puts what the log says of a fault: `KIND@LINE`.
 pub fn put_fault<O: Sink>(draft: &mut Draft, sink: &mut O, fault: Fault)
-    requires { draft.old.gone < 2 ^ 58 }
-    ensures text { (start : Option (List ℕ)) (text : List ℕ) → IsDraft start (O.taken sink.old) draft.old text →
-        IsDraft start (O.taken sink.new) draft.new (text ++ fault_text (Some fault)) }
-    ensures gone { draft.new.gone ≤ draft.old.gone + 4096 * 3 }
-    ensures cause { FailsOnly (O.faults sink.old) (O.faults sink.new) draft.old.failed draft.new.failed }
+    ensures { Puts O.taken O.faults draft.old draft.new sink.old sink.new (fault_text (Some fault)) }
 {
     draft.put(sink, fault_name(fault.kind));
     draft.put(sink, b"@");
@@ -243,11 +206,7 @@ fn put_fault_mark<O: Sink>(
     requires layout { IsLayout layout }
     requires mark { IsFaultIn layout mark.now }
     requires y { y ≤ 100000 }
-    requires room { draft.old.gone < 2 ^ 57 }
-    ensures text { (start : Option (List ℕ)) (text : List ℕ) → IsDraft start (O.taken sink.old) draft.old text →
-        IsDraft start (O.taken sink.new) draft.new (text ++ fault_mark_text layout y mark.now) }
-    ensures gone { draft.new.gone ≤ draft.old.gone + 4096 * 14 }
-    ensures cause { FailsOnly (O.faults sink.old) (O.faults sink.new) draft.old.failed draft.new.failed }
+    ensures { Puts O.taken O.faults draft.old draft.new sink.old sink.new (fault_mark_text layout y mark.now) }
 {
     begin_cross(draft, sink, middle_of(layout, mark.second) - 4, y + 3);
     begin_title(draft, sink, mark.second);
@@ -266,13 +225,8 @@ pub fn put_faults<O: Sink>(
 )
     requires layout { IsLayout layout }
     requires marks { All (IsFaultIn layout) marks.now }
-    requires few { length marks.now ≤ 3600 }
     requires y { y ≤ 100000 }
-    requires room { draft.old.gone < 2 ^ 54 }
-    ensures text { (start : Option (List ℕ)) (text : List ℕ) → IsDraft start (O.taken sink.old) draft.old text →
-        IsDraft start (O.taken sink.new) draft.new (text ++ faults_text layout y marks.now) }
-    ensures gone { draft.new.gone ≤ draft.old.gone + 57344 * length marks.now }
-    ensures cause { FailsOnly (O.faults sink.old) (O.faults sink.new) draft.old.failed draft.new.failed }
+    ensures { Puts O.taken O.faults draft.old draft.new sink.old sink.new (faults_text layout y marks.now) }
 {
     for mark in marks {
         put_fault_mark(draft, sink, layout, y, mark);

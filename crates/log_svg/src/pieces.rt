@@ -1,19 +1,15 @@
 // The elements of the SVG text. Each call puts one at the end of a draft.
 ghost use Rattle.std.specs.Prelude.{◌+◌, ◌*◌, ◌^◌, ◌<◌, ◌≤◌, ◌++◌, ℕ, List, Option, length};
 ghost use Rattle.std.specs.Fmt.{decimal};
-ghost use Rattle.sig_io.specs.Draft.{IsDraft, FailsOnly};
+ghost use Rattle.sig_io.specs.Draft.{Puts};
 ghost use Rattle.log_svg.specs.Svg.{across_text, attribute_text, box_text, cross_text, label_begin, label_text, path_begin, triangle_text, upright_text};
 
 use sig_io::{Draft, Sink};
 
 /// Puts an attribute that is a number.
 pub fn put_attribute<O: Sink>(draft: &mut Draft, sink: &mut O, name: &[u8], n: u32)
-    requires name { length name.now ≤ 4096 }
-    requires room { draft.old.gone < 2 ^ 60 }
-    ensures text { (start : Option (List ℕ)) (text : List ℕ) → IsDraft start (O.taken sink.old) draft.old text →
-        IsDraft start (O.taken sink.new) draft.new (text ++ attribute_text name.now n) }
-    ensures gone { draft.new.gone ≤ draft.old.gone + 4096 * 5 }
-    ensures cause { FailsOnly (O.faults sink.old) (O.faults sink.new) draft.old.failed draft.new.failed }
+    requires { length name.now ≤ 4096 }
+    ensures { Puts O.taken O.faults draft.old draft.new sink.old sink.new (attribute_text name.now n) }
 {
     draft.put(sink, b" ");
     draft.put(sink, name);
@@ -31,12 +27,8 @@ pub fn put_box<O: Sink>(
     width: u32,
     height: u32,
 )
-    requires class { length class.now ≤ 4096 }
-    requires room { draft.old.gone < 2 ^ 59 }
-    ensures text { (start : Option (List ℕ)) (text : List ℕ) → IsDraft start (O.taken sink.old) draft.old text →
-        IsDraft start (O.taken sink.new) draft.new (text ++ box_text class.now corner.0 corner.1 width height) }
-    ensures gone { draft.new.gone ≤ draft.old.gone + 4096 * 24 }
-    ensures cause { FailsOnly (O.faults sink.old) (O.faults sink.new) draft.old.failed draft.new.failed }
+    requires { length class.now ≤ 4096 }
+    ensures { Puts O.taken O.faults draft.old draft.new sink.old sink.new (box_text class.now corner.0 corner.1 width height) }
 {
     draft.put(sink, b"<rect class=\"");
     draft.put(sink, class);
@@ -50,12 +42,8 @@ pub fn put_box<O: Sink>(
 
 // Puts the beginning of a word's element.
 pub(crate) fn begin_label<O: Sink>(draft: &mut Draft, sink: &mut O, class: &[u8], x: u32, y: u32)
-    requires class { length class.now ≤ 4096 }
-    requires room { draft.old.gone < 2 ^ 59 }
-    ensures text { (start : Option (List ℕ)) (text : List ℕ) → IsDraft start (O.taken sink.old) draft.old text →
-        IsDraft start (O.taken sink.new) draft.new (text ++ label_begin class.now x y) }
-    ensures gone { draft.new.gone ≤ draft.old.gone + 4096 * 14 }
-    ensures cause { FailsOnly (O.faults sink.old) (O.faults sink.new) draft.old.failed draft.new.failed }
+    requires { length class.now ≤ 4096 }
+    ensures { Puts O.taken O.faults draft.old draft.new sink.old sink.new (label_begin class.now x y) }
 {
     draft.put(sink, b"<text class=\"");
     draft.put(sink, class);
@@ -76,11 +64,7 @@ pub fn put_label<O: Sink>(
 )
     requires class { length class.now ≤ 4096 }
     requires word { length word.now ≤ 4096 }
-    requires room { draft.old.gone < 2 ^ 58 }
-    ensures text { (start : Option (List ℕ)) (text : List ℕ) → IsDraft start (O.taken sink.old) draft.old text →
-        IsDraft start (O.taken sink.new) draft.new (text ++ label_text class.now x y word.now) }
-    ensures gone { draft.new.gone ≤ draft.old.gone + 4096 * 16 }
-    ensures cause { FailsOnly (O.faults sink.old) (O.faults sink.new) draft.old.failed draft.new.failed }
+    ensures { Puts O.taken O.faults draft.old draft.new sink.old sink.new (label_text class.now x y word.now) }
 {
     begin_label(draft, sink, class, x, y);
     draft.put(sink, word);
@@ -96,12 +80,8 @@ pub fn put_number_label<O: Sink>(
     y: u32,
     n: u32,
 )
-    requires class { length class.now ≤ 4096 }
-    requires room { draft.old.gone < 2 ^ 58 }
-    ensures text { (start : Option (List ℕ)) (text : List ℕ) → IsDraft start (O.taken sink.old) draft.old text →
-        IsDraft start (O.taken sink.new) draft.new (text ++ label_text class.now x y (decimal n)) }
-    ensures gone { draft.new.gone ≤ draft.old.gone + 4096 * 16 }
-    ensures cause { FailsOnly (O.faults sink.old) (O.faults sink.new) draft.old.failed draft.new.failed }
+    requires { length class.now ≤ 4096 }
+    ensures { Puts O.taken O.faults draft.old draft.new sink.old sink.new (label_text class.now x y (decimal n)) }
 {
     begin_label(draft, sink, class, x, y);
     draft.put_number(sink, n);
@@ -110,11 +90,7 @@ pub fn put_number_label<O: Sink>(
 
 /// Puts a thin line across.
 pub fn put_across<O: Sink>(draft: &mut Draft, sink: &mut O, y: u32, right: u32)
-    requires { draft.old.gone < 2 ^ 58 }
-    ensures text { (start : Option (List ℕ)) (text : List ℕ) → IsDraft start (O.taken sink.old) draft.old text →
-        IsDraft start (O.taken sink.new) draft.new (text ++ across_text y right) }
-    ensures gone { draft.new.gone ≤ draft.old.gone + 4096 * 5 }
-    ensures cause { FailsOnly (O.faults sink.old) (O.faults sink.new) draft.old.failed draft.new.failed }
+    ensures { Puts O.taken O.faults draft.old draft.new sink.old sink.new (across_text y right) }
 {
     draft.put(sink, b"<path class=\"b\" d=\"M12 ");
     draft.put_number(sink, y);
@@ -125,12 +101,8 @@ pub fn put_across<O: Sink>(draft: &mut Draft, sink: &mut O, y: u32, right: u32)
 
 // Puts the beginning of a path of a class, at this x.
 fn begin_path<O: Sink>(draft: &mut Draft, sink: &mut O, class: &[u8], x: u32)
-    requires class { length class.now ≤ 4096 }
-    requires room { draft.old.gone < 2 ^ 59 }
-    ensures text { (start : Option (List ℕ)) (text : List ℕ) → IsDraft start (O.taken sink.old) draft.old text →
-        IsDraft start (O.taken sink.new) draft.new (text ++ path_begin class.now x) }
-    ensures gone { draft.new.gone ≤ draft.old.gone + 4096 * 5 }
-    ensures cause { FailsOnly (O.faults sink.old) (O.faults sink.new) draft.old.failed draft.new.failed }
+    requires { length class.now ≤ 4096 }
+    ensures { Puts O.taken O.faults draft.old draft.new sink.old sink.new (path_begin class.now x) }
 {
     draft.put(sink, b"<path class=\"");
     draft.put(sink, class);
@@ -141,12 +113,8 @@ fn begin_path<O: Sink>(draft: &mut Draft, sink: &mut O, class: &[u8], x: u32)
 
 /// Puts a line down, of a class.
 pub fn put_upright<O: Sink>(draft: &mut Draft, sink: &mut O, class: &[u8], x: u32, ends: (u32, u32))
-    requires class { length class.now ≤ 4096 }
-    requires room { draft.old.gone < 2 ^ 58 }
-    ensures text { (start : Option (List ℕ)) (text : List ℕ) → IsDraft start (O.taken sink.old) draft.old text →
-        IsDraft start (O.taken sink.new) draft.new (text ++ upright_text class.now x ends.0 ends.1) }
-    ensures gone { draft.new.gone ≤ draft.old.gone + 4096 * 9 }
-    ensures cause { FailsOnly (O.faults sink.old) (O.faults sink.new) draft.old.failed draft.new.failed }
+    requires { length class.now ≤ 4096 }
+    ensures { Puts O.taken O.faults draft.old draft.new sink.old sink.new (upright_text class.now x ends.0 ends.1) }
 {
     begin_path(draft, sink, class, x);
     draft.put_number(sink, ends.0);
@@ -157,11 +125,7 @@ pub fn put_upright<O: Sink>(draft: &mut Draft, sink: &mut O, class: &[u8], x: u3
 
 /// Puts a triangle with this tip, up to the end of its outline.
 pub fn begin_triangle<O: Sink>(draft: &mut Draft, sink: &mut O, x: u32, y: u32)
-    requires { draft.old.gone < 2 ^ 58 }
-    ensures text { (start : Option (List ℕ)) (text : List ℕ) → IsDraft start (O.taken sink.old) draft.old text →
-        IsDraft start (O.taken sink.new) draft.new (text ++ triangle_text x y) }
-    ensures gone { draft.new.gone ≤ draft.old.gone + 4096 * 7 }
-    ensures cause { FailsOnly (O.faults sink.old) (O.faults sink.new) draft.old.failed draft.new.failed }
+    ensures { Puts O.taken O.faults draft.old draft.new sink.old sink.new (triangle_text x y) }
 {
     begin_path(draft, sink, b"x", x);
     draft.put_number(sink, y);
@@ -170,11 +134,7 @@ pub fn begin_triangle<O: Sink>(draft: &mut Draft, sink: &mut O, x: u32, y: u32)
 
 /// Puts a cross with this corner, up to the end of its outline.
 pub fn begin_cross<O: Sink>(draft: &mut Draft, sink: &mut O, x: u32, y: u32)
-    requires { draft.old.gone < 2 ^ 58 }
-    ensures text { (start : Option (List ℕ)) (text : List ℕ) → IsDraft start (O.taken sink.old) draft.old text →
-        IsDraft start (O.taken sink.new) draft.new (text ++ cross_text x y) }
-    ensures gone { draft.new.gone ≤ draft.old.gone + 4096 * 7 }
-    ensures cause { FailsOnly (O.faults sink.old) (O.faults sink.new) draft.old.failed draft.new.failed }
+    ensures { Puts O.taken O.faults draft.old draft.new sink.old sink.new (cross_text x y) }
 {
     begin_path(draft, sink, b"f", x);
     draft.put_number(sink, y);

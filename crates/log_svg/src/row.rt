@@ -1,6 +1,6 @@
 // A group's row.
 ghost use Rattle.std.specs.Prelude.{◌≡◌, ◌+◌, ◌-◌, ◌*◌, ◌/◌, ◌^◌, ◌<◌, ◌≤◌, ◌++◌, ℕ, List, Option, All, length};
-ghost use Rattle.sig_io.specs.Draft.{IsDraft, FailsOnly};
+ghost use Rattle.sig_io.specs.Draft.{Puts};
 ghost use Rattle.log_svg.specs.Layout.{IsLayout, x_of};
 ghost use Rattle.log_svg.specs.Svg.{IsShown, digit_count, group_text, is_told, row_text, seconds_text, span_text, width_of};
 
@@ -58,11 +58,7 @@ fn put_seconds<O: Sink>(
     requires layout { IsLayout layout }
     requires span { IsShown layout span.now }
     requires y { y ≤ 100000 }
-    requires room { draft.old.gone < 2 ^ 57 }
-    ensures text { (start : Option (List ℕ)) (text : List ℕ) → IsDraft start (O.taken sink.old) draft.old text →
-        IsDraft start (O.taken sink.new) draft.new (text ++ seconds_text layout y span.now) }
-    ensures gone { draft.new.gone ≤ draft.old.gone + 4096 * 16 }
-    ensures cause { FailsOnly (O.faults sink.old) (O.faults sink.new) draft.old.failed draft.new.failed }
+    ensures { Puts O.taken O.faults draft.old draft.new sink.old sink.new (seconds_text layout y span.now) }
 {
     if is_told(layout, span) {
         let x = x_of(layout, span.first.0) + width_of(layout, span) / 2;
@@ -76,11 +72,7 @@ fn put_span<O: Sink>(draft: &mut Draft, sink: &mut O, layout: Layout, y: u32, sp
     requires layout { IsLayout layout }
     requires span { IsShown layout span.now }
     requires y { y ≤ 100000 }
-    requires room { draft.old.gone < 2 ^ 56 }
-    ensures text { (start : Option (List ℕ)) (text : List ℕ) → IsDraft start (O.taken sink.old) draft.old text →
-        IsDraft start (O.taken sink.new) draft.new (text ++ span_text layout y span.now) }
-    ensures gone { draft.new.gone ≤ draft.old.gone + 4096 * 40 }
-    ensures cause { FailsOnly (O.faults sink.old) (O.faults sink.new) draft.old.failed draft.new.failed }
+    ensures { Puts O.taken O.faults draft.old draft.new sink.old sink.new (span_text layout y span.now) }
 {
     let x = x_of(layout, span.first.0);
     let width = width_of(layout, span);
@@ -105,13 +97,8 @@ pub fn put_row<O: Sink>(
 )
     requires layout { IsLayout layout }
     requires spans { All (IsShown layout) spans.now }
-    requires few { length spans.now ≤ 3600 }
     requires y { y ≤ 100000 }
-    requires room { draft.old.gone < 2 ^ 55 }
-    ensures text { (start : Option (List ℕ)) (text : List ℕ) → IsDraft start (O.taken sink.old) draft.old text →
-        IsDraft start (O.taken sink.new) draft.new (text ++ row_text layout y spans.now) }
-    ensures gone { draft.new.gone ≤ draft.old.gone + 163840 * length spans.now }
-    ensures cause { FailsOnly (O.faults sink.old) (O.faults sink.new) draft.old.failed draft.new.failed }
+    ensures { Puts O.taken O.faults draft.old draft.new sink.old sink.new (row_text layout y spans.now) }
 {
     for span in spans {
         put_span(draft, sink, layout, y, span);
@@ -129,14 +116,9 @@ pub fn put_group<O: Sink>(
 )
     requires layout { IsLayout layout }
     requires spans { All (IsShown layout) spans.now }
-    requires few { length spans.now ≤ 3600 }
     requires name { length name.now ≤ 32 }
     requires y { y ≤ 100000 }
-    requires room { draft.old.gone < 2 ^ 54 }
-    ensures text { (start : Option (List ℕ)) (text : List ℕ) → IsDraft start (O.taken sink.old) draft.old text →
-        IsDraft start (O.taken sink.new) draft.new (text ++ group_text layout y name.now spans.now) }
-    ensures gone { draft.new.gone ≤ draft.old.gone + 2 ^ 30 }
-    ensures cause { FailsOnly (O.faults sink.old) (O.faults sink.new) draft.old.failed draft.new.failed }
+    ensures { Puts O.taken O.faults draft.old draft.new sink.old sink.new (group_text layout y name.now spans.now) }
 {
     put_label(draft, sink, b"n", layout.left - 12, y + 15, name);
     put_row(draft, sink, layout, y, spans);

@@ -1,10 +1,10 @@
 -- The texts of a diagram of characters, one part more.
-use Rattle.std.proofs.Common.{◌≡◌, ◌∙◌, ℕ, suc, ◌+◌, ◌<◌, ◌≤◌, List, [], ◌∷◌, ◌++◌, length, replicate, refl, sym, ap, arith, add-one, append_assoc, subst, Option}
+use Rattle.std.proofs.Common.{◌≡◌, ◌∙◌, ℕ, suc, ◌+◌, ◌<◌, ◌≤◌, List, [], ◌∷◌, ◌++◌, length, replicate, refl, sym, ap, arith, add-one, append_assoc, Option}
 use Rattle.std.specs.Fmt.{decimal}
 use Rattle.std.proofs.lemmas.Fmt.{length-decimal-le}
 use Rattle.std.proofs.lemmas.List.{replicate-append-replicate}
-use Rattle.sig_io.specs.Draft.{Held, IsDraft}
-use Rattle.log_svg.proofs.Joins.{Puts, then}
+use Rattle.sig_io.specs.Draft.{Held, Puts}
+use Rattle.sig_io.proofs.Drafts.{same_put, then}
 use Rattle.log_svg.specs.declared.fronts.FrontMark.{FrontMark}
 use Rattle.log_svg.specs.Diagram.{Shown}
 use Rattle.log_view.specs.declared.letters.Block.{Block}
@@ -13,10 +13,6 @@ use Rattle.log_view.specs.Letters.{block_at, block_text, blocks_to, free_after, 
 -- the same character once more
 pub times_more : (n letter : ℕ) → replicate n letter ++ letter ∷ [] ≡ replicate (n + 1) letter
 times_more n letter = replicate-append-replicate n 1 letter
-
--- the digits of a number of 32 bits
-pub few_digits : (n : ℕ) → n < 4294967296 → length (decimal n) ≤ 10
-few_digits n lt = length-decimal-le 10 n (omega arith) (omega (arith, lt)) (omega (arith, lt))
 
 -- one second more
 pub free_more : (first n : ℕ) → free_to first (n + 1) ≡ free_after first (free_to first n) (first + n)
@@ -47,6 +43,6 @@ unfolding blocks_to
 blocks_more s n = rw add-one refl
 
 -- what begins with a text is put, and then one part more of what follows it
-pub then_more : (s t u : Option (List ℕ)) (d e f : Held) (a b : List ℕ) (x more : List ℕ) → Puts s t d e (a ++ b) → Puts t u e f x → more ≡ b ++ x → Puts s u d f (a ++ more)
-then_more s t u d e f a b x more first second same = λ start text is.
-    subst (λ w. IsDraft start u f (text ++ w)) (append_assoc a b x ∙ ap (λ w. a ++ w) (sym same)) (then s t u d e f (a ++ b) x first second start text is)
+pub then_more : {O : Type 0} {taken : O → Option (List ℕ)} {faults : O → ℕ} {d e f : Held} {s t u : O} (a b : List ℕ) {x more : List ℕ} →
+    Puts taken faults d e s t (a ++ b) → Puts taken faults e f t u x → more ≡ b ++ x → Puts taken faults d f s u (a ++ more)
+then_more a b {x = x} first second same = same_put (append_assoc a b x ∙ ap (λ w. a ++ w) (sym same)) (then first second)

@@ -93,9 +93,6 @@ window_ranged names records from to least order said =
     let last : from + (to + 1 - from) - 1 ≡ to = omega arith in
     rw last at (ranged_take (length names) from (to + 1 - from) (drop (from - 1) records) (rw first at (ranged_from (length names) (from - 1) 1 records all)))
 
-window_most : (records : List Record) (from to : ℕ) → length (window_in from to records) ≤ to + 1 - from
-window_most records from to = omega (arith, length-take (to + 1 - from) (drop (from - 1) records))
-
 -- the marks of a record
 fronts_ok : (layout : Layout) (s d : ℕ) (cs : List (ℕ × ℕ)) → layout.from ≤ s → s ≤ layout.to → 1 ≤ d → d + length cs ≤ 65 → All (IsFrontIn layout) (fronts_from s d cs)
 fronts_ok layout s d [] begin end least most = none_of (IsFrontIn layout)
@@ -109,26 +106,9 @@ fronts_ok layout s d (c ∷ cs) begin end least most =
           (one_of (IsFrontIn layout) (record { second = s; detector = record { 0 = d }; fronts = fronts }) record { begin = begin; end = end; least = least; most = omega (arith, most) })
     ]
 
-fronts_most : (s d : ℕ) (cs : List (ℕ × ℕ)) → length (fronts_from s d cs) ≤ length cs
-fronts_most s d [] = omega arith
-fronts_most s d (c ∷ cs) =
-    let rest = fronts_most s (d + 1) cs in
-    let first = front_most c.0 in
-    omega (arith, rest, first, length-append (front_by s d c.0) (fronts_from s (d + 1) cs))
-  where
-    front_most : (fronts : ℕ) → length (front_by s d fronts) ≤ 1
-    front_most fronts = elim (cases_eq fronts 0) [
-      | inl none ↦ rw none (omega arith)
-      | inr some ↦ rw (ne_eqb fronts 0 some) (omega arith)
-    ]
-
 fault_ok : (layout : Layout) (s : ℕ) (fault : Option Fault) → layout.from ≤ s → s ≤ layout.to → All (IsFaultIn layout) (fault_by s fault)
 fault_ok layout s None begin end = none_of (IsFaultIn layout)
 fault_ok layout s (Some f) begin end = one_of (IsFaultIn layout) _ (begin, end)
-
-fault_most : (s : ℕ) (fault : Option Fault) → length (fault_by s fault) ≤ 1
-fault_most s None = omega arith
-fault_most s (Some f) = omega arith
 
 refusals_ok : (n : ℕ) (layout : Layout) (r : Record) → layout.from ≤ r.second.0 → r.second.0 ≤ layout.to → AreFew n (r.stages, r.turns) → All (IsMarked n layout) (refusals_in r)
 refusals_ok n layout r begin end few =
@@ -137,19 +117,6 @@ refusals_ok n layout r begin end few =
     (λ i d lt. record { begin = begin; end = end; groups_are = tt }))
     (All-map (IsMarked n layout) (λ (x : TurnRefusal). record { second = r.second.0; refused = Turn x }) r.turns
     (λ i d lt. record { begin = begin; end = end; groups_are = few.groups i d lt }))
-
-refusals_most : (n : ℕ) (r : Record) → AreFew n (r.stages, r.turns) → length (refusals_in r) ≤ 10064
-refusals_most n r few =
-    let stages : List RefusalMark = map (λ (x : StageRefusal). record { second = r.second.0; refused = Command x }) r.stages in
-    let turns : List RefusalMark = map (λ (x : TurnRefusal). record { second = r.second.0; refused = Turn x }) r.turns in
-    omega (
-      arith,
-      few.stages,
-      few.turns,
-      length-append stages turns,
-      length-map {B = RefusalMark} r.stages (λ (x : StageRefusal). record { second = r.second.0; refused = Command x }),
-      length-map {B = RefusalMark} r.turns (λ (x : TurnRefusal). record { second = r.second.0; refused = Turn x }),
-    )
 
 -- a diagram of a whole window can be shown
 pub showable : (names : List (List ℕ)) (records : List Record) (window : Window) (d : Diagram) → IsWindow window → length names ≤ 64 → AreSaid names records → window.to ≤ length records →
@@ -160,7 +127,6 @@ showable names records window d is few said long drawn =
     let layout : Layout = layout_of names from to in
     let past : d.chart.past ≡ to + 1 = omega (arith, drawn.past_is, long, is.order) in
     let inside = window_ranged names records from to is.least is.order said in
-    let seconds = window_most records from to in
     let stays : AreSpans (places_of records) from (to + 1) d.stays.items = rw past at (drawn.stays (places_of records) (λ t le. refl)) in
     rw (drawn.names_are, drawn.from_is, drawn.to_is, drawn.fronts, drawn.refusals, drawn.faults) record {
       order = is.order;
@@ -170,14 +136,10 @@ showable names records window d is few said long drawn =
       history = history_of (length names) records;
       chart = rw past at (drawn.chart (history_of (length names) records) (λ t le. refl));
       stays = λ i s lt. let each = stays.each i s lt in record { begin = each.begin; order = each.order; end = omega (arith, each.end) };
-      few_stays = (let short = row_is_short (places_of records) from (to + 1) d.stays.items (omega (arith, is.order)) stays in omega (arith, short, is.hour));
       fronts = all_added (IsFrontIn layout) fronts_in (window_in from to records) (λ i r lt. let each = inside i r lt in
           fronts_ok layout (get_or (window_in from to records) i r).second.0 1 (get_or (window_in from to records) i r).frame each.begin each.end (omega arith) (omega (arith, each.frame)));
-      few_fronts = omega (arith, added_most fronts_in 64 (window_in from to records) (λ i r lt. omega (arith, fronts_most (get_or (window_in from to records) i r).second.0 1 (get_or (window_in from to records) i r).frame, (inside i r lt).frame)), seconds, is.hour);
       refusals = all_added (IsMarked (length names) layout) refusals_in (window_in from to records) (λ i r lt. let each = inside i r lt in
           refusals_ok (length names) layout (get_or (window_in from to records) i r) each.begin each.end each.refused);
-      few_refusals = omega (arith, added_most refusals_in 10064 (window_in from to records) (λ i r lt. refusals_most (length names) (get_or (window_in from to records) i r) (inside i r lt).refused), seconds, is.hour);
       faults = all_added (IsFaultIn layout) faults_in (window_in from to records) (λ i r lt. let each = inside i r lt in
           fault_ok layout (get_or (window_in from to records) i r).second.0 (get_or (window_in from to records) i r).fault each.begin each.end);
-      few_faults = omega (arith, added_most faults_in 1 (window_in from to records) (λ i r lt. fault_most (get_or (window_in from to records) i r).second.0 (get_or (window_in from to records) i r).fault), seconds, is.hour);
     }

@@ -1,14 +1,8 @@
 -- The lines of a text of sums, one after another.
-use Rattle.std.proofs.Common.{◌≡◌, ◌∙◌, ℕ, suc, zero, ◌+◌, ◌<◌, List, [], ◌∷◌, ◌++◌, Option, length, get_or, take, sym, ap, arith, append_assoc, subst}
+use Rattle.std.proofs.Common.{◌≡◌, ◌∙◌, ℕ, suc, zero, ◌+◌, ◌<◌, List, [], ◌∷◌, ◌++◌, length, get_or, take, sym, ap, arith, append_assoc}
 use Rattle.std.proofs.lemmas.List.{append-nil}
-use Rattle.sig_io.specs.Draft.{Held, IsDraft}
 use Rattle.log_chart.specs.declared.past.GroupPast.{GroupPast}
-use Rattle.log_svg.proofs.Joins.{Puts}
 use Rattle.log_view.specs.SumsText.{detector_text, detectors_to, group_text, groups_text}
-
--- a text that is put, otherwise joined
-pub joined : (s t : Option (List ℕ)) (d e : Held) (a b : List ℕ) → a ≡ b → Puts s t d e a → Puts s t d e b
-joined s t d e a b same put = λ start text is. subst (λ w. IsDraft start t e (text ++ w)) same (put start text is)
 
 -- one detector more
 pub detectors_more : (vehicles : List ℕ) (n : ℕ) → detectors_to vehicles (n + 1) ≡ detectors_to vehicles n ++ detector_text (n + 1) (get_or vehicles n 0)

@@ -32,12 +32,11 @@ use Rattle.log_view.specs.Drawn.{AreSaid}
 use Rattle.log_view.specs.Gathered.{history_of, places_of}
 use Rattle.log_view.specs.Notes.{stop_of}
 use Rattle.log_view.specs.Summed.{HasPlace, IsPlaceSum, IsSummed, IsTextual, fault_items, fault_tallies, refusal_tallies, refused_in}
-use Rattle.log_view.proofs.Adding.{few_faults}
 use Rattle.log_view.proofs.Places.{all_behind, closed_sum}
 use Rattle.log_view.proofs.Ranges.{AreFew, IsRanged, ranged}
 use Rattle.log_view.proofs.Reading.{said_more}
 use Rattle.log_view.proofs.Showable.{added_most, all_added}
-use Rattle.log_view.proofs.Tallies.{all_counted, few_tallies}
+use Rattle.log_view.proofs.Tallies.{all_counted}
 
 -- these records were read of a log, and are summed
 pub record HasSummed (told : Option Contents) (name : List ℕ) (r : LogRecords) (s : Sums) : Type 0 where
@@ -46,9 +45,6 @@ pub record HasSummed (told : Option Contents) (name : List ℕ) (r : LogRecords)
   pub said : AreSaid (names_of r) records
   pub reads : ForSome told (λ file. Reads r (file name) records)
   pub sums : AddsUp (names_of r) records s
-
-pub sum_first : (told : Option Contents) (name : List ℕ) (r : LogRecords) (s : Sums) → records_given r ≡ 0 → ForSome told (λ file. Reads r (file name) []) → AddsUp (names_of r) [] s → HasSummed told name r s
-sum_first told name r s none reads sums = record { records = []; count = sym none; said = λ k e lt. absurd (omega arith); reads = reads; sums = sums }
 
 -- a record that a line says
 said_ranged : (names : List (List ℕ)) (records : List Record) (k : ℕ) (d : Record) → AreSaid names records → k < length records → IsRanged (length names) (k + 1) (get_or records k d)
@@ -125,29 +121,14 @@ summed names records s is =
       vehicles = is.vehicles;
     }
 
-pub textual : (names : List (List ℕ)) (records : List Record) (s : Sums) → length names ≤ 64 → length records ≤ 604801 → AreSaid names records → AddsUp names records s → IsTextual s
-textual names records s few last said is = record {
+pub textual : (names : List (List ℕ)) (records : List Record) (s : Sums) → length names ≤ 64 → AreSaid names records → AddsUp names records s → IsTextual s
+textual names records s few said is = record {
   few = rw is.names_are few;
-  few_places = omega (arith, is.few, last);
   groups = λ i d lt.
       let f : RefusalTally → Refused × ℕ = λ t. (t.refused, t.times) in
       let all = all_counted (IsRefused (length names)) (flat_map refused_in records) (refusal_tallies s.refusals.items) is.refusals (all_refused names records said) in
       let here = all i (f d) (omega (arith, lt, length-map s.refusals.items f)) in
       rw is.names_are (subst (λ t. IsRefused (length names) t.0) (get_or-map f s.refusals.items i d (f d) lt) here);
-  few_refusals = omega (
-    arith,
-    few_tallies (flat_map refused_in records) (refusal_tallies s.refusals.items) is.refusals,
-    few_refused names records said,
-    last,
-    length-map {B = Refused × ℕ} s.refusals.items (λ (t : RefusalTally). (t.refused, t.times)),
-  );
-  few_faults = omega (
-    arith,
-    few_tallies (flat_map (λ (r : Record). fault_items r.fault) records) (fault_tallies s.faults.items) is.faults,
-    few_faults records,
-    last,
-    length-map {B = Fault × ℕ} s.faults.items (λ (t : FaultTally). (t.fault, t.times)),
-  );
 }
 
 -- why a log isn't added up

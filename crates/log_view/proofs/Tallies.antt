@@ -112,16 +112,6 @@ begin f items old t are other one =
 pub items_most : {A X : Type 0} (f : X → A) (items : List A) (xs : List X) (n : ℕ) → length (items ++ map f (take n xs)) ≤ length items + length xs
 items_most f items xs n = omega (arith, length-append items (map f (take n xs)), length-map (take n xs) f, length-take n xs)
 
--- each tally stands for an item at least
-few_spelled : {A : Type 0} (ts : List (A × ℕ)) → All (λ t. 1 ≤ t.1) ts → length ts ≤ length (spelled ts)
-few_spelled [] some = omega arith
-few_spelled (t ∷ ts) some =
-    let rest = few_spelled ts (λ i d lt. some (suc i) d (omega arith)) in
-    omega (arith, rest, some 0 t (omega arith), length-append (replicate t.1 t.0) (spelled ts), length-replicate t.1 t.0)
-
-pub few_tallies : {A : Type 0} (items : List A) (ts : List (A × ℕ)) → AreTallies items ts → length ts ≤ length items
-few_tallies {A = A} items ts are = omega (arith, few_spelled ts are.some, length_permutation items (spelled ts) are.whole)
-
 -- what holds of the items holds of what is counted
 head_of : {A : Type 0} (P : A → Type 0) (n : ℕ) (x : A) (rest : List A) → 1 ≤ n → All P (replicate n x ++ rest) → P x
 head_of P zero x rest some all = absurd (omega (arith, some))

@@ -4,6 +4,7 @@ use Rattle.std.specs.Option.{ForSome}
 use Rattle.std.specs.Io.KnownBytes.{append_known}
 use Rattle.sig_io.specs.Draft.{IsCut}
 use Rattle.sig_io.specs.Outside.{Contents, Rose}
+use Rattle.sig_io.specs.Seen.{Seen}
 use Rattle.log_svg.specs.declared.diagram.Diagram.{Diagram as Drawn}
 use Rattle.log_svg.specs.Diagram.{diagram_text}
 use Rattle.log_svg.specs.ShownIn.{shown_in}
@@ -65,17 +66,6 @@ IsStopped asked file (LogEnds last) old new = (new ≡ old) × HasNoText asked f
 abbrev pub IsAnswered : Asked → Contents → Result (Unit {0}) Stop → Option (List ℕ) → Option (List ℕ) → Type 0
 IsAnswered asked file (Ok x) old new = (text : List ℕ) × IsTextOf asked file text × (new ≡ append_known old text)
 IsAnswered asked file (Err stop) old new = IsStopped asked file stop old new
-
--- what an object of the outside tells, and its count of faults, before a call and after it
-pub record Seen (T : Type 0) : Type 0 where
-  pub old : Option T
-  pub new : Option T
-  pub before : ℕ
-  pub after : ℕ
-
--- an object that tells this before a call and after it, with its counts of faults
-abbrev pub seen : {T : Type 0} → (old new : Option T) → (before after : ℕ) → Seen T
-seen old new before after = record { old = old; new = new; before = before; after = after }
 
 -- how a call ends that gives this
 abbrev pub status_by : Result (Unit {0}) Stop → Status

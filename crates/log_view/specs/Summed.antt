@@ -85,7 +85,4 @@ pub record IsSummed (names : List (List ℕ)) (records : List Record) (s : Sums)
 -- sums of groups that there are, as a text can be made of them
 pub record IsTextual (s : Sums) : Type 0 where
   pub few : length s.names.items ≤ 64
-  pub few_places : length s.places.items ≤ 2 ^ 32
   pub groups : All (λ t. IsRefused (length s.names.items) t.refused) s.refusals.items
-  pub few_refusals : length s.refusals.items ≤ 2 ^ 34
-  pub few_faults : length s.faults.items ≤ 2 ^ 32

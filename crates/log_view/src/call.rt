@@ -1,12 +1,13 @@
 // The top call.
 ghost use Rattle.std.specs.Prelude.{◌≡◌, ◌+◌, ◌*◌, ◌^◌, ◌<◌, ◌≤◌, ◌++◌, ℕ, List, Option, Err, IfErr, OnErr, IsTrue, ◌⊎◌, map, string_bytes};
 ghost use Rattle.std.specs.Option.{ForSome};
-ghost use Rattle.sig_io.specs.Draft.{IsDraft, FailsOnly};
+ghost use Rattle.sig_io.specs.Draft.{IsDraft, Puts};
 ghost use Rattle.sig_io.specs.Outside.{Rose};
+ghost use Rattle.sig_io.specs.Seen.{seen};
 ghost use Rattle.log_svg.specs.Diagram.{IsShowable, diagram_text};
 ghost use Rattle.log_svg.specs.ShownIn.{shown_in};
 ghost use Rattle.log_view.specs.Asked.{IsInOrder, asked_in};
-ghost use Rattle.log_view.specs.Call.{IsAnswered, IsReported, IsWritten, seen, usage_text, version_text};
+ghost use Rattle.log_view.specs.Call.{IsAnswered, IsReported, IsWritten, usage_text, version_text};
 ghost use Rattle.log_view.specs.Letters.{letters_text};
 ghost use Rattle.log_view.specs.Summed.{IsTextual};
 ghost use Rattle.log_view.specs.SumsText.{sums_text};
@@ -24,11 +25,7 @@ use std::alloc::Global;
 // Puts how it is called.
 #[tactic(auto, unfolding(crate::specs::Call::usage_text))]
 fn put_usage<O: Sink>(draft: &mut Draft, sink: &mut O)
-    requires { draft.old.gone < 2 ^ 59 }
-    ensures text { (start : Option (List ℕ)) (text : List ℕ) → IsDraft start (O.taken sink.old) draft.old text →
-        IsDraft start (O.taken sink.new) draft.new (text ++ usage_text) }
-    ensures gone { draft.new.gone ≤ draft.old.gone + 4096 * 4 }
-    ensures cause { FailsOnly (O.faults sink.old) (O.faults sink.new) draft.old.failed draft.new.failed }
+    ensures { Puts O.taken O.faults draft.old draft.new sink.old sink.new usage_text }
 {
     draft.put(
         sink,
@@ -50,7 +47,6 @@ fn put_usage<O: Sink>(draft: &mut Draft, sink: &mut O)
 
 // Gives a sink the rest of a text.
 fn end<O: Sink>(draft: Draft, out: &mut O) -> Result<(), Stop>
-    requires { draft.gone < 2 ^ 62 }
     ensures written { (start : Option (List ℕ)) (text : List ℕ) → IsDraft start (O.taken out.old) draft text →
         IsWritten text result start (O.taken out.new) }
     ensures stop { IfErr result (λ stop. stop ≡ Stop.WriteFault) }

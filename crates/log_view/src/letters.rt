@@ -1,7 +1,7 @@
 // A diagram of characters, in blocks of 60 seconds.
 ghost use Rattle.std.specs.Prelude.{◌≡◌, ◌+◌, ◌-◌, ◌*◌, ◌/◌, ◌^◌, ◌<◌, ◌≤◌, ◌++◌, ℕ, List, Option, length, replicate};
 ghost use Rattle.std.specs.Fmt.{decimal};
-ghost use Rattle.sig_io.specs.Draft.{IsDraft, FailsOnly};
+ghost use Rattle.sig_io.specs.Draft.{Puts};
 ghost use Rattle.log_svg.specs.Diagram.{IsShowable};
 ghost use Rattle.log_svg.specs.ShownIn.{shown_in};
 ghost use Rattle.log_view.specs.Letters.{IsBlock, block_at, block_head, block_rows, block_text, letters_in, letters_text};
@@ -29,11 +29,7 @@ struct Block {
 
 // Puts the same character so many times.
 fn put_times<O: Sink>(draft: &mut Draft, sink: &mut O, letter: u8, count: u32)
-    requires { draft.old.gone < 2 ^ 61 }
-    ensures text { (start : Option (List ℕ)) (text : List ℕ) → IsDraft start (O.taken sink.old) draft.old text →
-        IsDraft start (O.taken sink.new) draft.new (text ++ replicate count letter) }
-    ensures gone { draft.new.gone ≤ draft.old.gone + 4096 * count }
-    ensures cause { FailsOnly (O.faults sink.old) (O.faults sink.new) draft.old.failed draft.new.failed }
+    ensures { Puts O.taken O.faults draft.old draft.new sink.old sink.new (replicate count letter) }
 {
     for _time in 0..count {
         draft.put(sink, &[letter]);
@@ -44,11 +40,7 @@ fn put_times<O: Sink>(draft: &mut Draft, sink: &mut O, letter: u8, count: u32)
 fn put_name<O: Sink>(draft: &mut Draft, sink: &mut O, block: Block, name: &[u8])
     requires block { IsBlock block }
     requires name { length name.now ≤ 32 }
-    requires room { draft.old.gone < 2 ^ 60 }
-    ensures text { (start : Option (List ℕ)) (text : List ℕ) → IsDraft start (O.taken sink.old) draft.old text →
-        IsDraft start (O.taken sink.new) draft.new (text ++ name_text block.margin name.now) }
-    ensures gone { draft.new.gone ≤ draft.old.gone + 4096 * 41 }
-    ensures cause { FailsOnly (O.faults sink.old) (O.faults sink.new) draft.old.failed draft.new.failed }
+    ensures { Puts O.taken O.faults draft.old draft.new sink.old sink.new (name_text block.margin name.now) }
 {
     draft.put(sink, name);
     put_times(
@@ -86,11 +78,7 @@ fn is_numbered(block: Block, second: u32) -> bool
 
 // Puts what stands above a second, where nothing stands yet from second `free` on.
 fn put_number_cell<O: Sink>(draft: &mut Draft, sink: &mut O, block: Block, free: u32, second: u32)
-    requires { draft.old.gone < 2 ^ 60 }
-    ensures text { (start : Option (List ℕ)) (text : List ℕ) → IsDraft start (O.taken sink.old) draft.old text →
-        IsDraft start (O.taken sink.new) draft.new (text ++ number_cell block.first free second) }
-    ensures gone { draft.new.gone ≤ draft.old.gone + 4096 }
-    ensures cause { FailsOnly (O.faults sink.old) (O.faults sink.new) draft.old.failed draft.new.failed }
+    ensures { Puts O.taken O.faults draft.old draft.new sink.old sink.new (number_cell block.first free second) }
 {
     if second >= free {
         if is_numbered(block, second) {
@@ -117,12 +105,8 @@ fn free_after(block: Block, free: u32, second: u32) -> u32
 
 // Puts the numbers of the seconds.
 fn put_numbers<O: Sink>(draft: &mut Draft, sink: &mut O, block: Block)
-    requires block { IsBlock block }
-    requires room { draft.old.gone < 2 ^ 59 }
-    ensures text { (start : Option (List ℕ)) (text : List ℕ) → IsDraft start (O.taken sink.old) draft.old text →
-        IsDraft start (O.taken sink.new) draft.new (text ++ numbers_row block) }
-    ensures gone { draft.new.gone ≤ draft.old.gone + 4096 * 102 }
-    ensures cause { FailsOnly (O.faults sink.old) (O.faults sink.new) draft.old.failed draft.new.failed }
+    requires { IsBlock block }
+    ensures { Puts O.taken O.faults draft.old draft.new sink.old sink.new (numbers_row block) }
 {
     put_name(draft, sink, block, b"");
     let mut free = block.first;
@@ -149,12 +133,8 @@ fn tick_of(second: u32) -> &'static [u8]
 
 // Puts the ticks of the seconds.
 fn put_ticks<O: Sink>(draft: &mut Draft, sink: &mut O, block: Block)
-    requires block { IsBlock block }
-    requires room { draft.old.gone < 2 ^ 59 }
-    ensures text { (start : Option (List ℕ)) (text : List ℕ) → IsDraft start (O.taken sink.old) draft.old text →
-        IsDraft start (O.taken sink.new) draft.new (text ++ ticks_row block) }
-    ensures gone { draft.new.gone ≤ draft.old.gone + 4096 * 102 }
-    ensures cause { FailsOnly (O.faults sink.old) (O.faults sink.new) draft.old.failed draft.new.failed }
+    requires { IsBlock block }
+    ensures { Puts O.taken O.faults draft.old draft.new sink.old sink.new (ticks_row block) }
 {
     put_name(draft, sink, block, b"");
     for place in 0..block.count {
@@ -194,12 +174,8 @@ fn filler_of(place: StagePlace) -> u8
 // Puts so many seconds of a stage or an interstage.
 #[tactic(auto, unfolding(crate::specs::Letters::stay_cells))]
 fn put_cells<O: Sink>(draft: &mut Draft, sink: &mut O, place: StagePlace, seconds: u32)
-    requires seconds { seconds ≤ 60 }
-    requires room { draft.old.gone < 2 ^ 58 }
-    ensures text { (start : Option (List ℕ)) (text : List ℕ) → IsDraft start (O.taken sink.old) draft.old text →
-        IsDraft start (O.taken sink.new) draft.new (text ++ stay_cells place seconds) }
-    ensures gone { draft.new.gone ≤ draft.old.gone + 4096 * 63 }
-    ensures cause { FailsOnly (O.faults sink.old) (O.faults sink.new) draft.old.failed draft.new.failed }
+    requires { seconds ≤ 60 }
+    ensures { Puts O.taken O.faults draft.old draft.new sink.old sink.new (stay_cells place seconds) }
 {
     let letters = letters_in(place);
     if seconds < letters {
@@ -213,12 +189,8 @@ fn put_cells<O: Sink>(draft: &mut Draft, sink: &mut O, place: StagePlace, second
 // Puts the seconds of a stay that are in the block.
 #[tactic(auto, unfolding(crate::specs::Letters::stay_text))]
 fn put_stay<O: Sink>(draft: &mut Draft, sink: &mut O, block: Block, stay: &Span<StagePlace>)
-    requires block { IsBlock block }
-    requires room { draft.old.gone < 2 ^ 58 }
-    ensures text { (start : Option (List ℕ)) (text : List ℕ) → IsDraft start (O.taken sink.old) draft.old text →
-        IsDraft start (O.taken sink.new) draft.new (text ++ stay_text block stay.now) }
-    ensures gone { draft.new.gone ≤ draft.old.gone + 4096 * 63 }
-    ensures cause { FailsOnly (O.faults sink.old) (O.faults sink.new) draft.old.failed draft.new.failed }
+    requires { IsBlock block }
+    ensures { Puts O.taken O.faults draft.old draft.new sink.old sink.new (stay_text block stay.now) }
 {
     let seconds = seconds_in(block, stay.first.0, stay.last.0);
     if seconds > 0 {
@@ -229,12 +201,7 @@ fn put_stay<O: Sink>(draft: &mut Draft, sink: &mut O, block: Block, stay: &Span<
 // Puts the stages.
 fn put_band<O: Sink>(draft: &mut Draft, sink: &mut O, block: Block, stays: &[Span<StagePlace>])
     requires block { IsBlock block }
-    requires few { length stays.now ≤ 3600 }
-    requires room { draft.old.gone < 2 ^ 57 }
-    ensures text { (start : Option (List ℕ)) (text : List ℕ) → IsDraft start (O.taken sink.old) draft.old text →
-        IsDraft start (O.taken sink.new) draft.new (text ++ band_row block stays.now) }
-    ensures gone { draft.new.gone ≤ draft.old.gone + 2 ^ 30 }
-    ensures cause { FailsOnly (O.faults sink.old) (O.faults sink.new) draft.old.failed draft.new.failed }
+    ensures { Puts O.taken O.faults draft.old draft.new sink.old sink.new (band_row block stays.now) }
 {
     put_name(draft, sink, block, b"stage");
     for stay in stays {
@@ -257,12 +224,8 @@ fn letter_of(aspect: Aspect) -> u8
 
 // Puts the seconds of a span that are in the block.
 fn put_span<O: Sink>(draft: &mut Draft, sink: &mut O, block: Block, span: &Span<Aspect>)
-    requires block { IsBlock block }
-    requires room { draft.old.gone < 2 ^ 58 }
-    ensures text { (start : Option (List ℕ)) (text : List ℕ) → IsDraft start (O.taken sink.old) draft.old text →
-        IsDraft start (O.taken sink.new) draft.new (text ++ span_text block span.now) }
-    ensures gone { draft.new.gone ≤ draft.old.gone + 4096 * 60 }
-    ensures cause { FailsOnly (O.faults sink.old) (O.faults sink.new) draft.old.failed draft.new.failed }
+    requires { IsBlock block }
+    ensures { Puts O.taken O.faults draft.old draft.new sink.old sink.new (span_text block span.now) }
 {
     let seconds = seconds_in(block, span.first.0, span.last.0);
     put_times(draft, sink, letter_of(span.shown), seconds);
@@ -278,12 +241,7 @@ fn put_row<O: Sink>(
 )
     requires block { IsBlock block }
     requires name { length name.now ≤ 32 }
-    requires few { length spans.now ≤ 3600 }
-    requires room { draft.old.gone < 2 ^ 57 }
-    ensures text { (start : Option (List ℕ)) (text : List ℕ) → IsDraft start (O.taken sink.old) draft.old text →
-        IsDraft start (O.taken sink.new) draft.new (text ++ group_row block name.now spans.now) }
-    ensures gone { draft.new.gone ≤ draft.old.gone + 2 ^ 30 }
-    ensures cause { FailsOnly (O.faults sink.old) (O.faults sink.new) draft.old.failed draft.new.failed }
+    ensures { Puts O.taken O.faults draft.old draft.new sink.old sink.new (group_row block name.now spans.now) }
 {
     put_name(draft, sink, block, name);
     for span in spans {
@@ -332,11 +290,7 @@ fn put_marks<O: Sink>(draft: &mut Draft, sink: &mut O, block: Block, name: &[u8]
     requires block { IsBlock block }
     requires name { length name.now ≤ 32 }
     requires end { row.end ≤ 60 }
-    requires room { draft.old.gone < 2 ^ 59 }
-    ensures text { (start : Option (List ℕ)) (text : List ℕ) → IsDraft start (O.taken sink.old) draft.old text →
-        IsDraft start (O.taken sink.new) draft.new (text ++ marks_text block name.now row) }
-    ensures gone { draft.new.gone ≤ draft.old.gone + 4096 * 43 }
-    ensures cause { FailsOnly (O.faults sink.old) (O.faults sink.new) draft.old.failed draft.new.failed }
+    ensures { Puts O.taken O.faults draft.old draft.new sink.old sink.new (marks_text block name.now row) }
 {
     if row.end > 0 {
         put_name(draft, sink, block, name);
@@ -383,12 +337,8 @@ fn put_refusals<O: Sink>(
     marks: &[RefusalMark],
     group: Option<GroupNo>,
 )
-    requires block { IsBlock block }
-    requires room { draft.old.gone < 2 ^ 58 }
-    ensures text { (start : Option (List ℕ)) (text : List ℕ) → IsDraft start (O.taken sink.old) draft.old text →
-        IsDraft start (O.taken sink.new) draft.new (text ++ refusals_row block marks.now group) }
-    ensures gone { draft.new.gone ≤ draft.old.gone + 4096 * 43 }
-    ensures cause { FailsOnly (O.faults sink.old) (O.faults sink.new) draft.old.failed draft.new.failed }
+    requires { IsBlock block }
+    ensures { Puts O.taken O.faults draft.old draft.new sink.old sink.new (refusals_row block marks.now group) }
 {
     let mut row = empty_row();
     for mark in marks {
@@ -399,12 +349,8 @@ fn put_refusals<O: Sink>(
 
 // Puts the marks of faults.
 fn put_faults<O: Sink>(draft: &mut Draft, sink: &mut O, block: Block, marks: &[FaultMark])
-    requires block { IsBlock block }
-    requires room { draft.old.gone < 2 ^ 58 }
-    ensures text { (start : Option (List ℕ)) (text : List ℕ) → IsDraft start (O.taken sink.old) draft.old text →
-        IsDraft start (O.taken sink.new) draft.new (text ++ faults_row block marks.now) }
-    ensures gone { draft.new.gone ≤ draft.old.gone + 4096 * 43 }
-    ensures cause { FailsOnly (O.faults sink.old) (O.faults sink.new) draft.old.failed draft.new.failed }
+    requires { IsBlock block }
+    ensures { Puts O.taken O.faults draft.old draft.new sink.old sink.new (faults_row block marks.now) }
 {
     let mut row = empty_row();
     for mark in marks {
@@ -460,11 +406,7 @@ fn put_fronts<O: Sink>(
 )
     requires block { IsBlock block }
     requires number { number < 100 }
-    requires room { draft.old.gone < 2 ^ 58 }
-    ensures text { (start : Option (List ℕ)) (text : List ℕ) → IsDraft start (O.taken sink.old) draft.old text →
-        IsDraft start (O.taken sink.new) draft.new (text ++ fronts_row block marks.now number) }
-    ensures gone { draft.new.gone ≤ draft.old.gone + 4096 * 43 }
-    ensures cause { FailsOnly (O.faults sink.old) (O.faults sink.new) draft.old.failed draft.new.failed }
+    ensures { Puts O.taken O.faults draft.old draft.new sink.old sink.new (fronts_row block marks.now number) }
 {
     let mut row = empty_row();
     for mark in marks {
@@ -475,12 +417,8 @@ fn put_fronts<O: Sink>(
 
 // Puts the fronts of all detectors.
 fn put_detectors<O: Sink>(draft: &mut Draft, sink: &mut O, block: Block, marks: &[FrontMark])
-    requires block { IsBlock block }
-    requires room { draft.old.gone < 2 ^ 57 }
-    ensures text { (start : Option (List ℕ)) (text : List ℕ) → IsDraft start (O.taken sink.old) draft.old text →
-        IsDraft start (O.taken sink.new) draft.new (text ++ fronts_rows block marks.now 64) }
-    ensures gone { draft.new.gone ≤ draft.old.gone + 4096 * 2752 }
-    ensures cause { FailsOnly (O.faults sink.old) (O.faults sink.new) draft.old.failed draft.new.failed }
+    requires { IsBlock block }
+    ensures { Puts O.taken O.faults draft.old draft.new sink.old sink.new (fronts_rows block marks.now 64) }
 {
     for place in 0..64u8 {
         put_fronts(draft, sink, block, marks, place + 1);
@@ -498,11 +436,7 @@ fn put_group<O: Sink>(
     requires diagram { IsShowable (shown_in diagram.now) }
     requires block { IsBlock block }
     requires place { place < length diagram.now.names.items }
-    requires room { draft.old.gone < 2 ^ 56 }
-    ensures text { (start : Option (List ℕ)) (text : List ℕ) → IsDraft start (O.taken sink.old) draft.old text →
-        IsDraft start (O.taken sink.new) draft.new (text ++ group_rows block (shown_in diagram.now) place) }
-    ensures gone { draft.new.gone ≤ draft.old.gone + 2 ^ 31 }
-    ensures cause { FailsOnly (O.faults sink.old) (O.faults sink.new) draft.old.failed draft.new.failed }
+    ensures { Puts O.taken O.faults draft.old draft.new sink.old sink.new (group_rows block (shown_in diagram.now) place) }
 {
     let group = GroupNo(place as u8);
     let name = &diagram.names[place];
@@ -514,11 +448,8 @@ fn put_group<O: Sink>(
 fn put_groups<O: Sink>(draft: &mut Draft, sink: &mut O, diagram: &Diagram, block: Block)
     requires diagram { IsShowable (shown_in diagram.now) }
     requires block { IsBlock block }
-    requires room { draft.old.gone < 2 ^ 55 }
-    ensures text { (start : Option (List ℕ)) (text : List ℕ) → IsDraft start (O.taken sink.old) draft.old text →
-        IsDraft start (O.taken sink.new) draft.new (text ++ groups_rows block (shown_in diagram.now) (length diagram.now.names.items)) }
-    ensures gone { draft.new.gone ≤ draft.old.gone + 2 ^ 37 }
-    ensures cause { FailsOnly (O.faults sink.old) (O.faults sink.new) draft.old.failed draft.new.failed }
+    ensures { Puts O.taken O.faults draft.old draft.new sink.old sink.new
+        (groups_rows block (shown_in diagram.now) (length diagram.now.names.items)) }
 {
     for place in 0..diagram.names.len() {
         put_group(draft, sink, diagram, block, place);
@@ -529,11 +460,7 @@ fn put_groups<O: Sink>(draft: &mut Draft, sink: &mut O, diagram: &Diagram, block
 fn put_block_head<O: Sink>(draft: &mut Draft, sink: &mut O, diagram: &Diagram, block: Block)
     requires diagram { IsShowable (shown_in diagram.now) }
     requires block { IsBlock block }
-    requires room { draft.old.gone < 2 ^ 54 }
-    ensures text { (start : Option (List ℕ)) (text : List ℕ) → IsDraft start (O.taken sink.old) draft.old text →
-        IsDraft start (O.taken sink.new) draft.new (text ++ block_head block (shown_in diagram.now)) }
-    ensures gone { draft.new.gone ≤ draft.old.gone + 2 ^ 31 }
-    ensures cause { FailsOnly (O.faults sink.old) (O.faults sink.new) draft.old.failed draft.new.failed }
+    ensures { Puts O.taken O.faults draft.old draft.new sink.old sink.new (block_head block (shown_in diagram.now)) }
 {
     draft.put(sink, b"\n");
     put_numbers(draft, sink, block);
@@ -546,11 +473,7 @@ fn put_block_head<O: Sink>(draft: &mut Draft, sink: &mut O, diagram: &Diagram, b
 fn put_block_rows<O: Sink>(draft: &mut Draft, sink: &mut O, diagram: &Diagram, block: Block)
     requires diagram { IsShowable (shown_in diagram.now) }
     requires block { IsBlock block }
-    requires room { draft.old.gone < 2 ^ 54 }
-    ensures text { (start : Option (List ℕ)) (text : List ℕ) → IsDraft start (O.taken sink.old) draft.old text →
-        IsDraft start (O.taken sink.new) draft.new (text ++ block_rows block (shown_in diagram.now)) }
-    ensures gone { draft.new.gone ≤ draft.old.gone + 2 ^ 38 }
-    ensures cause { FailsOnly (O.faults sink.old) (O.faults sink.new) draft.old.failed draft.new.failed }
+    ensures { Puts O.taken O.faults draft.old draft.new sink.old sink.new (block_rows block (shown_in diagram.now)) }
 {
     put_groups(draft, sink, diagram, block);
     put_faults(draft, sink, block, &diagram.faults);
@@ -562,11 +485,7 @@ fn put_block_rows<O: Sink>(draft: &mut Draft, sink: &mut O, diagram: &Diagram, b
 fn put_block<O: Sink>(draft: &mut Draft, sink: &mut O, diagram: &Diagram, block: Block)
     requires diagram { IsShowable (shown_in diagram.now) }
     requires block { IsBlock block }
-    requires room { draft.old.gone < 2 ^ 53 }
-    ensures text { (start : Option (List ℕ)) (text : List ℕ) → IsDraft start (O.taken sink.old) draft.old text →
-        IsDraft start (O.taken sink.new) draft.new (text ++ block_text block (shown_in diagram.now)) }
-    ensures gone { draft.new.gone ≤ draft.old.gone + 2 ^ 39 }
-    ensures cause { FailsOnly (O.faults sink.old) (O.faults sink.new) draft.old.failed draft.new.failed }
+    ensures { Puts O.taken O.faults draft.old draft.new sink.old sink.new (block_text block (shown_in diagram.now)) }
 {
     put_block_head(draft, sink, diagram, block);
     put_block_rows(draft, sink, diagram, block);
@@ -601,12 +520,8 @@ fn block_at(diagram: &Diagram, number: u32) -> Block
 
 /// Puts the diagram as characters, a row for each group, in blocks of 60 seconds.
 pub fn put_text<O: Sink>(draft: &mut Draft, sink: &mut O, diagram: &Diagram)
-    requires diagram { IsShowable (shown_in diagram.now) }
-    requires room { draft.old.gone < 2 ^ 51 }
-    ensures text { (start : Option (List ℕ)) (text : List ℕ) → IsDraft start (O.taken sink.old) draft.old text →
-        IsDraft start (O.taken sink.new) draft.new (text ++ letters_text (shown_in diagram.now)) }
-    ensures gone { draft.new.gone ≤ draft.old.gone + 2 ^ 50 }
-    ensures cause { FailsOnly (O.faults sink.old) (O.faults sink.new) draft.old.failed draft.new.failed }
+    requires { IsShowable (shown_in diagram.now) }
+    ensures { Puts O.taken O.faults draft.old draft.new sink.old sink.new (letters_text (shown_in diagram.now)) }
 {
     draft.put(
         sink,

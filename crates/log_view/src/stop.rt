@@ -1,7 +1,7 @@
 // Why a call ended before all was done, and how it ended.
 ghost use Rattle.std.specs.Prelude.{◌≡◌, ◌+◌, ◌*◌, ◌^◌, ◌<◌, ◌≤◌, ◌++◌, ℕ, List, Option, length};
 ghost use Rattle.std.specs.Io.KnownBytes.{append_known};
-ghost use Rattle.sig_io.specs.Draft.{IsDraft, FailsOnly};
+ghost use Rattle.sig_io.specs.Draft.{Puts};
 ghost use Rattle.sig_io.specs.Outside.{Rose};
 ghost use Rattle.log_view.specs.Notes.{exit_number, reason_name, status_of, stop_note, stop_of, stop_words};
 
@@ -105,11 +105,7 @@ fn reason_name(why: LogWhy) -> &'static [u8]
 
 // Puts a line and why it is refused.
 fn put_line<O: Sink>(draft: &mut Draft, sink: &mut O, line: u32, why: LogWhy)
-    requires { draft.old.gone < 2 ^ 59 }
-    ensures text { (start : Option (List ℕ)) (text : List ℕ) → IsDraft start (O.taken sink.old) draft.old text →
-        IsDraft start (O.taken sink.new) draft.new (text ++ stop_words (Stop.Line line why)) }
-    ensures gone { draft.new.gone ≤ draft.old.gone + 4096 * 3 }
-    ensures cause { FailsOnly (O.faults sink.old) (O.faults sink.new) draft.old.failed draft.new.failed }
+    ensures { Puts O.taken O.faults draft.old draft.new sink.old sink.new (stop_words (Stop.Line line why)) }
 {
     draft.put_number(sink, line);
     draft.put(sink, b": ");
@@ -118,11 +114,7 @@ fn put_line<O: Sink>(draft: &mut Draft, sink: &mut O, line: u32, why: LogWhy)
 
 // Puts what the note says of a stop.
 fn put_words<O: Sink>(draft: &mut Draft, sink: &mut O, stop: Stop)
-    requires { draft.old.gone < 2 ^ 58 }
-    ensures text { (start : Option (List ℕ)) (text : List ℕ) → IsDraft start (O.taken sink.old) draft.old text →
-        IsDraft start (O.taken sink.new) draft.new (text ++ stop_words stop) }
-    ensures gone { draft.new.gone ≤ draft.old.gone + 4096 * 3 }
-    ensures cause { FailsOnly (O.faults sink.old) (O.faults sink.new) draft.old.failed draft.new.failed }
+    ensures { Puts O.taken O.faults draft.old draft.new sink.old sink.new (stop_words stop) }
 {
     match stop {
         Stop::Memory => draft.put(sink, b"Memory"),
@@ -141,11 +133,7 @@ fn put_words<O: Sink>(draft: &mut Draft, sink: &mut O, stop: Stop)
 // Puts the note of a stop.
 #[tactic(auto, unfolding(crate::specs::Notes::stop_note))]
 fn put_note<O: Sink>(draft: &mut Draft, sink: &mut O, stop: Stop)
-    requires { draft.old.gone < 2 ^ 57 }
-    ensures text { (start : Option (List ℕ)) (text : List ℕ) → IsDraft start (O.taken sink.old) draft.old text →
-        IsDraft start (O.taken sink.new) draft.new (text ++ stop_note stop) }
-    ensures gone { draft.new.gone ≤ draft.old.gone + 4096 * 5 }
-    ensures cause { FailsOnly (O.faults sink.old) (O.faults sink.new) draft.old.failed draft.new.failed }
+    ensures { Puts O.taken O.faults draft.old draft.new sink.old sink.new (stop_note stop) }
 {
     draft.put(sink, b"log_report: ");
     put_words(draft, sink, stop);

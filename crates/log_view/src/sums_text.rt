@@ -2,7 +2,7 @@
 ghost use Rattle.std.specs.Prelude.{◌≡◌, ◌+◌, ◌-◌, ◌*◌, ◌/◌, ◌%◌, ◌^◌, ◌<◌, ◌≤◌, ◌++◌, ℕ, List, All, Option, length};
 ghost use Rattle.std.specs.List.{flat_map};
 ghost use Rattle.std.specs.Fmt.{decimal};
-ghost use Rattle.sig_io.specs.Draft.{IsDraft, FailsOnly};
+ghost use Rattle.sig_io.specs.Draft.{Puts};
 ghost use Rattle.log_svg.specs.Marks.{IsRefused};
 ghost use Rattle.log_view.specs.Summed.{IsTextual};
 ghost use Rattle.log_view.specs.SumsText.{detectors_to, green_by, greens_of, longest_red_of, red_by, sum_place};
@@ -17,12 +17,8 @@ use sig_types::{Aspect, ShortName, StagePlace};
 
 // Puts a word and a number.
 fn put_sum<O: Sink>(draft: &mut Draft, sink: &mut O, word: &[u8], n: u32)
-    requires word { length word.now ≤ 20 }
-    requires room { draft.old.gone < 2 ^ 61 }
-    ensures text { (start : Option (List ℕ)) (text : List ℕ) → IsDraft start (O.taken sink.old) draft.old text →
-        IsDraft start (O.taken sink.new) draft.new (text ++ (word.now ++ decimal n)) }
-    ensures gone { draft.new.gone ≤ draft.old.gone + 4096 * 2 }
-    ensures cause { FailsOnly (O.faults sink.old) (O.faults sink.new) draft.old.failed draft.new.failed }
+    requires { length word.now ≤ 20 }
+    ensures { Puts O.taken O.faults draft.old draft.new sink.old sink.new (word.now ++ decimal n) }
 {
     draft.put(sink, word);
     draft.put_number(sink, n);
@@ -30,11 +26,7 @@ fn put_sum<O: Sink>(draft: &mut Draft, sink: &mut O, word: &[u8], n: u32)
 
 // Puts tenths of a second, with a point before the last one.
 fn put_tenths<O: Sink>(draft: &mut Draft, sink: &mut O, tenths: u64)
-    requires { draft.old.gone < 2 ^ 61 }
-    ensures text { (start : Option (List ℕ)) (text : List ℕ) → IsDraft start (O.taken sink.old) draft.old text →
-        IsDraft start (O.taken sink.new) draft.new (text ++ tenths_text tenths) }
-    ensures gone { draft.new.gone ≤ draft.old.gone + 4096 * 3 }
-    ensures cause { FailsOnly (O.faults sink.old) (O.faults sink.new) draft.old.failed draft.new.failed }
+    ensures { Puts O.taken O.faults draft.old draft.new sink.old sink.new (tenths_text tenths) }
 {
     draft.put_long_number(sink, tenths / 10);
     draft.put(sink, b".");
@@ -44,11 +36,7 @@ fn put_tenths<O: Sink>(draft: &mut Draft, sink: &mut O, tenths: u64)
 // Puts the shortest, the mean and the longest of some greens. The mean is rounded down to a tenth of a second.
 #[tactic(auto, unfolding(crate::specs::SumsText::greens_text))]
 fn put_greens<O: Sink>(draft: &mut Draft, sink: &mut O, ended: Totals)
-    requires { draft.old.gone < 2 ^ 60 }
-    ensures text { (start : Option (List ℕ)) (text : List ℕ) → IsDraft start (O.taken sink.old) draft.old text →
-        IsDraft start (O.taken sink.new) draft.new (text ++ greens_text ended) }
-    ensures gone { draft.new.gone ≤ draft.old.gone + 4096 * 8 }
-    ensures cause { FailsOnly (O.faults sink.old) (O.faults sink.new) draft.old.failed draft.new.failed }
+    ensures { Puts O.taken O.faults draft.old draft.new sink.old sink.new (greens_text ended) }
 {
     if ended.greens == 0 {
         return;
@@ -111,11 +99,7 @@ fn longest_red_of(past: &GroupPast) -> u32
 // Puts the line of a group.
 #[tactic(auto, unfolding(crate::specs::SumsText::group_text))]
 fn put_group<O: Sink>(draft: &mut Draft, sink: &mut O, name: &ShortName, past: &GroupPast)
-    requires { draft.old.gone < 2 ^ 59 }
-    ensures text { (start : Option (List ℕ)) (text : List ℕ) → IsDraft start (O.taken sink.old) draft.old text →
-        IsDraft start (O.taken sink.new) draft.new (text ++ group_text name.now past.now) }
-    ensures gone { draft.new.gone ≤ draft.old.gone + 4096 * 17 }
-    ensures cause { FailsOnly (O.faults sink.old) (O.faults sink.new) draft.old.failed draft.new.failed }
+    ensures { Puts O.taken O.faults draft.old draft.new sink.old sink.new (group_text name.now past.now) }
 {
     draft.put(sink, b"GROUP ");
     draft.put(sink, name.bytes());
@@ -133,12 +117,8 @@ fn put_groups<O: Sink>(
     names: &[ShortName],
     pasts: &[GroupPast; 64],
 )
-    requires few { length names.now ≤ 64 }
-    requires room { draft.old.gone < 2 ^ 58 }
-    ensures text { (start : Option (List ℕ)) (text : List ℕ) → IsDraft start (O.taken sink.old) draft.old text →
-        IsDraft start (O.taken sink.new) draft.new (text ++ groups_text names.now pasts.now) }
-    ensures gone { draft.new.gone ≤ draft.old.gone + 2 ^ 24 }
-    ensures cause { FailsOnly (O.faults sink.old) (O.faults sink.new) draft.old.failed draft.new.failed }
+    requires { length names.now ≤ 64 }
+    ensures { Puts O.taken O.faults draft.old draft.new sink.old sink.new (groups_text names.now pasts.now) }
 {
     for (place, name) in names.iter().enumerate() {
         put_group(draft, sink, name, &pasts[place]);
@@ -147,11 +127,7 @@ fn put_groups<O: Sink>(
 
 // Puts the name of a stage or an interstage.
 fn put_name<O: Sink>(draft: &mut Draft, sink: &mut O, place: StagePlace)
-    requires { draft.old.gone < 2 ^ 60 }
-    ensures text { (start : Option (List ℕ)) (text : List ℕ) → IsDraft start (O.taken sink.old) draft.old text →
-        IsDraft start (O.taken sink.new) draft.new (text ++ sum_place place) }
-    ensures gone { draft.new.gone ≤ draft.old.gone + 4096 * 4 }
-    ensures cause { FailsOnly (O.faults sink.old) (O.faults sink.new) draft.old.failed draft.new.failed }
+    ensures { Puts O.taken O.faults draft.old draft.new sink.old sink.new (sum_place place) }
 {
     match place {
         StagePlace::NoPlan => draft.put(sink, b"NO_STAGE"),
@@ -166,11 +142,7 @@ fn put_name<O: Sink>(draft: &mut Draft, sink: &mut O, place: StagePlace)
 // Puts the line of a stage or an interstage.
 #[tactic(auto, unfolding(crate::specs::SumsText::place_text))]
 fn put_place<O: Sink>(draft: &mut Draft, sink: &mut O, sum: &PlaceSum)
-    requires { draft.old.gone < 2 ^ 59 }
-    ensures text { (start : Option (List ℕ)) (text : List ℕ) → IsDraft start (O.taken sink.old) draft.old text →
-        IsDraft start (O.taken sink.new) draft.new (text ++ place_text sum.now) }
-    ensures gone { draft.new.gone ≤ draft.old.gone + 4096 * 9 }
-    ensures cause { FailsOnly (O.faults sink.old) (O.faults sink.new) draft.old.failed draft.new.failed }
+    ensures { Puts O.taken O.faults draft.old draft.new sink.old sink.new (place_text sum.now) }
 {
     put_name(draft, sink, sum.place);
     put_sum(draft, sink, b" times:", sum.times);
@@ -180,11 +152,7 @@ fn put_place<O: Sink>(draft: &mut Draft, sink: &mut O, sum: &PlaceSum)
 
 // Puts how often something came.
 fn put_times<O: Sink>(draft: &mut Draft, sink: &mut O, times: u64)
-    requires { draft.old.gone < 2 ^ 61 }
-    ensures text { (start : Option (List ℕ)) (text : List ℕ) → IsDraft start (O.taken sink.old) draft.old text →
-        IsDraft start (O.taken sink.new) draft.new (text ++ times_text times) }
-    ensures gone { draft.new.gone ≤ draft.old.gone + 4096 * 3 }
-    ensures cause { FailsOnly (O.faults sink.old) (O.faults sink.new) draft.old.failed draft.new.failed }
+    ensures { Puts O.taken O.faults draft.old draft.new sink.old sink.new (times_text times) }
 {
     draft.put(sink, b" times:");
     draft.put_long_number(sink, times);
@@ -194,12 +162,8 @@ fn put_times<O: Sink>(draft: &mut Draft, sink: &mut O, times: u64)
 // Puts the line of a refusal.
 #[tactic(auto, unfolding(crate::specs::SumsText::refusal_text))]
 fn put_refusal<O: Sink>(draft: &mut Draft, sink: &mut O, names: &[ShortName], tally: &RefusalTally)
-    requires groups { IsRefused (length names.now) tally.now.refused }
-    requires room { draft.old.gone < 2 ^ 57 }
-    ensures text { (start : Option (List ℕ)) (text : List ℕ) → IsDraft start (O.taken sink.old) draft.old text →
-        IsDraft start (O.taken sink.new) draft.new (text ++ refusal_text names.now tally.now) }
-    ensures gone { draft.new.gone ≤ draft.old.gone + 4096 * 9 }
-    ensures cause { FailsOnly (O.faults sink.old) (O.faults sink.new) draft.old.failed draft.new.failed }
+    requires { IsRefused (length names.now) tally.now.refused }
+    ensures { Puts O.taken O.faults draft.old draft.new sink.old sink.new (refusal_text names.now tally.now) }
 {
     draft.put(sink, b"REFUSED ");
     put_refused(draft, sink, names, tally.refused);
@@ -209,11 +173,7 @@ fn put_refusal<O: Sink>(draft: &mut Draft, sink: &mut O, names: &[ShortName], ta
 // Puts the line of a fault.
 #[tactic(auto, unfolding(crate::specs::SumsText::fault_line))]
 fn put_fault_line<O: Sink>(draft: &mut Draft, sink: &mut O, tally: &FaultTally)
-    requires { draft.old.gone < 2 ^ 57 }
-    ensures text { (start : Option (List ℕ)) (text : List ℕ) → IsDraft start (O.taken sink.old) draft.old text →
-        IsDraft start (O.taken sink.new) draft.new (text ++ fault_line tally.now) }
-    ensures gone { draft.new.gone ≤ draft.old.gone + 4096 * 7 }
-    ensures cause { FailsOnly (O.faults sink.old) (O.faults sink.new) draft.old.failed draft.new.failed }
+    ensures { Puts O.taken O.faults draft.old draft.new sink.old sink.new (fault_line tally.now) }
 {
     draft.put(sink, b"FAULT ");
     put_fault(draft, sink, tally.fault);
@@ -223,11 +183,7 @@ fn put_fault_line<O: Sink>(draft: &mut Draft, sink: &mut O, tally: &FaultTally)
 // Puts the line of a detector that had vehicles.
 #[tactic(auto, unfolding(crate::specs::SumsText::detector_text))]
 fn put_detector<O: Sink>(draft: &mut Draft, sink: &mut O, number: u32, vehicles: u64)
-    requires { draft.old.gone < 2 ^ 60 }
-    ensures text { (start : Option (List ℕ)) (text : List ℕ) → IsDraft start (O.taken sink.old) draft.old text →
-        IsDraft start (O.taken sink.new) draft.new (text ++ detector_text number vehicles) }
-    ensures gone { draft.new.gone ≤ draft.old.gone + 4096 * 5 }
-    ensures cause { FailsOnly (O.faults sink.old) (O.faults sink.new) draft.old.failed draft.new.failed }
+    ensures { Puts O.taken O.faults draft.old draft.new sink.old sink.new (detector_text number vehicles) }
 {
     if vehicles == 0 {
         return;
@@ -240,12 +196,7 @@ fn put_detector<O: Sink>(draft: &mut Draft, sink: &mut O, number: u32, vehicles:
 
 // Puts the lines of the stages and interstages.
 fn put_places<O: Sink>(draft: &mut Draft, sink: &mut O, sums: &[PlaceSum])
-    requires few { length sums.now ≤ 2 ^ 32 }
-    requires room { draft.old.gone < 2 ^ 56 }
-    ensures text { (start : Option (List ℕ)) (text : List ℕ) → IsDraft start (O.taken sink.old) draft.old text →
-        IsDraft start (O.taken sink.new) draft.new (text ++ flat_map place_text sums.now) }
-    ensures gone { draft.new.gone ≤ draft.old.gone + 36864 * length sums.now }
-    ensures cause { FailsOnly (O.faults sink.old) (O.faults sink.new) draft.old.failed draft.new.failed }
+    ensures { Puts O.taken O.faults draft.old draft.new sink.old sink.new (flat_map place_text sums.now) }
 {
     for sum in sums {
         put_place(draft, sink, sum);
@@ -259,13 +210,8 @@ fn put_refusals<O: Sink>(
     names: &[ShortName],
     tallies: &[RefusalTally],
 )
-    requires groups { All (λ t. IsRefused (length names.now) t.refused) tallies.now }
-    requires few { length tallies.now ≤ 2 ^ 34 }
-    requires room { draft.old.gone < 2 ^ 56 }
-    ensures text { (start : Option (List ℕ)) (text : List ℕ) → IsDraft start (O.taken sink.old) draft.old text →
-        IsDraft start (O.taken sink.new) draft.new (text ++ flat_map (refusal_text names.now) tallies.now) }
-    ensures gone { draft.new.gone ≤ draft.old.gone + 36864 * length tallies.now }
-    ensures cause { FailsOnly (O.faults sink.old) (O.faults sink.new) draft.old.failed draft.new.failed }
+    requires { All (λ t. IsRefused (length names.now) t.refused) tallies.now }
+    ensures { Puts O.taken O.faults draft.old draft.new sink.old sink.new (flat_map (refusal_text names.now) tallies.now) }
 {
     for tally in tallies {
         put_refusal(draft, sink, names, tally);
@@ -274,12 +220,7 @@ fn put_refusals<O: Sink>(
 
 // Puts the lines of the faults.
 fn put_faults<O: Sink>(draft: &mut Draft, sink: &mut O, tallies: &[FaultTally])
-    requires few { length tallies.now ≤ 2 ^ 32 }
-    requires room { draft.old.gone < 2 ^ 56 }
-    ensures text { (start : Option (List ℕ)) (text : List ℕ) → IsDraft start (O.taken sink.old) draft.old text →
-        IsDraft start (O.taken sink.new) draft.new (text ++ flat_map fault_line tallies.now) }
-    ensures gone { draft.new.gone ≤ draft.old.gone + 28672 * length tallies.now }
-    ensures cause { FailsOnly (O.faults sink.old) (O.faults sink.new) draft.old.failed draft.new.failed }
+    ensures { Puts O.taken O.faults draft.old draft.new sink.old sink.new (flat_map fault_line tallies.now) }
 {
     for tally in tallies {
         put_fault_line(draft, sink, tally);
@@ -288,11 +229,7 @@ fn put_faults<O: Sink>(draft: &mut Draft, sink: &mut O, tallies: &[FaultTally])
 
 // Puts the lines of the detectors.
 fn put_detectors<O: Sink>(draft: &mut Draft, sink: &mut O, vehicles: &[u64; 64])
-    requires { draft.old.gone < 2 ^ 58 }
-    ensures text { (start : Option (List ℕ)) (text : List ℕ) → IsDraft start (O.taken sink.old) draft.old text →
-        IsDraft start (O.taken sink.new) draft.new (text ++ detectors_to vehicles.now 64) }
-    ensures gone { draft.new.gone ≤ draft.old.gone + 20480 * 64 }
-    ensures cause { FailsOnly (O.faults sink.old) (O.faults sink.new) draft.old.failed draft.new.failed }
+    ensures { Puts O.taken O.faults draft.old draft.new sink.old sink.new (detectors_to vehicles.now 64) }
 {
     for place in 0..64u8 {
         put_detector(
@@ -307,12 +244,8 @@ fn put_detectors<O: Sink>(draft: &mut Draft, sink: &mut O, vehicles: &[u64; 64])
 // Puts the line of the seconds, and those of the groups where there is a second.
 #[tactic(auto, unfolding(crate::specs::SumsText::shown_text))]
 fn put_shown<O: Sink>(draft: &mut Draft, sink: &mut O, sums: &Sums)
-    requires sums { IsTextual sums.now }
-    requires room { draft.old.gone < 2 ^ 57 }
-    ensures text { (start : Option (List ℕ)) (text : List ℕ) → IsDraft start (O.taken sink.old) draft.old text →
-        IsDraft start (O.taken sink.new) draft.new (text ++ shown_text sums.now) }
-    ensures gone { draft.new.gone ≤ draft.old.gone + 2 ^ 25 }
-    ensures cause { FailsOnly (O.faults sink.old) (O.faults sink.new) draft.old.failed draft.new.failed }
+    requires { IsTextual sums.now }
+    ensures { Puts O.taken O.faults draft.old draft.new sink.old sink.new (shown_text sums.now) }
 {
     put_sum(draft, sink, b"SECONDS ", sums.seconds);
     draft.put(sink, b"\n");
@@ -324,12 +257,8 @@ fn put_shown<O: Sink>(draft: &mut Draft, sink: &mut O, sums: &Sums)
 /// Puts the text of the sums: a line for each group, stage, interstage, refusal, fault and detector.
 #[tactic(auto, unfolding(crate::specs::SumsText::sums_text))]
 pub fn put_sums<O: Sink>(draft: &mut Draft, sink: &mut O, sums: &Sums)
-    requires sums { IsTextual sums.now }
-    requires room { draft.old.gone < 2 ^ 52 }
-    ensures text { (start : Option (List ℕ)) (text : List ℕ) → IsDraft start (O.taken sink.old) draft.old text →
-        IsDraft start (O.taken sink.new) draft.new (text ++ sums_text sums.now) }
-    ensures gone { draft.new.gone ≤ draft.old.gone + 2 ^ 51 }
-    ensures cause { FailsOnly (O.faults sink.old) (O.faults sink.new) draft.old.failed draft.new.failed }
+    requires { IsTextual sums.now }
+    ensures { Puts O.taken O.faults draft.old draft.new sink.old sink.new (sums_text sums.now) }
 {
     put_shown(draft, sink, sums);
     put_places(draft, sink, &sums.places);

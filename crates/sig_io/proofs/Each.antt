@@ -24,7 +24,7 @@ cut_in f start now new xs k t d low taken below step =
     let front : List ℕ = flat_map f (take k xs) in
     let piece : List ℕ = f (get_or xs k d) in
     let rest : List ℕ = flat_map f (drop (suc k) xs) in
-    let cut = cut_off start now new (length front) piece t (front ++ piece) (record { front = front; whole = refl; count = refl; taken = taken }) below step in (
+    let cut = cut_off start now new front piece t (front ++ piece) refl taken below step in (
       length front + t,
       subst (λ text. IsCut start new (length front + t) text) (sym (split_at f xs k d low)) (cut_more start new (length front + t) (front ++ piece) rest cut),
     )

@@ -15,11 +15,13 @@ use Rattle.sig_types.specs.declared.kinds.FaultKind.{FaultKind}
 use Rattle.sig_types.specs.declared.kinds.FaultKind.TheVariants.{Budget, Overflow, ZeroDivisor, Index, Number}
 use Rattle.sig_types.specs.declared.refused.TurnRefusal.{TurnRefusal}
 use Rattle.sig_types.specs.declared.refused.StageRefusal.{StageRefusal}
+use Rattle.sig_types.specs.declared.record.Record.{Record}
+use Rattle.sig_types.specs.Recorded.{IsRecord}
 use Rattle.sig_types.specs.declared.numbers.GroupNo.{GroupNo}
 use Rattle.sig_types.specs.declared.refused.Fault.{Fault}
 use Rattle.sig_types.specs.declared.numbers.StagePlace.{StagePlace}
 use Rattle.sig_types.specs.declared.numbers.StagePlace.TheVariants.{NoPlan, Stage, Inter}
-use Rattle.signal_log.specs.Log.{rule_name, fault_name, place_text, name_of, stage_refusal_text, other_text, other_of, turn_text, refused_texts, fault_text, gap, spaced_items, or_dash, count_text, count_entry, counted_from}
+use Rattle.signal_log.specs.Log.{rule_name, fault_name, place_text, name_of, stage_refusal_text, other_text, other_of, turn_text, refused_texts, fault_text, gap, spaced_items, or_dash, count_text, count_entry, counted_from, record_line, record_text, header_text}
 use Rattle.signal_log.specs.Laws.{HeaderIsShort, LinesAreShort}
 
 -- ---- numbers
@@ -188,8 +190,10 @@ header_is_short names named groups =
 
 -- ---- the line
 
-pub lines_are_short : LinesAreShort
-lines_are_short names r named groups is few =
+-- a line of which what was refused has at most m bytes
+line_short : (names : List (List ℕ)) (r : Record) (m : ℕ) → length names ≤ 64 → IsRecord (length names) r →
+    length (or_dash (refused_texts names r.stages r.turns)) ≤ m → length (record_line names r) ≤ 12886 + m
+line_short names r m groups is refused =
     let d = decimal r.second.0 in
     let p = place_text r.place in
     let l = map letter r.picture in
@@ -203,21 +207,12 @@ lines_are_short names r named groups is few =
       counted_few 1 r.frame,
       is.frame,
     ) in
-    let refused : length u ≤ 215057 = omega (
-      arith,
-      or_dash_short (refused_texts names r.stages r.turns),
-      total-append (map stage_refusal_text r.stages) (map (turn_text names) r.turns),
-      stages_short r.stages few.stages,
-      turns_short names r.turns named,
-      few.commands,
-      few.turns,
-    ) in
     let letters : length l ≤ 64 = omega (arith, length-map r.picture letter, is.picture, groups) in
     omega (
       arith,
-      two (d ++ codes "|" ++ p ++ codes "|" ++ l ++ codes "|" ++ c ++ codes "|" ++ u ++ codes "|") f 227866 77
-          (two (d ++ codes "|" ++ p ++ codes "|" ++ l ++ codes "|" ++ c ++ codes "|" ++ u) (codes "|") 227865 1
-          (two (d ++ codes "|" ++ p ++ codes "|" ++ l ++ codes "|" ++ c ++ codes "|") u 12808 215057
+      two (d ++ codes "|" ++ p ++ codes "|" ++ l ++ codes "|" ++ c ++ codes "|" ++ u ++ codes "|") f (12808 + m + 1) 77
+          (two (d ++ codes "|" ++ p ++ codes "|" ++ l ++ codes "|" ++ c ++ codes "|" ++ u) (codes "|") (12808 + m) 1
+          (two (d ++ codes "|" ++ p ++ codes "|" ++ l ++ codes "|" ++ c ++ codes "|") u 12808 m
           (two (d ++ codes "|" ++ p ++ codes "|" ++ l ++ codes "|" ++ c) (codes "|") 12807 1
           (two (d ++ codes "|" ++ p ++ codes "|" ++ l ++ codes "|") c 326 12481
           (two (d ++ codes "|" ++ p ++ codes "|" ++ l) (codes "|") 325 1
@@ -235,3 +230,48 @@ lines_are_short names r named groups is few =
           (omega arith))
           (fault_short r.fault),
     )
+
+pub lines_are_short : LinesAreShort
+lines_are_short names r named groups is few =
+    let refused : length (or_dash (refused_texts names r.stages r.turns)) ≤ 215057 = omega (
+      arith,
+      or_dash_short (refused_texts names r.stages r.turns),
+      total-append (map stage_refusal_text r.stages) (map (turn_text names) r.turns),
+      stages_short r.stages few.stages,
+      turns_short names r.turns named,
+      few.commands,
+      few.turns,
+    ) in
+    omega (arith, line_short names r 215057 groups is refused)
+
+-- whichever stages were refused
+stages_any : (rs : List StageRefusal) → total (map stage_refusal_text rs) ≤ 143 * length rs
+stages_any [] = omega arith
+stages_any (r ∷ rs) =
+    let text = two (decimal r.from.0 ++ codes "-" ++ decimal r.to.0 ++ codes ":") (rule_name r.rule) 130 12
+    (two (decimal r.from.0 ++ codes "-" ++ decimal r.to.0) (codes ":") 129 1
+    (two (decimal r.from.0 ++ codes "-") (decimal r.to.0) 65 64
+    (two (decimal r.from.0) (codes "-") 64 1 (decimal_short r.from.0) (omega arith))
+    (decimal_short r.to.0))
+    (omega arith))
+    (rule_short r.rule) in
+    omega (arith, text, stages_any rs)
+
+pub header_any : (names : List (List ℕ)) → are_names names ≡ true → length names ≤ 64 → length (header_text names) ≤ 2097152
+unfolding header_text
+header_any names named groups = omega (arith, length-append (header_line names) (10 ∷ []), header_is_short names named groups)
+
+pub record_any : (names : List (List ℕ)) (r : Record) → are_names names ≡ true → length names ≤ 64 → IsRecord (length names) r →
+    length r.stages ≤ 10000 → length r.turns ≤ 64 → length (record_text names r) ≤ 2097152
+unfolding record_text
+record_any names r named groups is stages turns =
+    let refused : length (or_dash (refused_texts names r.stages r.turns)) ≤ 1500000 = omega (
+      arith,
+      or_dash_short (refused_texts names r.stages r.turns),
+      total-append (map stage_refusal_text r.stages) (map (turn_text names) r.turns),
+      stages_any r.stages,
+      turns_short names r.turns named,
+      stages,
+      turns,
+    ) in
+    omega (arith, line_short names r 1500000 groups is refused, length-append (record_line names r) (codes "\n"))

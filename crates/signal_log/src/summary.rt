@@ -1,6 +1,6 @@
 // What the records of a run add up to.
 ghost use Rattle.std.specs.Prelude.{◌≡◌, ◌+◌, ◌-◌, ◌*◌, ◌^◌, ◌<◌, ◌≤◌, ◌++◌, ◌∷◌, [], ℕ, List, Option, cond, count_by, length, slice_index};
-ghost use Rattle.sig_io.specs.Draft.{IsDraft, FailsOnly};
+ghost use Rattle.sig_io.specs.Draft.{FailsOnly, Puts};
 ghost use Rattle.sig_types.specs.declared.aspect.Rule.{Rule};
 ghost use Rattle.sig_types.specs.declared.kinds.FaultKind.{FaultKind};
 ghost use Rattle.sig_types.specs.declared.record.Record.{Record};
@@ -161,12 +161,8 @@ impl Summary {
 
 // Puts a name after a space, and its count.
 fn put_tally<O: Sink>(draft: &mut Draft, sink: &mut O, name: &[u8], n: u64)
-    requires name { length name.now ≤ 4096 }
-    requires room { draft.old.gone < 2 ^ 60 }
-    ensures text { (start : Option (List ℕ)) (text : List ℕ) → IsDraft start (O.taken sink.old) draft.old text →
-        IsDraft start (O.taken sink.new) draft.new (text ++ tally name.now n) }
-    ensures gone { draft.new.gone ≤ draft.old.gone + 4096 * 4 }
-    ensures cause { FailsOnly (O.faults sink.old) (O.faults sink.new) draft.old.failed draft.new.failed }
+    requires { length name.now ≤ 4096 }
+    ensures { Puts O.taken O.faults draft.old draft.new sink.old sink.new (tally name.now n) }
 {
     draft.put(sink, b" ");
     draft.put(sink, name);
@@ -176,11 +172,8 @@ fn put_tally<O: Sink>(draft: &mut Draft, sink: &mut O, name: &[u8], n: u64)
 
 // Puts the groups with their counts.
 fn put_groups<O: Sink>(draft: &mut Draft, sink: &mut O, plan: &Plan, summary: &Summary)
-    requires { draft.old.gone < 2 ^ 59 }
-    ensures text { (start : Option (List ℕ)) (text : List ℕ) → IsDraft start (O.taken sink.old) draft.old text →
-        IsDraft start (O.taken sink.new) draft.new (text ++ groups_text (kept_greens summary.now) 0 plan.now.names) }
-    ensures gone { draft.new.gone ≤ draft.old.gone + 4096 * 256 }
-    ensures cause { FailsOnly (O.faults sink.old) (O.faults sink.new) draft.old.failed draft.new.failed }
+    ensures { Puts O.taken O.faults draft.old draft.new sink.old sink.new
+        (groups_text (kept_greens summary.now) 0 plan.now.names) }
 {
     for g in 0..plan.groups() {
         let group = GroupNo(g);
@@ -191,11 +184,7 @@ fn put_groups<O: Sink>(draft: &mut Draft, sink: &mut O, plan: &Plan, summary: &S
 
 // Puts the rules with their counts.
 fn put_rules<O: Sink>(draft: &mut Draft, sink: &mut O, summary: &Summary)
-    requires { draft.old.gone < 2 ^ 59 }
-    ensures text { (start : Option (List ℕ)) (text : List ℕ) → IsDraft start (O.taken sink.old) draft.old text →
-        IsDraft start (O.taken sink.new) draft.new (text ++ rules_text (kept_refusals summary.now)) }
-    ensures gone { draft.new.gone ≤ draft.old.gone + 4096 * 32 }
-    ensures cause { FailsOnly (O.faults sink.old) (O.faults sink.new) draft.old.failed draft.new.failed }
+    ensures { Puts O.taken O.faults draft.old draft.new sink.old sink.new (rules_text (kept_refusals summary.now)) }
 {
     for rule in RULES {
         let count = summary.refusals_by(rule);
@@ -205,11 +194,7 @@ fn put_rules<O: Sink>(draft: &mut Draft, sink: &mut O, summary: &Summary)
 
 // Puts the kinds of faults with their counts.
 fn put_kinds<O: Sink>(draft: &mut Draft, sink: &mut O, summary: &Summary)
-    requires { draft.old.gone < 2 ^ 59 }
-    ensures text { (start : Option (List ℕ)) (text : List ℕ) → IsDraft start (O.taken sink.old) draft.old text →
-        IsDraft start (O.taken sink.new) draft.new (text ++ kinds_text (kept_faults summary.now)) }
-    ensures gone { draft.new.gone ≤ draft.old.gone + 4096 * 20 }
-    ensures cause { FailsOnly (O.faults sink.old) (O.faults sink.new) draft.old.failed draft.new.failed }
+    ensures { Puts O.taken O.faults draft.old draft.new sink.old sink.new (kinds_text (kept_faults summary.now)) }
 {
     for kind in KINDS {
         let count = u64::from(summary.faults_of(kind));
@@ -231,12 +216,8 @@ pub fn put_summary<O: Sink>(
     draft: &mut Draft,
     sink: &mut O,
 )
-    requires { draft.old.gone < 2 ^ 55 }
-    ensures text { (rs : List Record) → StandsFor summary.now (groups_in plan.now) rs →
-        (start : Option (List ℕ)) (text : List ℕ) →
-        IsDraft start (O.taken sink.old) draft.old text →
-        IsDraft start (O.taken sink.new) draft.new (text ++ summary_text plan.now.names seed seconds rs) }
-    ensures gone { draft.new.gone ≤ draft.old.gone + 2 ^ 28 }
+    ensures puts { (rs : List Record) → StandsFor summary.now (groups_in plan.now) rs →
+        Puts O.taken O.faults draft.old draft.new sink.old sink.new (summary_text plan.now.names seed seconds rs) }
     ensures cause { FailsOnly (O.faults sink.old) (O.faults sink.new) draft.old.failed draft.new.failed }
 {
     draft.put(sink, b"SAMPLE ");

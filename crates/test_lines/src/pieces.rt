@@ -64,8 +64,14 @@ fn a_short_text_in_pieces_leaves_in_one_call(rt: HostRuntime) -> Result<(), Fail
         Ok(())
     );
     assert_eq!(rt; short.calls.get(), 1);
-    let long = Counted::new(0);
     let piece = [b'x'; 4096];
+    let full = Counted::new(0);
+    assert_eq!(rt;
+        put_each(&mut ErrSink::new(&full), &[&piece[1..], b"\n"]),
+        Ok(())
+    );
+    assert_eq!(rt; full.calls.get(), 1);
+    let long = Counted::new(0);
     assert_eq!(rt;
         put_each(&mut ErrSink::new(&long), &[&piece, b"\n"]),
         Ok(())

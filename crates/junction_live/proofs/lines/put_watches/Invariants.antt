@@ -1,5 +1,5 @@
-use Rattle.std.proofs.Common.{◌≡◌, ◌≤◌, ◌*◌, ◌++◌, ℕ, List, Option, length}
-use Rattle.sig_io.specs.Draft.{IsDraft, FailsOnly}
+use Rattle.std.proofs.Common.{◌≡◌, ◌++◌, List, length}
+use Rattle.sig_io.specs.Draft.{Puts}
 use Rattle.junction_live.specs.Sights.{Sight, AreSights, watches_from}
 use Rattle.junction_live.proofs.lines.put_watches.Given as goal
 
@@ -8,9 +8,6 @@ invariant-loop-watcher g l = record {
   publisher : l.publisher ≡ l.fn.publisher;
   rest : l.yielded ++ l.watcher-iterator.rest.items ≡ l.fn.watchers.items;
   number : l.number ≡ length l.yielded;
-  text : (sights : List Sight) × AreSights l.number l.fn.publisher.entries sights
-      × ((start : Option (List ℕ)) (text : List ℕ) → IsDraft start (g.O.Sink.taken l.fn.sink) l.fn.draft text →
-      IsDraft start (g.O.Sink.taken l.sink) l.draft (text ++ watches_from 1 sights));
-  gone : l.draft.gone ≤ 28672 * l.number;
-  cause : FailsOnly (g.O.Sink.faults l.fn.sink) (g.O.Sink.faults l.sink) l.fn.draft.failed l.draft.failed;
+  put : (sights : List Sight) × AreSights l.number l.fn.publisher.entries sights
+      × Puts g.O.Sink.taken g.O.Sink.faults l.fn.draft l.draft l.fn.sink l.sink (watches_from 1 sights);
 }

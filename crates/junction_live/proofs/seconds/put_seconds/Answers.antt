@@ -10,7 +10,6 @@ pub loop-k-init : goal.loop-k-init
 loop-k-init g c = (
   refl,
   running_none c.args.tick.now c.args.controller.now (g.O.Sink.taken c.args.out.now) c.args.draft.now c.requires.unread,
-  omega (arith, c.requires.nothing_gone),
   record { later = omega arith; failed = λ t. inl t },
 )
 
@@ -55,8 +54,7 @@ loop-k-preserved g c =
       c.take.ensures.table ∙ c.loop-k.invariant.0,
       running_more c.loop-k.k c.loop-k.tick c.take.new.self start c.loop-k.controller c.second.new.self _ _ _ _ _ c.put_second.new.draft
           c.take.new.frame c.last.result.now c.plan.result.now.names r t m c.last.ensures (ap (λ p. p.names) c.plan.ensures) c.put_second.ensures.text,
-      omega (arith, c.loop-k.invariant.2, c.put_second.ensures.gone),
-      fails_on _ _ _ _ _ _ c.loop-k.invariant.3 c.put_second.ensures.cause,
+      fails_on _ _ _ _ _ _ c.loop-k.invariant.2 c.put_second.ensures.cause,
     )
 
 pub returns-clause-put : goal.returns-clause-put

@@ -11,10 +11,10 @@ returns-then-failed-clause-made g c =
       put.1,
       put.2,
       λ past s none.
-          let made = put.4 past s none in (
+          let made = put.4 past s none in
+          let at = is_cut start _ c.put_seconds.new.draft _ (sym c.failed.ensures ∙ c.if-failed.true) (made.1 start (c.new-draft.ensures.text start)) in (
             made.0,
-            cut_off put.2 _ (is_cut start _ c.put_seconds.new.draft _ (sym c.failed.ensures ∙ c.if-failed.true)
-                (made.1 start (c.new-draft.ensures.text start))),
+            cut_off put.2 at.0 at.1,
           ),
     )
 
@@ -39,5 +39,6 @@ returns-in-Err-clause-made g c =
       put.2,
       λ past s none.
           let made = put.4 past s none in
-          (made.0, cut_off put.2 _ (c.in-Err.ensures.fault start _ (made.1 start (c.new-draft.ensures.text start)))),
+          let at = c.in-Err.ensures.fault start _ (made.1 start (c.new-draft.ensures.text start)) in
+          (made.0, cut_off put.2 at.n at.cut),
     )

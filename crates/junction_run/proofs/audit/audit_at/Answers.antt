@@ -48,4 +48,4 @@ returns-clause-audited g c = λ file e.
     (c.in-Ok-judge_log.ensures.judged file e) in
     let written = c.in-Err-write_audit.ensures.written in
     let ends = subst (λ r. AreEnds tables.plan r (length tables.plan.interstages) written.0) c.in-Ok.ensures.rules written.1 in
-    (judged.0, judged.1, _, audit_is (site_of_tables tables) judged.0 verdict written.0 judged.2 ends, _, written.3)
+    (judged.0, judged.1, _, audit_is (site_of_tables tables) judged.0 verdict written.0 judged.2 ends, written.3.0, written.3.1)

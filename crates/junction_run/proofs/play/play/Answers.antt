@@ -19,7 +19,7 @@ returns-then-failed-clause-played g c = λ store s.
     (c.put_header.ensures.text start [] (c.new-draft.ensures.text start)) in
     let played = c.put_seconds-end.ensures.played store s in (
       played.0,
-      (_, is_cut start _ c.put_seconds-end.new.draft _ (sym c.failed.ensures ∙ c.if-failed.true) (played.1 start begun)),
+      is_cut start _ c.put_seconds-end.new.draft _ (sym c.failed.ensures ∙ c.if-failed.true) (played.1 start begun),
       λ file e. played_begins c.args.word.now c.put_seconds-end.result (stream_of (file (name_of c.args.lines.now))) played.0 (played.2 file e),
     )
 
@@ -48,8 +48,9 @@ returns-in-Err-clause-played g c = λ store s.
     let begun = subst (λ t. IsDraft start (g.O.Sink.taken c.put_header.new.sink) c.put_header.new.draft t)
     (ap header_text names ∙ sym (log_of-none (playing_of c.args.controller.now store)))
     (c.put_header.ensures.text start [] (c.new-draft.ensures.text start)) in
-    let played = c.put_seconds-end.ensures.played store s in (
+    let played = c.put_seconds-end.ensures.played store s in
+    let at = c.in-Err.ensures.fault start (log_of (playing_of c.args.controller.now store) played.0) (played.1 start begun) in (
       played.0,
-      (_, c.in-Err.ensures.fault start (log_of (playing_of c.args.controller.now store) played.0) (played.1 start begun)),
+      (at.n, at.cut),
       λ file e. played_begins c.args.word.now c.put_seconds-end.result (stream_of (file (name_of c.args.lines.now))) played.0 (played.2 file e),
     )

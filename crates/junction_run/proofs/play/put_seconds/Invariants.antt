@@ -12,7 +12,6 @@ invariant-loop-lines g l =
     × (name_of l.lines ≡ name_of l.fn.lines)
     × (is_live l.lines ≡ true)
     × (second_of l.lines ≤ 604800)
-    × (l.draft.gone ≤ 268439552 * second_of l.lines + 268435456)
     × (g.F.Files.faults l.fn.files ≤ g.F.Files.faults l.files)
     × FailsOnly (g.O.Sink.faults l.fn.out) (g.O.Sink.faults l.out) l.fn.draft.failed l.draft.failed
 

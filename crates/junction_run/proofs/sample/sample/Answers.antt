@@ -63,4 +63,5 @@ returns-clause-ended g c = λ file e.
     let stands = subst (λ n. SummaryStands c.sample_seconds-summary.result n rs) (sym (ap groups_in planned))
     (c.sample_seconds-summary.ensures.summed (first_store code) made.stands) in
     let same = sample_is code loaded.0 loaded.2 made.valid start plan site c.args.seed seconds made.logic made.site planned in
-    ((Ok playing, loaded.1, sample_text c.args.seed seconds playing, refl, _, same_cut _ _ same (c.in-Err-write_summary.ensures.fault rs stands)), tt)
+    let cut = c.in-Err-write_summary.ensures.fault rs stands in
+    ((Ok playing, loaded.1, sample_text c.args.seed seconds playing, refl, cut.0, same_cut _ _ same cut.1), tt)

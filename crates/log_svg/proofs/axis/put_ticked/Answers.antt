@@ -1,7 +1,7 @@
 use Rattle.log_svg.specs.Axis.{ticked_text}
-use Rattle.log_svg.proofs.Joins.{then}
+use Rattle.sig_io.proofs.Drafts.{then}
 use Rattle.log_svg.proofs.axis.put_ticked.Goals as goal
 
-pub returns-clause-text : goal.returns-clause-text
+pub returns : goal.returns
 unfolding ticked_text
-returns-clause-text g c = then _ _ _ _ _ _ _ _ c.put_upright.ensures.text c.put_upright-2.ensures.text
+returns g c = then c.put_upright.ensures c.put_upright-2.ensures

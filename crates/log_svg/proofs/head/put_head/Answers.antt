@@ -1,9 +1,9 @@
 use Rattle.log_svg.specs.Diagram.{head_text}
-use Rattle.log_svg.proofs.Joins.{then}
+use Rattle.sig_io.proofs.Drafts.{then}
 use Rattle.log_svg.proofs.head.put_head.Goals as goal
 
-pub returns-clause-text : goal.returns-clause-text
+pub returns : goal.returns
 unfolding head_text
-returns-clause-text g c =
-    then _ _ _ _ _ _ _ _ (then _ _ _ _ _ _ _ _ (then _ _ _ _ _ _ _ _ (then _ _ _ _ _ _ _ _ c.open_svg.ensures.text c.put_looks.ensures.text)
-    c.put_ground.ensures.text) c.begin_label.ensures.text) c.put_title.ensures.text
+returns g c =
+    then (then (then (then c.open_svg.ensures c.put_looks.ensures)
+    c.put_ground.ensures) c.begin_label.ensures) c.put_title.ensures

@@ -1,7 +1,7 @@
 use Rattle.log_svg.specs.Diagram.{interstage_pattern}
-use Rattle.log_svg.proofs.Joins.{then}
+use Rattle.sig_io.proofs.Drafts.{then}
 use Rattle.log_svg.proofs.head.put_interstage_pattern.Goals as goal
 
-pub returns-clause-text : goal.returns-clause-text
+pub returns : goal.returns
 unfolding interstage_pattern
-returns-clause-text g c = then _ _ _ _ _ _ _ _ c.put.ensures.text c.put-2.ensures.text
+returns g c = then c.put.ensures c.put-2.ensures

@@ -1,6 +1,6 @@
-use Rattle.log_svg.proofs.Joins.{then}
+use Rattle.sig_io.proofs.Drafts.{then}
 use Rattle.log_svg.proofs.head.put_styles.Goals as goal
 
-pub returns-clause-text : goal.returns-clause-text
-returns-clause-text g c =
-    then _ _ _ _ _ _ _ _ (then _ _ _ _ _ _ _ _ c.put_bars_style.ensures.text c.put_words_style.ensures.text) c.put_marks_style.ensures.text
+pub returns : goal.returns
+returns g c =
+    then (then c.put_bars_style.ensures c.put_words_style.ensures) c.put_marks_style.ensures

@@ -1,7 +1,7 @@
 use Rattle.log_svg.specs.Diagram.{words_style}
-use Rattle.log_svg.proofs.Joins.{then}
+use Rattle.sig_io.proofs.Drafts.{then}
 use Rattle.log_svg.proofs.head.put_words_style.Goals as goal
 
-pub returns-clause-text : goal.returns-clause-text
+pub returns : goal.returns
 unfolding words_style
-returns-clause-text g c = then _ _ _ _ _ _ _ _ (then _ _ _ _ _ _ _ _ c.put.ensures.text c.put-2.ensures.text) c.put-3.ensures.text
+returns g c = then (then c.put.ensures c.put-2.ensures) c.put-3.ensures

@@ -1,9 +1,9 @@
 use Rattle.log_svg.specs.Diagram.{fronts_key}
-use Rattle.log_svg.proofs.Joins.{then}
+use Rattle.sig_io.proofs.Drafts.{then}
 use Rattle.log_svg.proofs.legend.put_fronts_key.Goals as goal
 
-pub returns-clause-text : goal.returns-clause-text
+pub returns : goal.returns
 unfolding fronts_key
-returns-clause-text g c =
-    then _ _ _ _ _ _ _ _ (then _ _ _ _ _ _ _ _ (then _ _ _ _ _ _ _ _ c.put_upright.ensures.text c.put_upright-2.ensures.text)
-    c.put_upright-3.ensures.text) c.put_label.ensures.text
+returns g c =
+    then (then (then c.put_upright.ensures c.put_upright-2.ensures)
+    c.put_upright-3.ensures) c.put_label.ensures

@@ -1,9 +1,9 @@
 use Rattle.log_svg.specs.Diagram.{legend_text}
-use Rattle.log_svg.proofs.Joins.{then}
+use Rattle.sig_io.proofs.Drafts.{then}
 use Rattle.log_svg.proofs.legend.put_legend.Goals as goal
 
-pub returns-clause-text : goal.returns-clause-text
+pub returns : goal.returns
 unfolding legend_text
-returns-clause-text g c =
-    then _ _ _ _ _ _ _ _ (then _ _ _ _ _ _ _ _ (then _ _ _ _ _ _ _ _ c.put_aspects_key.ensures.text c.put_key.ensures.text)
-    c.put_marks_key.ensures.text) c.put_fronts_key.ensures.text
+returns g c =
+    then (then (then c.put_aspects_key.ensures c.put_key.ensures)
+    c.put_marks_key.ensures) c.put_fronts_key.ensures

@@ -1,9 +1,9 @@
 use Rattle.log_svg.specs.Diagram.{marks_key}
-use Rattle.log_svg.proofs.Joins.{then}
+use Rattle.sig_io.proofs.Drafts.{then}
 use Rattle.log_svg.proofs.legend.put_marks_key.Goals as goal
 
-pub returns-clause-text : goal.returns-clause-text
+pub returns : goal.returns
 unfolding marks_key
-returns-clause-text g c =
-    then _ _ _ _ _ _ _ _ (then _ _ _ _ _ _ _ _ (then _ _ _ _ _ _ _ _ c.put_refused_key.ensures.text c.begin_cross.ensures.text) c.put.ensures.text)
-    c.put_label.ensures.text
+returns g c =
+    then (then (then c.put_refused_key.ensures c.begin_cross.ensures) c.put.ensures)
+    c.put_label.ensures

@@ -1,5 +1,5 @@
-use Rattle.log_svg.proofs.Joins.{then}
+use Rattle.sig_io.proofs.Drafts.{then}
 use Rattle.log_svg.proofs.legend.put_red_key.Goals as goal
 
-pub returns-clause-text : goal.returns-clause-text
-returns-clause-text g c = then _ _ _ _ _ _ _ _ c.put_box.ensures.text c.put_label.ensures.text
+pub returns : goal.returns
+returns g c = then c.put_box.ensures c.put_label.ensures

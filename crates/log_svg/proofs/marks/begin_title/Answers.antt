@@ -1,7 +1,7 @@
 use Rattle.log_svg.specs.Marks.{title_begin}
-use Rattle.log_svg.proofs.Joins.{then}
+use Rattle.sig_io.proofs.Drafts.{then}
 use Rattle.log_svg.proofs.marks.begin_title.Goals as goal
 
-pub returns-clause-text : goal.returns-clause-text
+pub returns : goal.returns
 unfolding title_begin
-returns-clause-text g c = then _ _ _ _ _ _ _ _ c.put.ensures.text c.put_number.ensures.text
+returns g c = then c.put.ensures c.put_number.ensures

@@ -1,9 +1,9 @@
 use Rattle.log_svg.specs.Marks.{fault_mark_text}
-use Rattle.log_svg.proofs.Joins.{then}
+use Rattle.sig_io.proofs.Drafts.{then}
 use Rattle.log_svg.proofs.marks.put_fault_mark.Goals as goal
 
-pub returns-clause-text : goal.returns-clause-text
+pub returns : goal.returns
 unfolding fault_mark_text
-returns-clause-text g c =
-    then _ _ _ _ _ _ _ _ (then _ _ _ _ _ _ _ _ (then _ _ _ _ _ _ _ _ (then _ _ _ _ _ _ _ _ (rw c.middle_of.ensures.x at c.begin_cross.ensures.text)
-    c.begin_title.ensures.text) c.put.ensures.text) c.put_fault.ensures.text) c.put-2.ensures.text
+returns g c =
+    then (then (then (then (rw c.middle_of.ensures.x at c.begin_cross.ensures)
+    c.begin_title.ensures) c.put.ensures) c.put_fault.ensures) c.put-2.ensures

@@ -1,7 +1,7 @@
 use Rattle.log_svg.specs.Svg.{cross_text}
-use Rattle.log_svg.proofs.Joins.{then}
+use Rattle.sig_io.proofs.Drafts.{then}
 use Rattle.log_svg.proofs.pieces.begin_cross.Goals as goal
 
-pub returns-clause-text : goal.returns-clause-text
+pub returns : goal.returns
 unfolding cross_text
-returns-clause-text g c = then _ _ _ _ _ _ _ _ (then _ _ _ _ _ _ _ _ c.begin_path.ensures.text c.put_number.ensures.text) c.put.ensures.text
+returns g c = then (then c.begin_path.ensures c.put_number.ensures) c.put.ensures

@@ -1,7 +1,7 @@
 use Rattle.log_svg.specs.Svg.{label_text}
-use Rattle.log_svg.proofs.Joins.{then}
+use Rattle.sig_io.proofs.Drafts.{then}
 use Rattle.log_svg.proofs.pieces.put_label.Goals as goal
 
-pub returns-clause-text : goal.returns-clause-text
+pub returns : goal.returns
 unfolding label_text
-returns-clause-text g c = then _ _ _ _ _ _ _ _ (then _ _ _ _ _ _ _ _ c.begin_label.ensures.text c.put.ensures.text) c.put-2.ensures.text
+returns g c = then (then c.begin_label.ensures c.put.ensures) c.put-2.ensures

@@ -1,5 +1,6 @@
 use Rattle.std.proofs.Common.{Err, List, ℕ, refl, sym, subst, map, string_bytes, Global}
-use Rattle.log_view.specs.Call.{IsAnswerTo, seen}
+use Rattle.sig_io.specs.Seen.{seen}
+use Rattle.log_view.specs.Call.{IsAnswerTo}
 use Rattle.log_view.specs.Form.{Asked}
 use Rattle.log_view.proofs.Calls.{IsByWords, by_words}
 use Rattle.log_view.proofs.call.report.Goals as goal

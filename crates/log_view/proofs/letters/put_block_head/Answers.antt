@@ -1,11 +1,11 @@
 use Rattle.log_view.specs.Letters.{block_head}
-use Rattle.log_svg.proofs.Joins.{then}
+use Rattle.sig_io.proofs.Drafts.{then}
 use Rattle.log_view.proofs.letters.put_block_head.Goals as goal
 
-pub returns-clause-text : goal.returns-clause-text
+pub returns : goal.returns
 unfolding block_head
-returns-clause-text g c =
-    then _ _ _ _ _ _ _ _ (then _ _ _ _ _ _ _ _ (then _ _ _ _ _ _ _ _
-    (then _ _ _ _ _ _ _ _ c.put.ensures.text c.put_numbers.ensures.text) c.put_ticks.ensures.text)
-    (rw c.deref.ensures.value at c.put_band.ensures.text))
-    (rw c.deref-2.ensures.value at c.put_refusals.ensures.text)
+returns g c =
+    then (then (then
+    (then c.put.ensures c.put_numbers.ensures) c.put_ticks.ensures)
+    (rw c.deref.ensures.value at c.put_band.ensures))
+    (rw c.deref-2.ensures.value at c.put_refusals.ensures)

@@ -1,24 +1,14 @@
 use Rattle.std.proofs.Common.{arith}
-use Rattle.std.proofs.lemmas.Grind.{common_steps}
-use Rattle.std.proofs.lemmas.List.{append-nil}
 use Rattle.log_view.specs.Letters.{fronts_rows}
-use Rattle.log_svg.proofs.Joins.{then}
+use Rattle.sig_io.proofs.Drafts.{nothing, then}
 use Rattle.log_view.proofs.Blocks.{fronts_more}
 use Rattle.log_view.proofs.letters.put_detectors.Goals as goal
 
 pub loop-place-init : goal.loop-place-init
 unfolding fronts_rows
-loop-place-init g c = record {
-  text = λ start text is. rw (append-nil text) is;
-  gone = omega arith;
-  cause = grind (arith, common_steps);
-}
+loop-place-init g c = nothing
 
 pub loop-place-preserved : goal.loop-place-preserved
 loop-place-preserved g c =
     let i = c.loop-place.invariant in
-    record {
-      text = rw fronts_more (then _ _ _ _ _ _ _ _ i.text c.put_fronts.ensures.text);
-      gone = omega (arith, c.put_fronts.ensures.gone, i.gone);
-      cause = grind (arith, common_steps);
-    }
+    rw fronts_more (then i c.put_fronts.ensures)

@@ -3,7 +3,7 @@ use Rattle.std.proofs.lemmas.List.{take_all}
 use Rattle.log_view.specs.Letters.{faults_row}
 use Rattle.log_view.proofs.letters.put_faults.Goals as goal
 
-pub returns-clause-text : goal.returns-clause-text
+pub returns : goal.returns
 unfolding faults_row
-returns-clause-text g c =
-    rw (c.loop-mark.invariant.row, take_all c.loop-mark.mark-index c.args.marks.now (omega (arith, c.loop-mark-test.false))) at c.put_marks.ensures.text
+returns g c =
+    rw (c.loop-mark.invariant.row, take_all c.loop-mark.mark-index c.args.marks.now (omega (arith, c.loop-mark-test.false))) at c.put_marks.ensures

@@ -3,8 +3,8 @@ use Rattle.std.proofs.lemmas.List.{take_all}
 use Rattle.log_view.specs.Letters.{fronts_row}
 use Rattle.log_view.proofs.letters.put_fronts.Goals as goal
 
-pub returns-clause-text : goal.returns-clause-text
+pub returns : goal.returns
 unfolding fronts_row
-returns-clause-text g c =
+returns g c =
     rw (c.loop-mark.invariant.row, take_all c.loop-mark.mark-index c.args.marks.now (omega (arith, c.loop-mark-test.false)), c.detector_name.ensures) at
-    c.put_marks.ensures.text
+    c.put_marks.ensures

@@ -1,30 +1,20 @@
 use Rattle.std.proofs.Common.{◌≡◌, arith}
-use Rattle.std.proofs.lemmas.Grind.{common_steps}
-use Rattle.std.proofs.lemmas.List.{append-nil}
 use Rattle.log_view.specs.Letters.{ticks_row, ticks_to}
-use Rattle.log_svg.proofs.Joins.{then}
+use Rattle.sig_io.proofs.Drafts.{nothing, then}
 use Rattle.log_view.proofs.Blocks.{then_more, ticks_more}
 use Rattle.log_view.proofs.letters.put_ticks.Goals as goal
 
 pub loop-place-init : goal.loop-place-init
 unfolding ticks_to
-loop-place-init g c = record {
-  text = then _ _ _ _ _ _ _ _ c.put_name.ensures.text (λ start text is. rw (append-nil text) is);
-  gone = omega (arith, c.put_name.ensures.gone);
-  cause = grind (arith, common_steps);
-}
+loop-place-init g c = then c.put_name.ensures nothing
 
 pub loop-place-preserved : goal.loop-place-preserved
 loop-place-preserved g c =
     let i = c.loop-place.invariant in
-    record {
-      text = then_more _ _ _ _ _ _ _ _ _ _ i.text (rw c.tick_of.ensures.tick at c.put.ensures.text) (ticks_more c.args.block.first c.loop-place.place);
-      gone = omega (arith, c.put.ensures.gone, i.gone);
-      cause = grind (arith, common_steps);
-    }
+    then_more _ _ i (rw c.tick_of.ensures.tick at c.put.ensures) (ticks_more c.args.block.first c.loop-place.place)
 
-pub returns-clause-text : goal.returns-clause-text
+pub returns : goal.returns
 unfolding ticks_row
-returns-clause-text g c =
+returns g c =
     let end : c.loop-place.place ≡ c.args.block.count = omega (arith, c.loop-place-test.false, c.loop-place.auto.place-end) in
-    rw end at (then _ _ _ _ _ _ _ _ c.loop-place.invariant.text c.put-2.ensures.text)
+    rw end at (then c.loop-place.invariant c.put-2.ensures)

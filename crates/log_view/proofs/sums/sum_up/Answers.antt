@@ -49,8 +49,7 @@ returns-in-Ok-false-clause-summing g c file told =
 pub returns-in-Ok-false-clause-words : goal.returns-in-Ok-false-clause-words
 returns-in-Ok-false-clause-words g c =
     let before = c.loop-line.invariant in
-    textual (names_of c.loop-line.records) before.summed.records c.loop-line.sums before.few
-    (omega (arith, before.summed.count, before.most)) before.summed.said before.summed.sums
+    textual (names_of c.loop-line.records) before.summed.records c.loop-line.sums before.few before.summed.said before.summed.sums
 
 pub returns-in-Err-next_record-clause-summing : goal.returns-in-Err-next_record-clause-summing
 returns-in-Err-next_record-clause-summing g c file told =

@@ -1,12 +1,8 @@
 use Rattle.std.proofs.Common.{◌+◌, ◌*◌, ◌≤◌, ◌++◌, ℕ, List, Option}
-use Rattle.sig_io.specs.Draft.{IsDraft, FailsOnly}
+use Rattle.sig_io.specs.Draft.{Puts}
 use Rattle.log_view.specs.SumsText.{detectors_to}
 use Rattle.log_view.proofs.sums_text.put_detectors.Given as goal
 
 abbrev pub invariant-loop-place : goal.invariant-loop-place
-invariant-loop-place g l = record {
-  text : (start : Option (List ℕ)) (text : List ℕ) → IsDraft start (g.O.Sink.taken l.fn.sink) l.fn.draft text →
-      IsDraft start (g.O.Sink.taken l.sink) l.draft (text ++ detectors_to l.vehicles l.place);
-  gone : l.draft.gone ≤ l.fn.draft.gone + 20480 * l.place;
-  cause : FailsOnly (g.O.Sink.faults l.fn.sink) (g.O.Sink.faults l.sink) l.fn.draft.failed l.draft.failed;
-}
+invariant-loop-place g l =
+    Puts g.O.Sink.taken g.O.Sink.faults l.fn.draft l.draft l.fn.sink l.sink (detectors_to l.vehicles l.place)

@@ -1,7 +1,6 @@
-use Rattle.std.proofs.Common.{◌≡◌, ◌∙◌, ◌++◌, get_or, ap, subst, arith, take}
+use Rattle.std.proofs.Common.{◌≡◌, ◌∙◌, ◌++◌, get_or, [], ap, arith, take}
 use Rattle.std.specs.List.{flat_map}
-use Rattle.std.proofs.lemmas.Grind.{common_steps}
-use Rattle.sig_io.specs.Draft.{IsDraft}
+use Rattle.sig_io.proofs.Drafts.{same_put, then}
 use Rattle.sig_types.specs.declared.aspect.Rule.{Rule}
 use Rattle.sig_types.specs.declared.aspect.Rule.TheVariants.{Sequence}
 use Rattle.signal_log.specs.Log.{rule_name}
@@ -11,15 +10,8 @@ use Rattle.signal_log.proofs.summary.put_rules.Goals as goal
 
 pub loop-rule-preserved : goal.loop-rule-preserved
 loop-rule-preserved g c =
-    let i = c.loop-rule.invariant in
     let at = c.loop-rule.rule-index in
     let tallied = λ (rule : Rule). tally (rule_name rule) (kept_refusals c.args.summary.now rule) in
     let here : tally c.rule_name.result.now c.refusals_by-count.result ≡ tallied (get_or rules at Sequence) =
     λ j. tally (c.rule_name.ensures.text j) (c.refusals_by-count.ensures j) in
-    record {
-      text = λ start text is. subst (λ t. IsDraft start (g.O.Sink.taken c.put_tally.new.sink) c.put_tally.new.draft t)
-          (ap (λ t. (text ++ flat_map tallied (take at rules)) ++ t) here ∙ items_more tallied at rules Sequence text (omega arith))
-          (c.put_tally.ensures.text start _ (i.text start text is));
-      gone = omega (arith, c.put_tally.ensures.gone, i.gone);
-      cause = grind (arith, common_steps);
-    }
+    same_put (ap (λ t. flat_map tallied (take at rules) ++ t) here ∙ items_more tallied at rules Sequence [] (omega arith)) (then c.loop-rule.invariant c.put_tally.ensures)
