@@ -1,0 +1,16 @@
+pub mod AtOnce
+pub mod Fastest
+pub mod First
+pub mod Greatest
+pub mod Greens
+pub mod Onwards
+pub mod Reached
+pub mod Reds
+pub mod Refused
+pub mod Rest
+pub mod Seconds
+pub mod Sites
+pub mod Still
+pub mod Tabulated
+pub mod ToRest
+pub mod Whole
