@@ -1,0 +1,597 @@
+// Why a turn was refused, in numbers.
+ghost use Rattle.std.specs.Prelude.{◌≡◌, ◌↔◌, ◌++◌, ℕ, ◌+◌, ◌<◌, ◌≤◌, ◌&&◌, false, not, length, IfSome, Option, None, Some, true, is_some, if◌then◌else◌};
+ghost use Rattle.std.specs.Option.{ForSome};
+ghost use Rattle.sig_types.specs.Recorded.{IsTurn};
+ghost use Rattle.sig_types.specs.Turns.{History, shown, is_on as is_on_spec, is_red as is_red_spec, is_green as is_green_spec};
+ghost use Rattle.sig_tables.specs.SiteRules.{rules_of};
+ghost use Rattle.sig_tables.specs.TimesTable.{row_of};
+ghost use Rattle.log_judge.specs.Found.{past_at};
+ghost use Rattle.log_judge.specs.Stands.{StandsFor, groups_of, seconds_of, terms_of};
+ghost use Rattle.log_judge.specs.Explained.{both as both_spec, unless as unless_spec, certainly as certainly_spec, where_so as where_so_spec, short_now, missed_now, ended_now, none_missed as none_missed_spec, so_far_now, lowest_on_now, is_at as is_at_spec, end_finding as end_finding_spec, red_is_enough as red_is_enough_spec, start_finding as start_finding_spec, lacks_now, most_lacking as most_lacking_spec, finding_now, end_reason_now, on_from_now, uncleared_now, most_lacking_now, start_reason_now, reason_now};
+ghost use Rattle.log_judge.specs.Refused.{no_turn as no_turn_spec, IsBorneOut};
+ghost use Rattle.sig_guard.specs.Safety.{IsHistory};
+
+use crate::judge::Judge;
+use sig_guard::is_on;
+use sig_tables::{Intergreens, Times};
+use sig_types::{Aspect, GroupNo, Picture, Rule, TurnRefusal};
+
+/// Whether the pictures and the tables bear a refusal out.
+#[derive(Clone, Copy, PartialEq, Eq)]
+pub enum Finding {
+    /// They do, as far as they go.
+    Borne,
+    /// What would tell it lies before the log.
+    Unknown,
+    /// They don't, whatever was before the log.
+    Contradicted,
+}
+
+/// The turn that was asked for.
+#[derive(Clone, Copy, PartialEq, Eq)]
+pub enum Asked {
+    Start,
+    End,
+}
+
+/// What the log has of the cause. Seconds are places of the history.
+#[derive(Clone, Copy)]
+pub enum Reason {
+    /// The group isn't yet green, or red: its red-amber, or amber, since so long has this time.
+    NotYet {
+        since: u32,
+        time: u32,
+    },
+    /// The green, or red, since then has to last so long.
+    Least {
+        since: u32,
+        least: u32,
+    },
+    /// The other group has been on since then.
+    On {
+        other: GroupNo,
+        since: u32,
+    },
+    /// The other ended then; the group would be green in `due`. By this rule it may start in `free`, for the sake of `by`.
+    Uncleared {
+        other: GroupNo,
+        ended: u32,
+        due: u32,
+        least: u32,
+        free: u32,
+        by: GroupNo,
+    },
+    /// Nothing that fits the rule.
+    Nothing,
+}
+
+/// What is said of a refused turn.
+#[derive(Clone, Copy)]
+pub struct Explained {
+    pub asked: Asked,
+    pub finding: Finding,
+    pub reason: Reason,
+}
+
+fn both(this: Finding, that: Finding) -> Finding
+    ensures { result ≡ both_spec this that }
+{
+    match (this, that) {
+        (Finding::Borne, _) => that,
+        (Finding::Contradicted, _) => Finding::Contradicted,
+        (Finding::Unknown, Finding::Contradicted) => Finding::Contradicted,
+        (Finding::Unknown, _) => Finding::Unknown,
+    }
+}
+
+// That it isn't so, as far as is known.
+fn unless(this: Finding) -> Finding
+    ensures { result ≡ unless_spec this }
+{
+    match this {
+        Finding::Borne => Finding::Contradicted,
+        Finding::Unknown => Finding::Borne,
+        Finding::Contradicted => Finding::Borne,
+    }
+}
+
+fn certainly(so: bool) -> Finding
+    ensures { result ≡ certainly_spec so }
+{
+    if so {
+        Finding::Borne
+    } else {
+        Finding::Contradicted
+    }
+}
+
+fn where_so(so: bool, this: Finding) -> Finding
+    ensures { result ≡ where_so_spec so this }
+{
+    if so { this } else { Finding::Contradicted }
+}
+
+fn is_red(aspect: Aspect) -> bool
+    ensures { result ≡ is_red_spec aspect }
+{
+    aspect == Aspect::Red
+}
+
+fn is_green(aspect: Aspect) -> bool
+    ensures { result ≡ is_green_spec aspect }
+{
+    aspect == Aspect::Green
+}
+
+// Whether what a group shows since then lasts too short for a turn now.
+#[tactic(auto, unfolding(crate::specs::Stands::groups_of))]
+fn is_short(judge: &Judge, g: u8, least: u8) -> Finding
+    requires { g < groups_of judge.now }
+    ensures { result ≡ short_now judge.now.terms judge.now.seconds (past_at judge.now.pasts g).since least }
+{
+    let known = if judge.is_begun(g) {
+        Finding::Borne
+    } else {
+        Finding::Unknown
+    };
+    where_so(judge.seconds() < judge.since(g) + u32::from(least), known)
+}
+
+// Whether a green in this second comes too soon after the last end.
+fn is_missed(due: u32, between: Option<u8>, ended: Option<u32>) -> Finding
+    requires { ForSome ended (λ b. b ≤ 604802) }
+    ensures { result ≡ missed_now due between ended }
+{
+    match (between, ended) {
+        (None, _) => Finding::Contradicted,
+        (Some(least), None) => where_so(due < u32::from(least), Finding::Unknown),
+        (Some(least), Some(ended)) => certainly(due < ended + u32::from(least)),
+    }
+}
+
+// Whether the intergreen of no lower group is missed.
+#[tactic(auto, unfolding(crate::specs::Stands::groups_of))]
+fn none_missed(
+    judge: &Judge,
+    times: &Times,
+    intergreens: &Intergreens,
+    picture: &Picture,
+    below: u8,
+    g: u8,
+    due: u32,
+) -> Finding
+    requires below { below ≤ groups_of judge.now }
+    requires group { g < groups_of judge.now }
+    requires picture { length picture.now ≡ groups_of judge.now }
+    requires intergreens { intergreens.now.count ≡ groups_of judge.now }
+    ensures { result ≡ none_missed_spec (rules_of times.now intergreens.now) judge.now.seconds judge.now.picture judge.now.pasts picture.now g due below }
+{
+    let mut none = Finding::Borne;
+    for i in 0..below {
+        let between = intergreens.between(GroupNo(i), GroupNo(g));
+        let missed = is_missed(due, between, judge.last_end_with(picture, i));
+        none = both(none, unless(missed));
+    }
+    none
+}
+
+// What another group shows in the picture against which the start of g was decided.
+#[tactic(auto, unfolding(crate::specs::Stands::groups_of))]
+fn so_far(judge: &Judge, picture: &Picture, g: u8, i: u8) -> Aspect
+    requires other { i < groups_of judge.now }
+    requires picture { length picture.now ≡ groups_of judge.now }
+    ensures { result ≡ so_far_now judge.now.picture picture.now g i }
+{
+    let (was, is) = (judge.aspect(i), picture.get(i));
+    if g <= i && (is_red(was) && is_on(is)) {
+        was
+    } else {
+        is
+    }
+}
+
+// Whether another group is in conflict with g, and on in that picture.
+#[tactic(auto, unfolding(crate::specs::Stands::groups_of))]
+fn is_in_way(
+    judge: &Judge,
+    times: &Times,
+    intergreens: &Intergreens,
+    picture: &Picture,
+    g: u8,
+    i: u8,
+) -> bool
+    requires group { g < groups_of judge.now }
+    requires other { i < groups_of judge.now }
+    requires picture { length picture.now ≡ groups_of judge.now }
+    requires intergreens { intergreens.now.count ≡ groups_of judge.now }
+    ensures { result ≡ (is_some ((rules_of times.now intergreens.now).between i g) && is_on_spec (so_far_now judge.now.picture picture.now g i)) }
+{
+    intergreens.between(GroupNo(i), GroupNo(g)).is_some() && is_on(so_far(judge, picture, g, i))
+}
+
+// The lowest group in conflict that is on in that picture.
+#[tactic(auto, unfolding(crate::specs::Stands::groups_of))]
+fn lowest_on(
+    judge: &Judge,
+    times: &Times,
+    intergreens: &Intergreens,
+    picture: &Picture,
+    g: u8,
+) -> Option<u8>
+    requires times { length times.now ≡ groups_of judge.now }
+    requires group { g < groups_of judge.now }
+    requires picture { length picture.now ≡ groups_of judge.now }
+    requires intergreens { intergreens.now.count ≡ groups_of judge.now }
+    ensures { result ≡ lowest_on_now (rules_of times.now intergreens.now) judge.now.picture picture.now g }
+{
+    for i in 0..picture.len() {
+        if is_in_way(judge, times, intergreens, picture, g, i) {
+            return Some(i);
+        }
+    }
+    None
+}
+
+fn is_at(place: Option<u8>, i: u8) -> bool
+    ensures { result ≡ is_at_spec place i }
+{
+    match place {
+        None => false,
+        Some(j) => j == i,
+    }
+}
+
+#[tactic(auto, unfolding(crate::specs::Stands::groups_of))]
+fn end_finding(
+    judge: &Judge,
+    times: &Times,
+    intergreens: &Intergreens,
+    turn: TurnRefusal,
+) -> Finding
+    requires times { length times.now ≡ groups_of judge.now }
+    requires turn { turn.group.0 < groups_of judge.now }
+    ensures { result ≡ end_finding_spec (rules_of times.now intergreens.now) judge.now.terms judge.now.seconds judge.now.picture judge.now.pasts
+        turn.group.0 turn.rule turn.other }
+{
+    let g = turn.group.0;
+    let green = is_green(judge.aspect(g));
+    let least = times.min(turn.group);
+    match (turn.rule, turn.other) {
+        (Rule::Sequence, None) => certainly(!green),
+        (Rule::MinGreen, None) => where_so(green, is_short(judge, g, least)),
+        _ => Finding::Contradicted,
+    }
+}
+
+#[tactic(auto, unfolding(crate::specs::Stands::groups_of))]
+fn red_is_enough(judge: &Judge, times: &Times, intergreens: &Intergreens, g: u8) -> Finding
+    requires times { length times.now ≡ groups_of judge.now }
+    requires group { g < groups_of judge.now }
+    ensures { result ≡ red_is_enough_spec (rules_of times.now intergreens.now) judge.now.terms judge.now.seconds judge.now.pasts g }
+{
+    let least = times.min_red(GroupNo(g));
+    unless(is_short(judge, g, least))
+}
+
+#[tactic(auto, unfolding(crate::specs::Stands::groups_of))]
+fn conflict_finding(
+    judge: &Judge,
+    times: &Times,
+    intergreens: &Intergreens,
+    picture: &Picture,
+    g: u8,
+    i: GroupNo,
+) -> Finding
+    requires times { length times.now ≡ groups_of judge.now }
+    requires intergreens { intergreens.now.count ≡ groups_of judge.now }
+    requires picture { length picture.now ≡ groups_of judge.now }
+    requires group { g < groups_of judge.now }
+    ensures { result ≡ start_finding_spec (rules_of times.now intergreens.now) judge.now.terms judge.now.seconds judge.now.picture judge.now.pasts picture.now
+        g Rule.Conflict (Some i) }
+{
+    let red = is_red(judge.aspect(g));
+    let on = lowest_on(judge, times, intergreens, picture, g);
+    where_so(
+        red && is_at(on, i.0),
+        red_is_enough(judge, times, intergreens, g),
+    )
+}
+
+#[tactic(auto, unfolding(crate::specs::Stands::groups_of))]
+fn intergreen_finding(
+    judge: &Judge,
+    times: &Times,
+    intergreens: &Intergreens,
+    picture: &Picture,
+    g: u8,
+    i: GroupNo,
+) -> Finding
+    requires times { length times.now ≡ groups_of judge.now }
+    requires intergreens { intergreens.now.count ≡ groups_of judge.now }
+    requires picture { length picture.now ≡ groups_of judge.now }
+    requires group { g < groups_of judge.now }
+    requires other { i.0 < groups_of judge.now }
+    ensures { result ≡ start_finding_spec (rules_of times.now intergreens.now) judge.now.terms judge.now.seconds judge.now.picture judge.now.pasts picture.now
+        g Rule.Intergreen (Some i) }
+{
+    let red = is_red(judge.aspect(g));
+    let on = lowest_on(judge, times, intergreens, picture, g);
+    let due = judge.seconds() + u32::from(times.red_amber(GroupNo(g)));
+    let lower = none_missed(judge, times, intergreens, picture, i.0, g, due);
+    let between = intergreens.between(i, GroupNo(g));
+    let missed = is_missed(due, between, judge.last_end_with(picture, i.0));
+    let enough = red_is_enough(judge, times, intergreens, g);
+    where_so(red && on.is_none(), both(enough, both(lower, missed)))
+}
+
+#[tactic(auto, unfolding(crate::specs::Stands::groups_of))]
+fn start_finding(
+    judge: &Judge,
+    times: &Times,
+    intergreens: &Intergreens,
+    picture: &Picture,
+    turn: TurnRefusal,
+) -> Finding
+    requires times { length times.now ≡ groups_of judge.now }
+    requires intergreens { intergreens.now.count ≡ groups_of judge.now }
+    requires picture { length picture.now ≡ groups_of judge.now }
+    requires turn { IsTurn (groups_of judge.now) turn }
+    ensures { result ≡ start_finding_spec (rules_of times.now intergreens.now) judge.now.terms judge.now.seconds judge.now.picture judge.now.pasts picture.now
+        turn.group.0 turn.rule turn.other }
+{
+    let g = turn.group.0;
+    let red = is_red(judge.aspect(g));
+    let least = times.min_red(turn.group);
+    match (turn.rule, turn.other) {
+        (Rule::Sequence, None) => certainly(!red),
+        (Rule::MinRed, None) => where_so(red, is_short(judge, g, least)),
+        (Rule::Conflict, Some(i)) => { conflict_finding(judge, times, intergreens, picture, g, i) }
+        (Rule::Intergreen, Some(i)) => {
+            intergreen_finding(judge, times, intergreens, picture, g, i)
+        }
+        _ => Finding::Contradicted,
+    }
+}
+
+// The seconds by which a green in this second comes too soon after the last end; 0 where none is known.
+fn lacks(due: u32, between: Option<u8>, ended: Option<u32>) -> u32
+    requires { ForSome ended (λ b. b ≤ 604802) }
+    ensures lacks { result ≡ lacks_now due between ended }
+    ensures at_most { result ≤ 605057 }
+{
+    match (between, ended) {
+        (Some(least), Some(ended)) => (ended + u32::from(least)).saturating_sub(due),
+        _ => 0,
+    }
+}
+
+// The group from which most seconds are lacking, the lowest of several, with these.
+#[tactic(auto, unfolding(crate::specs::Stands::groups_of))]
+fn most_lacking(
+    judge: &Judge,
+    times: &Times,
+    intergreens: &Intergreens,
+    picture: &Picture,
+    g: u8,
+    due: u32,
+) -> (u8, u32)
+    requires group { g < groups_of judge.now }
+    requires picture { length picture.now ≡ groups_of judge.now }
+    requires intergreens { intergreens.now.count ≡ groups_of judge.now }
+    ensures most { result ≡ most_lacking_spec (λ i. lacks_now due ((rules_of times.now intergreens.now).between i g)
+        (ended_now judge.now.seconds judge.now.picture judge.now.pasts picture.now i)) (length picture.now) }
+    ensures at_most { result.1 ≤ 605057 }
+{
+    let mut most = (0, 0);
+    for i in 0..picture.len() {
+        let between = intergreens.between(GroupNo(i), GroupNo(g));
+        let here = lacks(due, between, judge.last_end_with(picture, i));
+        if most.1 < here {
+            most = (i, here);
+        }
+    }
+    most
+}
+
+#[tactic(auto, unfolding(crate::specs::Stands::groups_of))]
+fn end_reason(judge: &Judge, times: &Times, intergreens: &Intergreens, turn: TurnRefusal) -> Reason
+    requires times { length times.now ≡ groups_of judge.now }
+    requires turn { turn.group.0 < groups_of judge.now }
+    ensures { result ≡ end_reason_now (rules_of times.now intergreens.now) judge.now.pasts turn.group.0 turn.rule }
+{
+    let since = judge.since(turn.group.0);
+    match turn.rule {
+        Rule::Sequence => Reason::NotYet {
+            since,
+            time: u32::from(times.red_amber(turn.group)),
+        },
+        Rule::MinGreen => Reason::Least {
+            since,
+            least: u32::from(times.min(turn.group)),
+        },
+        _ => Reason::Nothing,
+    }
+}
+
+// Since when another group is on with the picture.
+#[tactic(auto, unfolding(crate::specs::Stands::groups_of))]
+fn on_reason(judge: &Judge, other: GroupNo) -> Reason
+    requires { other.0 < groups_of judge.now }
+    ensures { result ≡ Reason.On other (on_from_now judge.now.seconds judge.now.picture judge.now.pasts other.0) }
+{
+    let since = if is_on(judge.aspect(other.0)) {
+        judge.on_since(other.0)
+    } else {
+        judge.seconds()
+    };
+    Reason::On { other, since }
+}
+
+#[tactic(auto, unfolding(crate::specs::Stands::groups_of))]
+fn uncleared_reason(
+    judge: &Judge,
+    times: &Times,
+    intergreens: &Intergreens,
+    picture: &Picture,
+    g: u8,
+    other: GroupNo,
+) -> Reason
+    requires times { length times.now ≡ groups_of judge.now }
+    requires intergreens { intergreens.now.count ≡ groups_of judge.now }
+    requires picture { length picture.now ≡ groups_of judge.now }
+    requires group { g < groups_of judge.now }
+    requires other { other.0 < groups_of judge.now }
+    ensures { result ≡ uncleared_now judge.now.seconds ((rules_of times.now intergreens.now).red_amber g) ((rules_of times.now intergreens.now).between other.0 g)
+        (ended_now judge.now.seconds judge.now.picture judge.now.pasts picture.now other.0) other
+        (most_lacking_now (rules_of times.now intergreens.now) judge.now.seconds judge.now.picture judge.now.pasts picture.now g) }
+{
+    let due = judge.seconds() + u32::from(times.red_amber(GroupNo(g)));
+    let between = intergreens.between(other, GroupNo(g));
+    let (by, lacking) = most_lacking(judge, times, intergreens, picture, g, due);
+    match (between, judge.last_end_with(picture, other.0)) {
+        (Some(least), Some(ended)) => Reason::Uncleared {
+            other,
+            ended,
+            due,
+            least: u32::from(least),
+            free: judge.seconds() + lacking,
+            by: GroupNo(by),
+        },
+        _ => Reason::Nothing,
+    }
+}
+
+#[tactic(auto, unfolding(crate::specs::Stands::groups_of))]
+fn start_reason(
+    judge: &Judge,
+    times: &Times,
+    intergreens: &Intergreens,
+    picture: &Picture,
+    turn: TurnRefusal,
+) -> Reason
+    requires times { length times.now ≡ groups_of judge.now }
+    requires intergreens { intergreens.now.count ≡ groups_of judge.now }
+    requires picture { length picture.now ≡ groups_of judge.now }
+    requires turn { IsTurn (groups_of judge.now) turn }
+    ensures { result ≡ start_reason_now (rules_of times.now intergreens.now) judge.now.seconds judge.now.picture judge.now.pasts picture.now
+        turn.group.0 turn.rule turn.other }
+{
+    let g = turn.group.0;
+    let since = judge.since(g);
+    match (turn.rule, turn.other) {
+        (Rule::Sequence, _) => Reason::NotYet {
+            since,
+            time: u32::from(times.amber(turn.group)),
+        },
+        (Rule::MinRed, _) => Reason::Least {
+            since,
+            least: u32::from(times.min_red(turn.group)),
+        },
+        (Rule::Conflict, Some(other)) => on_reason(judge, other),
+        (Rule::Intergreen, Some(other)) => {
+            uncleared_reason(judge, times, intergreens, picture, g, other)
+        }
+        _ => Reason::Nothing,
+    }
+}
+
+// Whether a group neither started nor ended.
+fn no_turn(was: Aspect, is: Aspect) -> bool
+    ensures { result ≡ no_turn_spec was is }
+{
+    (is_on(was) && is_on(is)) || (!is_on(was) && !is_on(is))
+}
+
+#[tactic(auto, unfolding(crate::specs::Stands::groups_of))]
+fn finding_of(
+    judge: &Judge,
+    times: &Times,
+    intergreens: &Intergreens,
+    picture: &Picture,
+    turn: TurnRefusal,
+) -> Finding
+    requires times { length times.now ≡ groups_of judge.now }
+    requires intergreens { intergreens.now.count ≡ groups_of judge.now }
+    requires picture { length picture.now ≡ groups_of judge.now }
+    requires turn { IsTurn (groups_of judge.now) turn }
+    ensures { result ≡ finding_now (rules_of times.now intergreens.now) judge.now.terms judge.now.seconds judge.now.picture judge.now.pasts picture.now turn }
+{
+    let g = turn.group.0;
+    let stays = no_turn(judge.aspect(g), picture.get(g));
+    if is_on(picture.get(g)) {
+        return where_so(stays, end_finding(judge, times, intergreens, turn));
+    }
+    where_so(
+        stays,
+        start_finding(judge, times, intergreens, picture, turn),
+    )
+}
+
+#[tactic(auto, unfolding(crate::specs::Stands::groups_of))]
+fn reason_of(
+    judge: &Judge,
+    times: &Times,
+    intergreens: &Intergreens,
+    picture: &Picture,
+    turn: TurnRefusal,
+) -> Reason
+    requires times { length times.now ≡ groups_of judge.now }
+    requires intergreens { intergreens.now.count ≡ groups_of judge.now }
+    requires picture { length picture.now ≡ groups_of judge.now }
+    requires turn { IsTurn (groups_of judge.now) turn }
+    ensures { result ≡ reason_now (rules_of times.now intergreens.now) judge.now.seconds judge.now.picture judge.now.pasts picture.now turn }
+{
+    if is_on(picture.get(turn.group.0)) {
+        return end_reason(judge, times, intergreens, turn);
+    }
+    start_reason(judge, times, intergreens, picture, turn)
+}
+
+/// What is said of a turn that was refused in the second that shows the picture, after those that the judge knows. A group that
+/// shows another turn in it was refused none. Of the first second of a log with an unknown past nothing can be said.
+#[tactic(auto, unfolding(crate::specs::Stands::groups_of, crate::specs::Stands::seconds_of, crate::specs::Stands::terms_of))]
+pub fn explain(
+    judge: &Judge,
+    times: &Times,
+    intergreens: &Intergreens,
+    picture: &Picture,
+    turn: TurnRefusal,
+) -> Explained
+    requires times { length times.now ≡ groups_of judge.now }
+    requires intergreens { intergreens.now.count ≡ groups_of judge.now }
+    requires picture { length picture.now ≡ groups_of judge.now }
+    requires turn { IsTurn (groups_of judge.now) turn }
+    ensures asked { result.asked ≡ (if is_on_spec (shown picture.now turn.group.0) then Asked.End else Asked.Start) }
+    ensures finding { 0 < seconds_of judge.now →
+        result.finding ≡ finding_now (rules_of times.now intergreens.now) judge.now.terms judge.now.seconds judge.now.picture judge.now.pasts picture.now turn }
+    ensures reason { 0 < seconds_of judge.now →
+        result.reason ≡ reason_now (rules_of times.now intergreens.now) judge.now.seconds judge.now.picture judge.now.pasts picture.now turn }
+    ensures first { seconds_of judge.now ≡ 0 → result.finding ≡ Finding.Unknown }
+    // At rest it is borne out exactly where it is told so.
+    ensures at_rest { (h : History) → StandsFor judge.now h → (terms_of judge.now).rested ≡ true → IsHistory (groups_of judge.now) h →
+        (result.finding ≡ Finding.Borne) ↔ IsBorneOut (rules_of times.now intergreens.now) h picture.now turn }
+    // Whatever was before the log, it is not borne out where it is told so.
+    ensures contradicted { (h front : History) → StandsFor judge.now h → (terms_of judge.now).rested ≡ false →
+        IsHistory (groups_of judge.now) (front ++ h) → result.finding ≡ Finding.Contradicted →
+        IsBorneOut (rules_of times.now intergreens.now) (front ++ h) picture.now turn → ⊥ }
+{
+    let asked = if is_on(picture.get(turn.group.0)) {
+        Asked::End
+    } else {
+        Asked::Start
+    };
+    if judge.seconds() == 0 {
+        return Explained {
+            asked,
+            finding: Finding::Unknown,
+            reason: Reason::Nothing,
+        };
+    }
+    let finding = finding_of(judge, times, intergreens, picture, turn);
+    let reason = reason_of(judge, times, intergreens, picture, turn);
+    Explained {
+        asked,
+        finding,
+        reason,
+    }
+}
