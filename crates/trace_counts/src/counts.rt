@@ -1,0 +1,118 @@
+// The observer that counts.
+ghost use Rattle.std.specs.Prelude.{◌≡◌, [], List, ℤ, replicate, slice_get, slice_index_or, IfOk};
+ghost use Rattle.trace_counts.specs.Counted.{HasCounted, counted_at, says_no, says_yes, spends};
+
+use std::alloc::{AllocError, Global};
+use vap_code::Instr;
+use vap_vm::{Head, Machine, Observer, Sight};
+
+/// For each place of a code how often a statement began there, and how often a test was answered there. A count that has come to
+/// 18,446,744,073,709,551,615 stays there; a run of a week counts far less.
+#[derive(Drop)]
+pub struct Counts {
+    begun: Vec<u64>,
+    yes: Vec<u64>,
+    no: Vec<u64>,
+}
+
+// One more at a place, if it is to be counted there.
+fn count(counts: &mut Vec<u64>, place: usize, such: bool)
+    ensures { counts.new.items ≡ counted_at counts.old.items place such }
+{
+    if such && place < counts.len() {
+        counts[place] = counts[place].saturating_add(1);
+    }
+}
+
+// Whether a tick finds a unit.
+fn spends(instr: Instr, units: u32) -> bool
+    ensures { result ≡ spends instr units }
+{
+    matches!(instr, Instr::Tick(_)) && units > 0
+}
+
+// Whether a test is answered yes, of which this is the number.
+fn says_yes(instr: Instr, top: Option<i32>) -> bool
+    ensures { (operands : List ℤ) → top ≡ slice_get operands 0 → result ≡ says_yes instr operands }
+{
+    let Some(value) = top else {
+        return false;
+    };
+    matches!(instr, Instr::JumpZero(_)) && value != 0
+}
+
+// Whether a test is answered no, of which this is the number.
+fn says_no(instr: Instr, top: Option<i32>) -> bool
+    ensures { (operands : List ℤ) → top ≡ slice_get operands 0 → result ≡ says_no instr operands }
+{
+    let Some(value) = top else {
+        return false;
+    };
+    matches!(instr, Instr::JumpZero(_)) && value == 0
+}
+
+// So many counts of 0.
+fn zeros(alloc: Global, places: usize) -> Result<Vec<u64>, AllocError>
+    ensures { IfOk result (λ counts. counts.items ≡ replicate places 0) }
+{
+    vec![in alloc; 0; places]
+}
+
+// The count at a place; 0 outside of the code.
+fn at(counts: &[u64], place: usize) -> u64
+    ensures { result ≡ slice_index_or counts.now place 0 }
+{
+    match counts.get(place) {
+        Some(count) => *count,
+        None => 0,
+    }
+}
+
+impl Counts {
+    /// Nothing is counted yet, for a code of so many instructions.
+    pub fn new(alloc: Global, places: usize) -> Result<Counts, AllocError>
+        ensures places { IfOk result (λ c. c.begun.items ≡ replicate places 0) }
+        ensures none { IfOk result (λ c. HasCounted c []) }
+    {
+        let begun = zeros(alloc, places)?;
+        let yes = zeros(alloc, places)?;
+        let no = zeros(alloc, places)?;
+        Ok(Counts { begun, yes, no })
+    }
+
+    /// How often a statement began at a place; 0 outside of the code.
+    pub fn begun(&self, place: usize) -> u64
+        ensures { result ≡ slice_index_or self.now.begun.items place 0 }
+    {
+        at(&self.begun, place)
+    }
+
+    /// How often a test was answered yes at a place; 0 outside of the code.
+    pub fn yes(&self, place: usize) -> u64
+        ensures { result ≡ slice_index_or self.now.yes.items place 0 }
+    {
+        at(&self.yes, place)
+    }
+
+    /// How often a test was answered no at a place; 0 outside of the code.
+    pub fn no(&self, place: usize) -> u64
+        ensures { result ≡ slice_index_or self.now.no.items place 0 }
+    {
+        at(&self.no, place)
+    }
+}
+
+impl Observer for Counts {
+    ghost use Rattle.trace_counts.specs.Counted.{HasCounted};
+
+    ghost saw = { HasCounted };
+
+    fn look(&mut self, instr: Instr, head: &Head, machine: &Machine) {
+        let sight = Sight::of(instr, head, machine);
+        let place = sight.place();
+        let top = sight.operand(0);
+        count(&mut self.begun, place, spends(instr, sight.units()));
+        count(&mut self.yes, place, says_yes(instr, top));
+        count(&mut self.no, place, says_no(instr, top));
+    }
+}

@@ -1,0 +1,8 @@
+//! How often each statement of a program began, and how often each test was answered yes and no.
+//!
+//! `specs/Places` says where statements and tests stand in a code, `specs/Counted` what is counted of what an observer sees.
+#![tactic(auto)]
+
+mod counts;
+
+pub use counts::Counts;
