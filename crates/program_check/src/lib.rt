@@ -5,7 +5,9 @@
 mod assigned;
 mod called;
 mod calls;
+mod constants;
 mod detectors;
+pub mod laws;
 mod parts;
 mod program;
 mod reads;
@@ -13,5 +15,6 @@ mod variables;
 mod warnings;
 
 pub use calls::CallKind;
+pub use constants::constant_value;
 pub use program::program_warnings;
 pub use warnings::{Meant, ProgramWarning, Warned};

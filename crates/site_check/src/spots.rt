@@ -1,16 +1,21 @@
 // Where the names and the numbers of a program stand in its text.
-ghost use Rattle.std.specs.Prelude.{◌≡◌};
+ghost use Rattle.std.specs.Prelude.{◌≡◌, ◌∷◌, ℕ, List, filter, length, slice_index_or};
 ghost use Rattle.std.specs.Option.{option_copied};
-ghost use Rattle.program_check.specs.Calls.{constant_value};
-ghost use Rattle.site_check.specs.Spots.{argument_at, begins_call, call_word, command_word, is_name, is_open, is_word, reading_word};
-ghost use Rattle.site_check.specs.Spots.{argument_spot, name_spot, token_spot, token_value, variable_spot, warned_spot};
+ghost use Rattle.site_check.specs.Spots.{argument_at, argument_in, begins_call, call_word, command_word, is_longer, is_name};
+ghost use Rattle.site_check.specs.Spots.{first_argument, is_open, is_token_of, is_word, meant_argument, reading_word};
+ghost use Rattle.site_check.specs.Spots.{argument_place, first_spot, span_spot, statement_tokens, token_spot, token_value, variable_spot, warned_spot};
+ghost use Rattle.vap_lex.specs.declared.token.Token.{Token};
+ghost use Rattle.site_check.specs.Marks.{AreMarksOf};
+ghost use Rattle.site_check.specs.Statements.{lines_of};
 
+use crate::arguments::{argument_in, is_longer};
+use crate::marks::Marks;
 use crate::places::spot_at;
 use crate::program::Judged;
-use program_check::{CallKind, Meant, ProgramWarning, Warned};
+use program_check::{CallKind, Meant, ProgramWarning, Warned, constant_value};
 use pua_lines::Spot;
 use sig_types::{CommandKind, ReadingKind};
-use vap_ast::{Meaning, Name};
+use vap_ast::Name;
 use vap_check::Checked;
 use vap_lex::{Sign, Token, TokenKind};
 
@@ -86,26 +91,12 @@ fn is_name(token: &Token, line: u32, bytes: &[u8]) -> bool
     token.line >= line && is_word(token, bytes)
 }
 
-// The value of a name that is a constant.
-fn constant(meaning: Option<Meaning>) -> Option<i32>
-    ensures { result ≡ constant_value meaning }
-{
-    match meaning {
-        Some(Meaning::Constant(value)) => Some(value),
-        Some(Meaning::Variable(_))
-        | Some(Meaning::Array(_))
-        | Some(Meaning::Sub(_))
-        | Some(Meaning::Timer(_))
-        | None => None,
-    }
-}
-
 // The value of a token that is a number or a constant.
 fn token_value(checked: &Checked, token: &Token) -> Option<i32>
     ensures { result ≡ token_value checked.now.names token.now.kind }
 {
     match &token.kind {
-        TokenKind::Word(name) => constant(checked.meaning(name)),
+        TokenKind::Word(name) => constant_value(checked.meaning(name)),
         TokenKind::Number(number) => Some(*number),
         TokenKind::Sign(_) => None,
     }
@@ -117,9 +108,9 @@ fn spot_of(text: &[u8], token: &Token) -> Spot
     spot_at(text, token.place, token.line)
 }
 
-// Where a name stands first from a line on; that line, where it doesn't.
+// Where a name stands first in a statement of this line; that line, where it doesn't.
 fn name_spot(text: &[u8], tokens: &[Token], line: u32, name: &Name) -> Spot
-    ensures { result ≡ name_spot text.now tokens.now line name.now }
+    ensures { result ≡ first_spot text.now line (filter (is_name line name.now) tokens.now) }
 {
     for token in tokens {
         if is_name(token, line, name.bytes()) {
@@ -139,52 +130,141 @@ fn begins_call(tokens: &[Token], line: u32, word: &[u8]) -> bool
     }
 }
 
-// The argument at this place of the call that these tokens begin with, where it has this value.
-fn argument_at<'a>(
-    checked: &Checked,
-    tokens: &'a [Token],
+// What is looked for among the arguments of calls: the word of the call, which of its arguments, and the value that it has.
+#[derive(Clone, Copy)]
+struct Wanted {
     line: u32,
-    word: &[u8],
-    place: usize,
+    kind: CallKind,
+    second: bool,
     value: i32,
-) -> Option<&'a Token>
-    ensures { option_copied result ≡ argument_at checked.now.names line word.now place value tokens.now }
+}
+
+// Whether an argument is one token of this value.
+fn is_token_of(checked: &Checked, arg: &[Token], value: i32) -> bool
+    ensures { result ≡ is_token_of checked.now.names value arg.now }
 {
-    if !begins_call(tokens, line, word) {
-        return None;
-    }
-    let arg = tokens.get(place)?;
-    if token_value(checked, arg) == Some(value) {
-        Some(arg)
-    } else {
-        None
+    match arg {
+        [token] => token_value(checked, token) == Some(value),
+        _ => false,
     }
 }
 
-// Where an argument with this value stands first from a line on; that line, where it doesn't.
-fn argument_spot(
-    text: &[u8],
-    program: &Judged,
-    line: u32,
-    kind: CallKind,
-    place: usize,
-    value: i32,
-) -> Spot
-    ensures { result ≡ argument_spot text.now program.now.tokens program.now.checked.names line kind place value }
+// The argument of the call that these tokens begin with, where it is one token of the value that is wanted.
+fn short_at<'a>(checked: &Checked, tokens: &'a [Token], wanted: Wanted) -> Option<&'a [Token]>
+    ensures { option_copied result ≡ argument_at wanted.line (call_word wanted.kind) wanted.second
+        (is_token_of checked.now.names wanted.value) tokens.entry.now }
 {
-    let tokens = program.tokens.as_slice();
-    for i in 0..tokens.len() {
-        let (_, rest) = tokens.split_at(i);
-        if let Some(arg) = argument_at(&program.checked, rest, line, word(kind), place, value) {
-            return spot_of(text, arg);
+    if begins_call(tokens, wanted.line, word(wanted.kind)) {
+        let arg = argument_in(tokens, wanted.second);
+        if is_token_of(checked, arg, wanted.value) {
+            return Some(arg);
         }
     }
-    Spot::line(line)
+    None
+}
+
+// The argument of the call that these tokens begin with, where it is several tokens.
+fn long_at<'a>(tokens: &'a [Token], wanted: Wanted) -> Option<&'a [Token]>
+    ensures { option_copied result ≡ argument_at wanted.line (call_word wanted.kind) wanted.second is_longer tokens.entry.now }
+{
+    if begins_call(tokens, wanted.line, word(wanted.kind)) {
+        let arg = argument_in(tokens, wanted.second);
+        if is_longer(arg) {
+            return Some(arg);
+        }
+    }
+    None
+}
+
+// The first argument of calls in these tokens that is one token of the value that is wanted.
+#[tactic(auto, unfolding(crate::specs::Spots::first_argument), using(crate::proofs::Rests::passed, crate::proofs::Rests::found, crate::proofs::Rests::nowhere))]
+fn short_argument<'a>(checked: &Checked, tokens: &'a [Token], wanted: Wanted) -> Option<&'a [Token]>
+    ensures { option_copied result ≡ first_argument wanted.line (call_word wanted.kind) wanted.second
+        (is_token_of checked.now.names wanted.value) tokens.entry.now }
+{
+    for i in 0..tokens.len() {
+        let (_, rest) = tokens.split_at(i);
+        if let Some(arg) = short_at(checked, rest, wanted) {
+            return Some(arg);
+        }
+    }
+    None
+}
+
+// The first argument of calls in these tokens that is several tokens.
+#[tactic(auto, unfolding(crate::specs::Spots::first_argument), using(crate::proofs::Rests::passed, crate::proofs::Rests::found, crate::proofs::Rests::nowhere))]
+fn long_argument<'a>(tokens: &'a [Token], wanted: Wanted) -> Option<&'a [Token]>
+    ensures { option_copied result ≡ first_argument wanted.line (call_word wanted.kind) wanted.second is_longer tokens.entry.now }
+{
+    for i in 0..tokens.len() {
+        let (_, rest) = tokens.split_at(i);
+        if let Some(arg) = long_at(rest, wanted) {
+            return Some(arg);
+        }
+    }
+    None
+}
+
+// The argument that is meant.
+fn meant_argument<'a>(checked: &Checked, tokens: &'a [Token], wanted: Wanted) -> Option<&'a [Token]>
+    ensures { option_copied result ≡ meant_argument checked.now.names wanted.line (call_word wanted.kind) wanted.second wanted.value tokens.now }
+{
+    match short_argument(checked, tokens, wanted) {
+        Some(arg) => Some(arg),
+        None => long_argument(tokens, wanted),
+    }
+}
+
+// From a token up to the end of another one, where that stands in the same line.
+#[tactic(auto, unfolding(crate::specs::Spots::token_spot))]
+fn span_spot(text: &[u8], token: &Token, last: &Token) -> Spot
+    ensures { result ≡ span_spot text.now token.now last.now }
+{
+    let spot = spot_of(text, token);
+    if last.line == token.line {
+        Spot {
+            line: spot.line,
+            from: spot.from,
+            to: spot_of(text, last).to,
+        }
+    } else {
+        spot
+    }
+}
+
+// The last of these tokens, or the one before them where there are none.
+fn last_of<'a>(token: &'a Token, others: &'a [Token]) -> &'a Token
+    ensures { result.now ≡ slice_index_or (token.entry.now ∷ others.entry.now) (length others.entry.now) token.entry.now }
+{
+    if others.is_empty() {
+        token
+    } else {
+        &others[others.len() - 1]
+    }
+}
+
+// Where an argument stands; this line, where there is none.
+fn argument_place(text: &[u8], line: u32, arg: Option<&[Token]>) -> Spot
+    ensures { result ≡ argument_place text.now line (option_copied arg.entry) }
+{
+    match arg {
+        Some([token, others @ ..]) => span_spot(text, token, last_of(token, others)),
+        Some([]) | None => Spot::line(line),
+    }
+}
+
+// Where an argument stands of a call in a statement of this line that has this value; that line, where it doesn't.
+fn argument_spot(text: &[u8], checked: &Checked, tokens: &[Token], wanted: Wanted) -> Spot
+    ensures { result ≡ argument_place text.now wanted.line (meant_argument checked.now.names wanted.line (call_word wanted.kind)
+        wanted.second wanted.value tokens.now) }
+{
+    argument_place(text, wanted.line, meant_argument(checked, tokens, wanted))
 }
 
 // Where the variable of a warning stands.
 fn variable_spot(text: &[u8], tokens: &[Token], line: u32, warning: &ProgramWarning) -> Spot
-    ensures { result ≡ variable_spot text.now tokens.now line warning.now }
+    ensures { (all : List Token) (lines : List ℕ) → tokens.now ≡ statement_tokens lines line all →
+        result ≡ variable_spot text.now all lines line warning.now }
 {
     match warning {
         ProgramWarning::UnassignedVariable(name) => name_spot(text, tokens, line, name),
@@ -197,13 +277,32 @@ fn variable_spot(text: &[u8], tokens: &[Token], line: u32, warning: &ProgramWarn
 }
 
 /// Where in the text of a program what a warning of it means stands.
-pub(crate) fn warned_spot(text: &[u8], program: &Judged, warned: &Warned) -> Spot
-    ensures { result ≡ warned_spot text.now program.now.tokens program.now.checked.names warned.now }
+#[tactic(auto, using(crate::proofs::Spotted::first_spotted, crate::proofs::Spotted::second_spotted, crate::proofs::Spotted::variable_spotted))]
+pub(crate) fn warned_spot(text: &[u8], program: &Judged, marks: &Marks, warned: &Warned) -> Spot
+    requires { AreMarksOf program.now marks.now }
+    ensures { result ≡ warned_spot text.now program.now.tokens (lines_of program.now.checked) program.now.checked.names warned.now }
 {
     let line = warned.line;
+    let tokens = marks.statement_tokens(program.tokens.as_slice(), line);
     match warned.meant {
-        Meant::Variable => variable_spot(text, program.tokens.as_slice(), line, &warned.warning),
-        Meant::First(kind, value) => argument_spot(text, program, line, kind, 2, value),
-        Meant::Second(kind, value) => argument_spot(text, program, line, kind, 4, value),
+        Meant::Variable => variable_spot(text, tokens, line, &warned.warning),
+        Meant::First(kind, value) => {
+            let wanted = Wanted {
+                line,
+                kind,
+                second: false,
+                value,
+            };
+            argument_spot(text, &program.checked, tokens, wanted)
+        }
+        Meant::Second(kind, value) => {
+            let wanted = Wanted {
+                line,
+                kind,
+                second: true,
+                value,
+            };
+            argument_spot(text, &program.checked, tokens, wanted)
+        }
     }
 }

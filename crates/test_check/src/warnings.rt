@@ -2,15 +2,20 @@
 use crate::cases::{Case, PROGRAM, WARNED, found};
 use std::test::Fail;
 
-const OF_PROGRAMS: [Case<'static>; 6] = [
+const OF_PROGRAMS: [Case<'static>; 7] = [
     Case {
         program: b"PROGRAM p;\nwish := 0;\nIF wihs THEN\n  Interstage(1, 2) END;\nIF Detection(1) AND wihs THEN x := 1 END;\nPROG_ENDE: .\n",
         text: b"p.vap:3: unassigned-variable: the variable `wihs` is read and never assigned, so it is always 0\n  IF wihs THEN\n     ^^^^\nfiles refused: 0, warnings: 1\n",
         ..WARNED
     },
     Case {
-        program: b"PROGRAM p;\nCONST cars = 9;\nIF Detection(1) AND Current_state(cars, green) AND\n  T_red(3) > 1 THEN Sg_red(2) END;\nPROG_ENDE: .\n",
-        text: b"p.vap:3: unknown-group: the plan has no signal group with the number 9; groups go by their numbers in the PUA file\n  IF Detection(1) AND Current_state(cars, green) AND\n                                    ^^^^\np.vap:4: unknown-group: the plan has no signal group with the number 3; groups go by their numbers in the PUA file\n    T_red(3) > 1 THEN Sg_red(2) END;\n          ^\nfiles refused: 0, warnings: 2\n",
+        program: b"PROGRAM p;\nCONST cars = 9;\nIF Detection(1) AND Current_state(cars, green) AND\n  T_red(3) > 1 THEN\n  Sg_red(2) END;\nPROG_ENDE: .\n",
+        text: b"p.vap:3: unknown-group: the plan has no signal group with the number 9; groups go by their numbers in the PUA file\n  IF Detection(1) AND Current_state(cars, green) AND\n                                    ^^^^\np.vap:4: unknown-group: the plan has no signal group with the number 3; groups go by their numbers in the PUA file\n    T_red(3) > 1 THEN\n          ^\nfiles refused: 0, warnings: 2\n",
+        ..WARNED
+    },
+    Case {
+        program: b"PROGRAM p;\nIF Detection(1) AND\n  T_red(3) > 1 THEN Sg_red(2) END;\nPROG_ENDE: .\n",
+        text: b"p.vap:2: unknown-group: the plan has no signal group with the number 3; groups go by their numbers in the PUA file\n  IF Detection(1) AND\n  ^^^^^^^^^^^^^^^^^^^\nfiles refused: 0, warnings: 1\n",
         ..WARNED
     },
     Case {
@@ -75,13 +80,68 @@ p.pua:8: stage-without-way: no interstage leads from or to stage 3, so a run nev
 p.pua:4: group-never-green: no stage has K3 green
   K3 3
   ^^
+p.pua:4: no-intergreen: no stage has K1 and K3 green together, and the table of intergreens has no pair of them, so nothing keeps both from being green at once
+  K3 3
+  ^^
+p.pua:4: no-intergreen: no stage has K2 and K3 green together, and the table of intergreens has no pair of them, so nothing keeps both from being green at once
+  K3 3
+  ^^
 p.pua:16: late-red-end: in the interstage from stage 1 to stage 2 the red of K2 ends in second 6, where by red-amber and intergreens second 4 would do
   K2 6 127
   ^^
 p.pua:17: interstage-not-clean: the interstage from stage 2 to stage 1 is not carried out as it stands: in its second 2 the guard refuses K1:Intergreen:K2
   $INTERSTAGE2
   ^^^^^^^^^^^^
-files refused: 0, warnings: 5
+files refused: 0, warnings: 7
+",
+    ..WARNED
+};
+
+// A plan and tables whose groups can't be shown as they stand, two by two.
+const IN_CONFLICT: &[u8] = b"\
+$SIGNAL_GROUPS\n\
+K1 1\n\
+K2 2\n\
+K3 3\n\
+$STAGES\n\
+S1 K1\n\
+S2 K2 K3\n\
+$STARTING_STAGE\n\
+S1\n\
+$INTERSTAGE1\n\
+length: 8\n\
+from stage: 1\n\
+to stage: 2\n\
+K1 -127 0\n\
+K2 6 127\n\
+K3 6 127\n\
+$INTERSTAGE2\n\
+length: 8\n\
+from stage: 2\n\
+to stage: 1\n\
+K2 -127 0\n\
+K3 -127 0\n\
+K1 6 127\n\
+$END\n";
+
+const OF_CONFLICTS: Case<'static> = Case {
+    program: PROGRAM,
+    pua: IN_CONFLICT,
+    times: b"group,min_green,red_amber,amber\nK1,10,1,3\nK2,8,1,3\nK3,5,0,0\n",
+    intergreens: b"from,to,seconds\nK1,K2,2\nK2,K1,4\nK2,K3,3\nK3,K2,0\n",
+    text: b"p.pua:7: stage-in-conflict: stage 2 has K2 and K3 green, which are in conflict: a run never shows both green
+  S2 K2 K3
+  ^^
+p.pua:4: no-intergreen: no stage has K1 and K3 green together, and the table of intergreens has no pair of them, so nothing keeps both from being green at once
+  K3 3
+  ^^
+g.csv:2: short-intergreen: the intergreen from K1 to K2 is 2 seconds, and the amber of K1 3, so K2 may be green while K1 shows amber
+  K1,K2,2
+  ^^^^^^^
+p.pua:23: late-red-end: in the interstage from stage 2 to stage 1 the red of K1 ends in second 6, where by red-amber and intergreens second 3 would do
+  K1 6 127
+  ^^
+files refused: 0, warnings: 4
 ",
     ..WARNED
 };
@@ -97,5 +157,9 @@ fn programs_are_warned_of(rt: HostRuntime) -> Result<(), Fail> {
 #[test]
 fn plans_are_warned_of(rt: HostRuntime) -> Result<(), Fail> {
     assert_eq!(rt; found(rt.alloc(), &OF_PLANS)?.as_slice(), OF_PLANS.text);
+    assert_eq!(rt;
+        found(rt.alloc(), &OF_CONFLICTS)?.as_slice(),
+        OF_CONFLICTS.text
+    );
     Ok(())
 }
