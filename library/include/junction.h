@@ -1,0 +1,116 @@
+/* junction.h: a proved traffic signal controller in your process.
+ *
+ * What is proved of the calls stands in crates/junction_c, clause by clause. Before the proved calls stands a file of plain C,
+ * library/src/junction.c, which is not proved: it looks at your pointers and lengths, keeps the handle, and takes a note apart.
+ *
+ * What a caller owes, since no test in C can find it:
+ *   1. A pointer that isn't null is good for what it points to, and no two arguments of a call overlap.
+ *   2. A `struct junction` comes from junction_open, and is used no more after junction_close.
+ *   3. One call at a time for each `struct junction`. Different ones may be used by different threads at once; one moves to
+ *      another thread across a lock, a thread's start or its join.
+ *   4. malloc, realloc and free come from one allocator, whose blocks are aligned to 16. No call from a signal handler, nor in
+ *      the forked child of a process with threads.
+ */
+#ifndef VANTULIG_JUNCTION_H
+#define VANTULIG_JUNCTION_H
+#include <stddef.h>
+#include <stdint.h>
+#ifdef __cplusplus
+extern "C" {
+#endif
+
+/* The version of this interface. It stands here alone: the build reads it from this line. */
+#define JUNCTION_VERSION "0.1.0"
+
+/* The version of the library that is loaded. Where it isn't JUNCTION_VERSION, make no other call. */
+const char *junction_version(void);
+
+/* What each call answers. 1, 5 and 7 are the exit statuses of `junction run`. */
+enum junction_status {
+    JUNCTION_DONE = 0,
+    JUNCTION_NO_MEMORY = 1,
+    JUNCTION_WRONG_CALL = 2, /* a null pointer, one that isn't aligned, or a length that can't be: nothing was done */
+    JUNCTION_NOT_TAKEN = 3,  /* the counts are not taken: nothing has changed */
+    JUNCTION_NOTHING = 4,    /* there is no such group or refused stage command */
+    JUNCTION_REFUSED = 5,    /* a text is refused */
+    JUNCTION_TOO_LONG = 7    /* a text has more bytes than it may have */
+};
+
+/* A text: its bytes need no end. A null pointer with length 0 is an empty text. */
+struct junction_text {
+    const void *bytes;
+    size_t length;
+};
+
+/* The texts of a junction: a program in VAP, a plan (PUA file), a table of times and a table of intergreens. */
+struct junction_texts {
+    struct junction_text program, plan, times, intergreens;
+};
+
+/* The text that is refused. */
+enum junction_file { JUNCTION_PROGRAM = 0, JUNCTION_PLAN = 1, JUNCTION_TIMES = 2, JUNCTION_INTERGREENS = 3 };
+
+/* Why texts are refused. `line` counts from 1; 0 is for the text as a whole. `note` is the line that `junction run` writes of
+ * files named program, plan, times and intergreens, cut if it is longer, and ended by 0. `reason` is its last part. */
+struct junction_refusal {
+    enum junction_file file;
+    uint32_t line;
+    char reason[128];
+    char note[256];
+};
+
+/* A controller of one junction. */
+struct junction;
+
+/* Puts a controller before its first second into *opened. Else *opened is null (unless `opened` is), and where the status is
+ * JUNCTION_REFUSED or JUNCTION_TOO_LONG the refusal is told, if `refusal` isn't null. The texts are copied. */
+enum junction_status junction_open(struct junction **opened, const struct junction_texts *texts,
+                                   struct junction_refusal *refusal);
+
+/* Frees a controller; null is none. */
+void junction_close(struct junction *junction);
+
+/* What detectors 1 to 64 saw in one second: how many vehicles came on them, and how many left. Place p is detector p + 1. */
+struct junction_counts {
+    uint32_t fronts[64], rears[64];
+};
+
+/* A second. 280 bytes without a gap; all that tells nothing is 0. */
+struct junction_told {
+    uint32_t second; /* counts from 1 */
+    uint32_t fault_line;
+    uint32_t stages, turns;     /* how many stage commands and wished changes were refused */
+    uint8_t place, from, to, t; /* place 0: no stages; 1: stage `to`; 2: interstage from..to in its second t */
+    uint8_t fault;              /* 0: none; 1 Budget 2 Overflow 3 ZeroDivisor 4 Index 5 Number */
+    uint8_t groups;
+    uint8_t aspects[64];                     /* of each group R, U (red-amber), G or A (amber) */
+    uint8_t turn_groups[64], turn_rules[64]; /* of each refused change its group (from 0) and its rule */
+    uint8_t turn_others[64];                 /* the group in its way, or 255 */
+    uint8_t reserved[2];                     /* 0 */
+};
+/* rules: 1 Sequence 2 MinGreen 3 Conflict 4 Intergreen 5 Running 6 WrongStage 7 NoInterstage 8 MinRed */
+
+/* Makes one second. JUNCTION_NOT_TAKEN: a rear before its front, more than 2,147,483,647 fronts, or a week and a second are
+ * over. It takes no memory and waits for nothing. */
+enum junction_status junction_second(struct junction *junction, const struct junction_counts *counts,
+                                     struct junction_told *told);
+
+/* Makes as many seconds one after the other, and puts into *made how many were made: all, or those before counts that are not
+ * taken. */
+enum junction_status junction_seconds(struct junction *junction, size_t seconds, const struct junction_counts *counts,
+                                      struct junction_told *told, size_t *made);
+
+/* A stage command of the last second that was refused, by its place: its stages and its rule. */
+struct junction_refused_stage {
+    uint8_t from, to, rule;
+};
+enum junction_status junction_refused_stage(struct junction *junction, size_t place, struct junction_refused_stage *told);
+
+/* Copies the name of a group (from 0), which has at most 32 bytes, as far as it fits, with a 0 behind it where `room` allows;
+ * its whole length goes into *length. */
+enum junction_status junction_group_name(struct junction *junction, size_t group, char *name, size_t room, size_t *length);
+
+#ifdef __cplusplus
+}
+#endif
+#endif

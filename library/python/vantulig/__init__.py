@@ -1,0 +1,343 @@
+"""A proved traffic signal controller in this process.
+
+    with Controller(program, plan, times, intergreens) as c:    # bytes; of files: Controller.open(path, path, path, path)
+        record = c.step({3: (1, 1), 11: (1, 0)})                # one second; {detector: (fronts, rears)}
+        record.aspects                                          # "RRUURRGG"
+        c.header(), record.line()                               # the log, byte for byte that of `junction run`
+"""
+import ctypes
+import os
+import struct
+from typing import Any, Dict, Iterable, List, Mapping, NamedTuple, Optional, Tuple, Union
+
+from ._version import __version__
+
+try:
+    import numpy
+except ImportError:
+    numpy = None
+
+__all__ = [
+    "Controller",
+    "Record",
+    "Turn",
+    "StageRefusal",
+    "Refused",
+    "NotTaken",
+    "Ended",
+    "RULES",
+    "FAULTS",
+    "FILES",
+    "__version__",
+]
+
+RULES = (None, "Sequence", "MinGreen", "Conflict", "Intergreen", "Running", "WrongStage", "NoInterstage", "MinRed")
+FAULTS = (None, "Budget", "Overflow", "ZeroDivisor", "Index", "Number")
+FILES = ("program", "plan", "times", "intergreens")
+
+
+class _Text(ctypes.Structure):
+    _fields_ = [("bytes", ctypes.c_char_p), ("length", ctypes.c_size_t)]
+
+
+class _Texts(ctypes.Structure):
+    _fields_ = [(name, _Text) for name in FILES]
+
+
+class _Refusal(ctypes.Structure):
+    _fields_ = [
+        ("file", ctypes.c_int),
+        ("line", ctypes.c_uint32),
+        ("reason", ctypes.c_char * 128),
+        ("note", ctypes.c_char * 256),
+    ]
+
+
+class _Counts(ctypes.Structure):
+    _fields_ = [("fronts", ctypes.c_uint32 * 64), ("rears", ctypes.c_uint32 * 64)]
+
+
+class _Told(ctypes.Structure):
+    _fields_ = (
+        [(name, ctypes.c_uint32) for name in ("second", "fault_line", "stages", "turns")]
+        + [(name, ctypes.c_uint8) for name in ("place", "from_stage", "to", "t", "fault", "groups")]
+        + [(name, ctypes.c_uint8 * 64) for name in ("aspects", "turn_groups", "turn_rules", "turn_others")]
+        + [("reserved", ctypes.c_uint8 * 2)]
+    )
+
+
+class _RefusedStage(ctypes.Structure):
+    _fields_ = [(name, ctypes.c_uint8) for name in ("from_stage", "to", "rule")]
+
+
+# the places of the four lists of 64 bytes in _Told, whose other numbers lie before them
+_ASPECTS, _TURN_GROUPS, _TURN_RULES, _TURN_OTHERS = (
+    getattr(_Told, name).offset for name in ("aspects", "turn_groups", "turn_rules", "turn_others")
+)
+_NO_COUNTS = bytes(ctypes.sizeof(_Counts))
+_STAGES = [f"S{number}" for number in range(256)]
+_new = tuple.__new__
+
+_DONE, _NO_MEMORY, _WRONG_CALL, _NOT_TAKEN = range(4)
+_Path = Union[str, "os.PathLike[str]"]
+
+
+class Refused(ValueError):
+    """A text is refused. `status` is 5, or 7 for one that is too long; `file` is one of FILES, `line` counts from 1 and is None
+    for the text as a whole, `reason` is a word of the formats' pages with what belongs to it, and `note` is the line that
+    `junction run` writes.
+    """
+
+    def __init__(self, status: int, file: str, line: Optional[int], reason: str, note: str):
+        super().__init__(note.rstrip("\n"))
+        self.status, self.file, self.line, self.reason, self.note = status, file, line, reason, note
+
+
+class NotTaken(ValueError):
+    """The counts are not taken (a rear before its front, too many fronts, or the week is over); they have changed nothing.
+    `made` is what `run` had made of the counts before them."""
+
+    def __init__(self, text: str, made: Any = None):
+        super().__init__(text)
+        self.made = made
+
+
+class Ended(ValueError):
+    """The controller has ended."""
+
+
+class StageRefusal(NamedTuple):
+    from_stage: int
+    to: int
+    rule: str
+
+
+class Turn(NamedTuple):
+    group: str
+    rule: str
+    other: Optional[str]
+
+
+class Record(NamedTuple):
+    """A second: what `junction run` writes as a line of the log."""
+
+    second: int
+    place: str
+    aspects: str
+    counts: Tuple[Tuple[int, int, int], ...]
+    stages: Tuple[StageRefusal, ...]
+    turns: Tuple[Turn, ...]
+    fault: Optional[Tuple[str, int]]
+
+    def line(self) -> str:
+        counts = " ".join(f"{d}:{f}:{r}" for d, f, r in self.counts) or "-"
+        refused = [f"{a}-{b}:{rule}" for a, b, rule in self.stages]
+        refused += [":".join(filter(None, turn)) for turn in self.turns]
+        fault = "%s@%d" % self.fault if self.fault else "-"
+        return f"{self.second}|{self.place}|{self.aspects}|{counts}|{' '.join(refused) or '-'}|{fault}\n"
+
+
+_loaded: Dict[str, ctypes.PyDLL] = {}
+
+
+def _library() -> ctypes.PyDLL:
+    """The library beside this file, or the one that the variable VANTULIG names. It is loaded once."""
+    path = os.environ.get("VANTULIG") or os.path.join(os.path.dirname(os.path.abspath(__file__)), "libjunction.so")
+    if path in _loaded:
+        return _loaded[path]
+    lib = ctypes.PyDLL(path)  # each call holds the interpreter's lock: one call at a time for each controller
+    lib.junction_version.restype = ctypes.c_char_p
+    found = lib.junction_version().decode()
+    if found != __version__:
+        raise ImportError(f"{path} has version {found}; this module is of version {__version__}")
+    handle, size, place = ctypes.c_void_p, ctypes.c_size_t, ctypes.c_void_p
+    opens = [ctypes.POINTER(handle), ctypes.POINTER(_Texts), ctypes.POINTER(_Refusal)]
+    lib.junction_open.argtypes = opens
+    lib.junction_close.argtypes, lib.junction_close.restype = [handle], None
+    lib.junction_second.argtypes = [handle, place, place]
+    lib.junction_seconds.argtypes = [handle, size, place, place, ctypes.POINTER(size)]
+    lib.junction_refused_stage.argtypes = [handle, size, ctypes.POINTER(_RefusedStage)]
+    lib.junction_group_name.argtypes = [handle, size, ctypes.c_char_p, size, ctypes.POINTER(size)]
+    _loaded[path] = lib
+    return lib
+
+
+def _array_of(counts: Iterable) -> Any:
+    """Counts as numbers of the form (seconds, 2, 64)."""
+    if not isinstance(counts, numpy.ndarray):
+        rows = list(counts)
+        numbers, at = memoryview(bytearray(len(_NO_COUNTS) * len(rows))).cast("I"), 0
+        for of in rows:
+            for d, (f, r) in of.items():
+                if not 1 <= d <= 64:
+                    raise ValueError(f"detector {d}")
+                numbers[at + d - 1] = f
+                numbers[at + d + 63] = r
+            at += 128
+        counts = numpy.asarray(numbers, numpy.uint32).reshape(len(rows), 2, 64)
+    if counts.ndim != 3 or counts.shape[1:] != (2, 64) or counts.dtype.kind not in "iu":
+        raise ValueError("whole numbers of the form (seconds, 2, 64) are wanted")
+    if counts.dtype != numpy.uint32 and counts.size and not (0 <= counts.min() and counts.max() < 1 << 32):
+        raise ValueError("a count is below 0 or over 4294967295")
+    return numpy.ascontiguousarray(counts, numpy.uint32)
+
+
+class Controller:
+    """A controller of one junction, before its first second. The texts are bytes: a program in VAP, the plan as a PUA file, the
+    table of times and the table of intergreens."""
+
+    names: List[str]
+
+    def __init__(self, program: bytes, plan: bytes, times: bytes, intergreens: bytes):
+        self._handle: Optional[ctypes.c_void_p] = None
+        self._lib = _library()
+        # a function without types of its arguments is called faster; these have their C types already
+        self._call = self._lib["junction_second"]
+        self._texts = tuple(bytes(text) for text in (program, plan, times, intergreens))
+        self._counts, self._told = bytearray(ctypes.sizeof(_Counts)), bytearray(ctypes.sizeof(_Told))
+        self._numbers = memoryview(self._counts).cast("I")
+        self._given = ctypes.byref(_Counts.from_buffer(self._counts))
+        self._out = ctypes.byref(_Told.from_buffer(self._told))
+        self.restart()
+
+    @classmethod
+    def open(cls, program: _Path, plan: _Path, times: _Path, intergreens: _Path) -> "Controller":
+        """A controller of four files, by their paths."""
+        texts = []
+        for path in (program, plan, times, intergreens):
+            with open(path, "rb") as file:
+                texts.append(file.read())
+        return cls(*texts)
+
+    def restart(self) -> None:
+        """Begins anew, before the first second, with the same texts; after `end` too."""
+        self.end()
+        texts, refusal, opened = _Texts(*[(text, len(text)) for text in self._texts]), _Refusal(), ctypes.c_void_p()
+        status = self._lib.junction_open(opened, texts, refusal)
+        if status == _NO_MEMORY:
+            raise MemoryError("a controller")
+        if status != _DONE:
+            reason, note = refusal.reason.decode("utf-8", "replace"), refusal.note.decode("utf-8", "replace")
+            raise Refused(status, FILES[refusal.file], refusal.line or None, reason, note)
+        self._handle = opened
+        self.names = [name for group in range(64) if (name := self._group_name(group))]
+        self._unpack = struct.Struct(f"=4I6B{len(self.names)}s").unpack_from
+        self._counts[:] = _NO_COUNTS
+        self._told[:] = bytes(len(self._told))
+
+    def _group_name(self, group: int) -> str:
+        name, length = ctypes.create_string_buffer(33), ctypes.c_size_t()
+        self._lib.junction_group_name(self._handle, group, name, 33, length)
+        return name.value.decode("ascii")
+
+    def header(self) -> str:
+        """The first line of the log."""
+        return " ".join(["VAPLOG 1", *self.names]) + "\n"
+
+    def _make(self, counts: Mapping[int, Tuple[int, int]]) -> Optional[List[Tuple[int, int, int]]]:
+        """Makes a second; answers its counts without those that are 0, or None where they are not taken."""
+        self._counts[:] = _NO_COUNTS
+        numbers, seen = self._numbers, []
+        for d, (f, r) in counts.items():
+            if not 1 <= d <= 64:
+                raise ValueError(f"detector {d}")
+            numbers[d - 1] = f  # a ValueError where it is below 0 or over 4294967295
+            numbers[d + 63] = r
+            if f or r:
+                seen.append((d, f, r))
+        status = self._call(self._handle, self._given, self._out)
+        if status:
+            if status == _WRONG_CALL:
+                raise Ended("the controller has ended")
+            return None
+        return seen
+
+    def second(self, counts: Mapping[int, Tuple[int, int]]) -> bool:
+        """Makes a second; answers whether the counts were taken. What it told is read by `aspects` or `record`."""
+        return self._make(counts) is not None
+
+    @property
+    def aspects(self) -> str:
+        """The aspects of the last second made: R, U (red-amber), G, A; empty before the first one."""
+        return self._told[_ASPECTS : _ASPECTS + self._told[_ASPECTS - 1]].decode("ascii")
+
+    def record(self, counts: Mapping[int, Tuple[int, int]]) -> Record:
+        """The record of the last second made, which had these counts."""
+        return self._record([(d, f, r) for d, (f, r) in counts.items() if f or r])
+
+    def _record(self, seen: List[Tuple[int, int, int]]) -> Record:
+        second, fault_line, stages, turns, kind, from_stage, to, t, fault, _, aspects = self._unpack(self._told)
+        seen.sort()
+        values = (
+            second,
+            _STAGES[to] if kind == 1 else f"I{from_stage}-{to}+{t}" if kind == 2 else "-",
+            aspects.decode("ascii"),
+            tuple(seen),
+            tuple([self._refused_stage(i) for i in range(stages)]) if stages else (),
+            tuple([self._turn(i) for i in range(turns)]) if turns else (),
+            (FAULTS[fault], fault_line) if fault else None,
+        )
+        return _new(Record, values)
+
+    def _turn(self, place: int) -> Turn:
+        told, names = self._told, self.names
+        other = told[_TURN_OTHERS + place]
+        return Turn(names[told[_TURN_GROUPS + place]], RULES[told[_TURN_RULES + place]], None if other == 255 else names[other])
+
+    def _refused_stage(self, place: int) -> StageRefusal:
+        refused = _RefusedStage()
+        if self._lib.junction_refused_stage(self._handle, place, refused):
+            raise Ended("the controller has ended")
+        return StageRefusal(refused.from_stage, refused.to, RULES[refused.rule])
+
+    def step(self, counts: Mapping[int, Tuple[int, int]]) -> Record:
+        """Makes a second and tells its record."""
+        seen = self._make(counts)
+        if seen is None:
+            raise NotTaken("the counts are not taken")
+        return self._record(seen)
+
+    def run(self, counts: Iterable) -> Any:
+        """Makes a second of each counts, and tells them all: with NumPy as an array of records with the fields of junction_told
+        (`second`, `aspects`, `place` and so on), without it as a list of Record. The counts are mappings as `second` takes
+        them, or an array of whole numbers of the form (seconds, 2, 64): the fronts of detectors 1 to 64, and their rears."""
+        if numpy is None:
+            return self._run_each(counts)
+        given = _array_of(counts)
+        told, made = numpy.zeros(len(given), numpy.dtype(_Told)), ctypes.c_size_t()
+        status = self._lib.junction_seconds(self._handle, len(given), given.ctypes.data, told.ctypes.data, made)
+        if status == _WRONG_CALL:
+            raise Ended("the controller has ended")
+        told = told[: made.value]
+        if len(told):
+            self._told[:] = told[-1:].tobytes()
+        if status == _NOT_TAKEN:
+            raise NotTaken(f"the counts at place {len(told)} are not taken", told)
+        return told
+
+    def _run_each(self, counts: Iterable) -> List[Record]:
+        made: List[Record] = []
+        for one in counts:
+            if not self.second(one):
+                raise NotTaken(f"the counts at place {len(made)} are not taken", made)
+            made.append(self.record(one))
+        return made
+
+    def end(self) -> None:
+        """Frees the controller. A further call of `second` raises Ended."""
+        if self._handle is not None:
+            self._lib.junction_close(self._handle)
+            self._handle = None
+
+    def __enter__(self) -> "Controller":
+        return self
+
+    def __exit__(self, *_) -> None:
+        self.end()
+
+    def __del__(self):
+        if getattr(self, "_handle", None) is not None:
+            self.end()
+
+    def __reduce__(self):
+        raise TypeError("a controller is not copied or pickled")

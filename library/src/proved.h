@@ -1,0 +1,25 @@
+/* proved.h: the proved calls as crates/junction_c exports them. Nothing compares this file with that source: that the logs are
+ * equal byte for byte shows each field in its place. */
+#ifndef VANTULIG_PROVED_H
+#define VANTULIG_PROVED_H
+#include "junction.h"
+#include <stdbool.h>
+
+/* What a handle of the proved calls is: a controller, or nothing. {0} holds nothing. */
+struct proved_handle {
+    void *at;
+    bool held;
+};
+
+/* 0, or 1, 5, 7 with the note of `junction run`, whose beginning is copied and whose length is *noted. */
+uint32_t junction_c_load(struct proved_handle *handle, const uint8_t *program, size_t program_length, const uint8_t *plan,
+                         size_t plan_length, const uint8_t *times, size_t times_length, const uint8_t *intergreens,
+                         size_t intergreens_length, uint8_t *note, size_t room, size_t *noted);
+/* 0: made and told; 3: the counts are not taken; 4: nothing is held */
+uint32_t junction_c_second(struct proved_handle *handle, const struct junction_counts *counts, struct junction_told *told);
+/* 0: told; 4: there is none, or nothing is held */
+uint32_t junction_c_refused_stage(struct proved_handle *handle, size_t place, struct junction_refused_stage *told);
+/* the length of the name, which is copied as far as it fits; 0: there is no such group, or nothing is held */
+size_t junction_c_group_name(struct proved_handle *handle, uint8_t group, uint8_t *name, size_t room);
+void junction_c_end(struct proved_handle *handle);
+#endif

@@ -1,0 +1,149 @@
+#!/usr/bin/env python3
+"""cases.py REPOSITORY JUNCTION FOLDER: the logs of the examples and of test programs by the built program JUNCTION, each as
+FOLDER/NAME.log beside FOLDER/NAME.words, the paths of its program, PUA file, times, intergreens and detectors. And junctions of
+hostile texts: FOLDER/hostile.list has for each the status of JUNCTION and the paths of its four texts and of its note."""
+import pathlib
+import random
+import re
+import subprocess
+import sys
+
+
+def texts(repository):
+    """the byte strings of crates/test_texts"""
+    found = {}
+    for name in ("programs", "sites"):
+        source = (repository / f"crates/test_texts/src/{name}.rt").read_text()
+        for constant, text in re.findall(r'pub const (\w+): &\[u8\] = b"(.*?)";', source, re.S):
+            text = re.sub(r"\\\n\s*", "", text)
+            found[constant] = re.sub(
+                r"\\x(..)", lambda m: chr(int(m[1], 16)), text.replace("\\n", "\n").replace('\\"', '"')
+            ).encode("latin-1")
+    return found
+
+
+def detectors(seconds):
+    """counts of all 64 detectors, large and small, rears never before their fronts"""
+    so_far, lines = {}, []
+    for _ in range(seconds):
+        line = []
+        for d in range(1, 65):
+            if random.random() < 0.03:
+                front, had = random.randint(0, 99), so_far.get(d, (0, 0))
+                rear = random.randint(0, min(99, had[0] + front - had[1]))
+                if front or rear:
+                    so_far[d] = (had[0] + front, had[1] + rear)
+                    line.append(f"{d}:{front}:{rear}")
+        lines.append(" ".join(line) + "\n")
+    return "".join(lines).encode()
+
+
+def hostile_texts(repository):
+    """the texts of crates/test_hostile that stand in place of a program or a PUA file, by 0 and 1"""
+    source = (repository / "crates/test_hostile/src/hostile.rt").read_text()
+    found = []
+    for part, text in re.findall(r'Part::(Program|Plan),\s*b"(.*?)",\s*\d', source, re.S):
+        found.append((("Program", "Plan").index(part), text.encode().decode("unicode_escape").encode("latin-1")))
+    return found
+
+
+def changed(text):
+    """a text with one or two things changed: a byte, a piece that is lost or comes twice, a number, two lines swapped"""
+    for _ in range(random.randint(1, 2)):
+        way, at, n = random.randrange(6), random.randint(0, len(text)), random.randint(1, 9)
+        lines = text.split(b"\n")
+        if way == 0:
+            text = text[:at] + bytes([random.choice(b" \t\r\n,;:.0189AKS$/*\x00\x7f\xff")]) + text[at + 1 :]
+        elif way == 1:
+            text = text[:at] + text[at + n :]
+        elif way == 2:
+            text = text[:at] + text[at : at + 4 * n] + text[at:]
+        elif way == 3:
+            numbers = list(re.finditer(rb"\d+", text))
+            if numbers:
+                one = random.choice(numbers)
+                text = (
+                    text[: one.start()]
+                    + random.choice([b"0", b"1", b"99", b"100", b"255", b"2147483648", b"01"])
+                    + text[one.end() :]
+                )
+        elif way == 4:
+            i, k = random.randrange(len(lines)), random.randrange(len(lines))
+            lines[i], lines[k] = lines[k], lines[i]
+            text = b"\n".join(lines)
+        else:
+            text = text[:at]
+    return text
+
+
+def hostile(repository, junction, folder, sites):
+    """junctions of which one text is changed, or is one of test_hostile, or far too long"""
+    given = texts(repository)
+    base = [given["TIMER"], given["TWO_STAGES"], given["TIMES"], given["INTERGREENS"]]
+    made = [[*base[:at], text, *base[at + 1 :]] for at, text in hostile_texts(repository)]
+    made += [[*base[:at], base[at] + b" " * more, *base[at + 1 :]] for at in range(4) for more in (1 << 20, 1 << 21)]
+    made += [[*base[:at], b"", *base[at + 1 :]] for at in range(4)]
+    for site in sites:
+        for _ in range(30):
+            at = random.randrange(4)
+            made.append([changed(text) if i == at else text for i, text in enumerate(site)])
+    top, lines, names = folder / "hostile", [], ("program", "plan", "times", "intergreens")
+    for number, four in enumerate(made):
+        place = top / str(number)
+        place.mkdir(parents=True, exist_ok=True)
+        for name, text in zip((*names, "detectors"), (*four, b"")):
+            (place / name).write_bytes(text)
+        run = subprocess.run([junction, "run", *names, "detectors"], cwd=place, capture_output=True)
+        (place / "note").write_bytes(run.stderr)
+        lines.append(" ".join([str(run.returncode), *(str(place / name) for name in (*names, "note"))]))
+    (folder / "hostile.list").write_text("\n".join(lines) + "\n")
+    return len(lines)
+
+
+def main(repository, junction, folder):
+    junction = str(pathlib.Path(junction).resolve())
+    repository, folder = pathlib.Path(repository).resolve(), pathlib.Path(folder).resolve()
+    folder.mkdir(parents=True, exist_ok=True)
+    cases = {}
+    for program in sorted((repository / "crates/junction/examples").glob("**/*.vap")):
+        site = program.parent
+        files = [next(site.glob(name), None) for name in ("*.pua", "times.csv", "intergreens.csv")]
+        traffic = next((site / name for name in ("detectors.txt", "traffic.txt") if (site / name).exists()), None)
+        if all(files) and traffic:
+            cases["_".join(program.relative_to(repository / "crates/junction/examples").with_suffix("").parts)] = [
+                program,
+                *files,
+                traffic,
+            ]
+    given = texts(repository)
+    random.seed(3)
+    for name, text in given.items():
+        if text.startswith(b"PROGRAM"):
+            site = "FOUR_ARMS_" if name == "FOUR_ARMS" else ""
+            parts = (
+                text,
+                given[site + "PLAN" if site else "TWO_STAGES"],
+                given[site + "TIMES"],
+                given[site + "INTERGREENS"],
+                detectors(30),
+            )
+            words = [folder / f"test_{name.lower()}.{end}" for end in ("vap", "pua", "times", "intergreens", "detectors")]
+            for word, part in zip(words, parts):
+                word.write_bytes(part)
+            cases[f"test_{name.lower()}"] = words
+    for name, words in cases.items():
+        run = subprocess.run([junction, "run", *words], capture_output=True)
+        if run.returncode:
+            print(name, "is not run:", run.stderr.decode().strip())
+            continue
+        (folder / f"{name}.log").write_bytes(run.stdout)
+        (folder / f"{name}.words").write_text(" ".join(map(str, words)) + "\n")
+    sites = [
+        [pathlib.Path(word).read_bytes() for word in words[:4]] for name, words in cases.items() if not name.startswith("test_")
+    ]
+    print(len(list(folder.glob("*.log"))), "logs,", hostile(repository, junction, folder, sites), "junctions of hostile texts")
+    return 0
+
+
+if __name__ == "__main__":
+    sys.exit(main(*sys.argv[1:]) if len(sys.argv) == 4 else __doc__)
