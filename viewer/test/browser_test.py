@@ -1,0 +1,279 @@
+"""The page in Chromium, opened from the file system: files, keys, mouse, fingers, saving, hostile files, print, dark scheme."""
+import base64
+import functools
+import http.server
+import shutil
+import sys
+import tempfile
+import threading
+import time
+import unittest
+from pathlib import Path
+
+sys.dont_write_bytecode = True
+import chromium
+
+TEST = Path(__file__).resolve().parent
+VIEWER = TEST.parent
+EXAMPLES = VIEWER.parent / "crates" / "test_examples" / "data"
+FOUR = EXAMPLES / "four_arms"
+FAULTS = TEST / "data" / "faults.log"
+LEFT, RIGHT, HOME, END, PAGE_DOWN = "\ue012", "\ue014", "\ue011", "\ue010", "\ue00f"
+SHIFT, TAB, ENTER = "\ue008", "\ue004", "\ue007"
+
+
+class Quiet(http.server.SimpleHTTPRequestHandler):
+    """A server that tells nothing of what it serves."""
+
+    def log_message(self, *_):
+        pass
+
+
+class Page(chromium.Chromium):
+    """The page, and what a user does with it."""
+
+    def __init__(self, folder, **more):
+        super().__init__(folder, **more)
+        self.folder = folder
+        self.open((VIEWER / "index.html").as_uri())
+
+    def text(self, name):
+        return self.call("return document.getElementById(arguments[0]).innerText", name)
+
+    def wait(self, script, *words):
+        """Waits until a script of the page returns what is true."""
+        end = time.time() + 120
+        while not (told := self.call(script, *words)):
+            if time.time() > end:
+                raise AssertionError(f"waited in vain for: {script}")
+            time.sleep(0.05)
+        return told
+
+    def rest(self):
+        """Waits until all files are taken, frames drawn and sums made."""
+        self.call("window.isTaken = false; queue.then(() => (window.isTaken = true))")
+        self.wait("return window.isTaken && !isDue")
+        time.sleep(0.3)
+
+    def take(self, *files):
+        self.call("document.getElementById('message').textContent = ''")
+        self.type_into("files", "\n".join(map(str, files)))
+        self.rest()
+
+    def take_text(self, name, content):
+        file = self.folder / name
+        file.write_bytes(content)
+        self.take(file)
+        return file
+
+    def keys(self, *keys):
+        self.press(*keys)
+        time.sleep(0.15)
+
+    def with_shift(self, key):
+        steps = [("keyDown", SHIFT), ("keyDown", key), ("keyUp", key), ("keyUp", SHIFT)]
+        self.act("key", "keys", [{"type": kind, "value": value} for kind, value in steps])
+        time.sleep(0.15)
+
+    def point(self, second, y=120):
+        """Where a second lies in the window."""
+        box = "const [t, y] = arguments, { left, top } = document.getElementById('cursor').getBoundingClientRect();"
+        return self.call(f"{box} return [left + xOf(state.layout, state.view, t + 0.5), top + y].map(Math.round)", second, y)
+
+    def mouse(self, *steps):
+        """Moves, presses and releases the mouse: a step is a place, `down` or `up`."""
+        kinds = {"down": {"type": "pointerDown", "button": 0}, "up": {"type": "pointerUp", "button": 0}}
+        to = lambda x, y: {"type": "pointerMove", "duration": 20, "x": x, "y": y}
+        moves = [kinds[step] if isinstance(step, str) else to(*step) for step in steps]
+        self.act("pointer", "mouse", moves, parameters={"pointerType": "mouse"})
+        time.sleep(0.2)
+
+    def touch(self, kind, *places):
+        points = [{"x": x, "y": y, "id": finger} for finger, (x, y) in enumerate(places)]
+        self.devtools("Input.dispatchTouchEvent", type=kind, touchPoints=points)
+        time.sleep(0.05)
+
+
+@unittest.skipIf(chromium.MISSING, chromium.MISSING)
+class Browser(unittest.TestCase):
+    def setUp(self):
+        self.folder = Path(tempfile.mkdtemp(prefix="viewer_"))
+        self.addCleanup(shutil.rmtree, self.folder, ignore_errors=True)
+
+    def page(self, **more):
+        page = Page(self.folder, **more)
+        self.addCleanup(page.close)
+        return page
+
+    def test_keys_alone(self):
+        page = self.page()
+        self.assertIn("Drop a log of junction here", page.text("empty"))
+        page.take(*(FOUR / name for name in ("log.txt", "times.csv", "intergreens.csv", "junction.pua", "four_arms.vap")))
+        self.assertIn("3,600 seconds, 8 groups; with program, times, intergreens, stages", page.text("about"))
+        self.assertIn("K2 may not start: the intergreen from K3 hasn't passed.", page.text("panel"))
+        self.assertIn("earliest start second 4.", page.text("panel"))
+        page.keys(*[RIGHT] * 30)
+        for words in ("Second 31 ", "interstage 1-2, its second 1, since second 30", "31|I1-2+1|AARRRRRR|-|-|-"):
+            self.assertIn(words, page.text("panel"))
+        self.assertTrue(page.text("said").startswith("Second 31, interstage 1-2"))
+        for key, second in [("g", 34), (("s",), 1), ("s", 36), (("r",), 3), (END, 3600), (HOME, 1)]:
+            page.with_shift(key[0]) if isinstance(key, tuple) else page.keys(key)
+            self.assertIn(f"Second {second} ", page.text("panel"), key)
+        page.keys("s", "r")
+        self.assertIn("none after second 36", page.text("none"))
+        page.keys("j")
+        self.assertEqual(page.call("return document.activeElement.id"), "second")
+        page.type_into("second", "\b\b1234" + ENTER)
+        self.assertEqual(page.call("return [state.chosen, document.activeElement.id]"), [1234, "cursor"])
+        page.keys("0")
+        self.assertTrue(page.call("return state.view.scale === state.layout.fit"))
+        seen = set()
+        for _ in range(30):
+            page.keys(TAB)
+            seen.add(page.call("const { id, innerText } = document.activeElement; return id || innerText.trim()"))
+        wanted = "files second back target on out in whole clock svg png print keys cursor".split()
+        self.assertLessEqual({*wanted, "save as CSV"}, seen)
+        self.assertEqual(page.errors(), [])
+
+    def test_mouse_and_fingers(self):
+        page = self.page()
+        page.take(FOUR / "log.txt")
+        page.call("state.view = { from: 1, scale: 10 }; changed(true)")
+        page.rest()
+        page.mouse(page.point(40))
+        self.assertIn("Second 40 ", page.text("panel"))
+        page.mouse(page.point(50), "down", "up")
+        self.assertEqual(page.call("return state.chosen"), 50)
+        x, y = page.point(60)
+        page.mouse((x, y), "down", (x - 100, y), (x - 200, y), "up")
+        self.assertEqual(page.call("return [Math.round(state.view.from), state.chosen]"), [21, 50])
+        wheel = "new WheelEvent('wheel', { deltaY: -240, clientX: arguments[0], clientY: 200, cancelable: true })"
+        page.call(f"document.getElementById('cursor').dispatchEvent({wheel})", x)
+        page.rest()
+        self.assertGreater(page.call("return state.view.scale"), 13)
+        self.assertLessEqual(abs(page.point(80)[0] - x), 17)
+        page.call("state.view = { from: 1, scale: 10 }; changed(true)")
+        page.rest()
+        one, other = page.point(30), page.point(50)
+        page.touch("touchStart", one, other)
+        page.touch("touchMove", (one[0] - 100, one[1]), (other[0] + 100, other[1]))
+        page.touch("touchEnd")
+        self.assertAlmostEqual(page.call("return state.view.scale"), 20, delta=0.5)
+        self.assertAlmostEqual(page.point(40)[0], (one[0] + other[0]) / 2, delta=20)
+        self.assertEqual(page.call("return state.chosen"), 50)
+
+    def test_what_is_saved(self):
+        page = self.page()
+        page.take(FOUR / "log.txt", FOUR / "times.csv")
+        for name in ("svg", "png"):
+            page.call("document.getElementById(arguments[0]).click()", name)
+        page.call("sumChoice.value = 'seen'; sumChoice.onchange(); sumSave.click()")
+        end = time.time() + 30
+        names = {f"log_1_300.{ending}" for ending in ("svg", "png", "csv")}
+        while time.time() < end and not names <= {file.name for file in self.folder.iterdir()}:
+            time.sleep(0.1)
+        self.assertLessEqual(names, {file.name for file in self.folder.iterdir()})
+        csv = (self.folder / "log_1_300.csv").read_text(encoding="utf-8").split("\n")
+        head = "part,name,begun,ended,shortest s,mean s,longest s,seconds,share %"
+        self.assertEqual([line.strip() for line in csv[:4]], ["seconds,1,300", "", head, "green,K1,4,4,16,23.2,29,93,31.0"])
+        svg = (self.folder / "log_1_300.svg").read_text(encoding="utf-8")
+        self.assertIn("<title>Signal timing diagram of log.txt, seconds 1 to 300</title>", svg)
+        self.assertTrue((self.folder / "log_1_300.png").read_bytes().startswith(b"\x89PNG"))
+        pdf = base64.b64decode(page.devtools("Page.printToPDF", preferCSSPageSize=True)["data"])
+        self.assertTrue(pdf.startswith(b"%PDF"))
+        self.assertEqual(page.call("return document.getElementById('printed').children.length"), 0)
+
+    def test_faults(self):
+        page = self.page()
+        page.take(FAULTS)
+        page.take_text("some.vap", b"PROGRAM some;\n" + b"\n".join(b"x := %d;" % k for k in range(2, 60)))
+        page.keys("f")
+        fault = page.call("return [FAULTS[state.log.faults.kind[0]], state.log.faults.line[0]]")
+        self.assertIn(f"{fault[0]} in line {fault[1]}: ", page.text("panel"))
+        self.assertIn(f"{fault[1]}  x := {fault[1]};", page.text("panel"))
+        self.assertIn("Faults, by line", page.text("sums"))
+        page.take(FAULTS)  # what came beside the log before isn't that of the next one
+        self.assertIsNone(page.call("return state.site.program || null"))
+
+    def test_files_that_are_refused(self):
+        page = self.page()
+        nothing = "!state.log && document.getElementById('page').hidden"
+        no_markup = f"return document.querySelectorAll('img, #message script').length === 0 && {nothing}"
+        for name, content, told in [
+            ("second.log", b"VAPLOG 1 K1\n1|S1|R|-|-|-\n3|S1|R|-|-|-\n", "3: Second. The line has another number than that"),
+            ("markup.log", b"VAPLOG 1 <img/src=x/onerror=alert(1)>\n", "1: Header."),
+            ("long.log", b"VAPLOG 1 K1\n" + b"<b>" * 100000, "2: LineTooLong. The line has more bytes than there may be"),
+            ("script.log", b"VAPLOG 1 K1\n1|S1|R|-|<script>alert(1)</script>|-\n", "2: Refused."),
+            ("empty.log", b"", "1: Header."),
+            ("none.log", b"VAPLOG 1 K1\n", "the log has no second."),
+        ]:
+            page.take_text(name, content)
+            self.assertTrue(page.text("message").startswith(f"{name}: {told}"), page.text("message")[:200])
+            self.assertTrue(page.call(no_markup), name)
+        page.take(FOUR / "log.txt")
+        for name, content, told in [
+            ("bad.csv", b"group,min_green,red_amber,amber\nK1,0,1,3\n", "2: Number."),
+            ("other.pua", b"$SIGNAL_GROUPS\nA\n$STAGES\nS A\n", "its groups aren't those of the log"),
+            ("counts.txt", b"\n1:1:0 2:1:1\n", "a file of detectors isn't asked for here"),
+            ("text.txt", b"something else", "1: Header."),
+        ]:
+            page.take_text(name, content)
+            self.assertTrue(page.text("message").startswith(f"{name}: {told}"), page.text("message")[:200])
+            self.assertIn("3,600 seconds", page.text("about"), "the log that is shown stays")
+        gone = "() => Promise.reject(Error('gone'))"
+        page.call(f"takeFiles([{{ name: 'folder', size: 5, slice: () => ({{ text: {gone}, arrayBuffer: {gone} }}) }}])")
+        page.rest()
+        self.assertEqual(page.text("message"), "folder: gone")
+        self.assertEqual(page.errors(), [])
+
+    def test_the_beginning_of_a_refused_log(self):
+        page = self.page()
+        page.take_text("live.log", b"VAPLOG 1 K1\n1|S1|R|-|-|-\n2|S1|G|-|-|-\nWATCH 1 1 R\n")
+        self.assertTrue(page.text("message").startswith("live.log: 4: Fields."))
+        page.call("document.querySelector('#message button').click()")
+        page.rest()
+        remark = "line 4 is refused (Fields), and what stands before it is shown"
+        self.assertEqual(page.text("about"), f"live.log: 2 seconds, 1 group; {remark}")
+
+    def test_a_log_of_one_second(self):
+        page = self.page()
+        page.take_text("one.log", b"VAPLOG 1 K1\n1|-|G|-|-|Number@0\n")
+        self.assertIn("one.log: 1 second, 1 group", page.text("about"))
+        self.assertIn("no stage", page.text("panel"))
+        page.keys(RIGHT, LEFT, "+", "-", "0", "r", "f", "g", "s", "n", PAGE_DOWN)
+        self.assertEqual(page.errors(), [])
+
+    def test_a_server_and_addresses(self):
+        page = self.page()
+        page.open((VIEWER / "index.html").as_uri() + "#log=log.txt")
+        page.call("location.reload()")
+        told = "return document.getElementById('message').innerText.includes(arguments[0])"
+        page.wait(told, "A page opened from a file may not read others")
+        folder = self.folder / "served"
+        shutil.copytree(VIEWER, folder, ignore=shutil.ignore_patterns("test"))
+        for file in FOUR.iterdir():
+            shutil.copy(file, folder / file.name)
+        server = http.server.ThreadingHTTPServer(("127.0.0.1", 0), functools.partial(Quiet, directory=str(folder)))
+        self.addCleanup(server.server_close)
+        self.addCleanup(server.shutdown)
+        threading.Thread(target=server.serve_forever, daemon=True).start()
+        base = f"http://127.0.0.1:{server.server_port}/index.html"
+        page.open(f"{base}#log=log.txt&times=times.csv&program=four_arms.vap&second=34")
+        page.wait("return document.getElementById('panel').innerText.includes('Second 34 ')")
+        self.assertIn("with program, times", page.text("about"))
+        for name, words in [("none.txt", "the server answers 404"), ("http://127.0.0.2:9/x", "can't be read")]:
+            page.open(f"{base}#log={name}")
+            page.wait(told, words)
+
+    def test_the_dark_scheme_and_a_narrow_window(self):
+        page = self.page(is_dark=True, width=700, height=1000)
+        page.take(EXAMPLES / "left_turn" / "log.txt")
+        pixel = "return [...document.getElementById('chart').getContext('2d').getImageData(2, 2, 1, 1).data]"
+        self.assertEqual(page.call(pixel), [0x15, 0x19, 0x1D, 255])
+        self.assertLessEqual(page.call("return document.documentElement.scrollWidth"), 700)
+        ground = "return pictureOf().querySelector('svg > rect').getAttribute('fill')"
+        self.assertEqual(page.call(ground), "#fff", "what is saved is light")
+
+
+if __name__ == "__main__":
+    unittest.main()
