@@ -1,37 +1,20 @@
 #!/usr/bin/env python3
 """detectors_from_events.py [--start TIME] [--seconds N] [EVENTS] > detectors.txt
 
-Turns a list of events 'time,detector,on|off' into the detector file that Vantulig reads, one line a second. A time is a number of
-seconds (12 or 12.4) or a clock's (07:00:12 or 07:00:12.4), and times don't fall. Second 1 begins at TIME; without it at 0, or
-for a clock's times at the whole second of the first event. The file has N lines; without it, lines up to the last event. 'on' is
-a vehicle that begins to cover the detector (a front), 'off' one that ceases to (a rear). Fields are parted by ',' or by ';'; a
-first line 'time,..' is passed over. Without EVENTS standard input is read."""
+Turns a list of events 'time,detector,on|off' into the detector file that Vantulig reads, one line a second. A time is a number
+of seconds (12 or 12.4) or a clock's (07:00:12 or 07:00:12.4), and times don't fall. Second 1 begins at TIME; without it at 0,
+or for a clock's times at the whole second of the first event. The file has N lines; without it, lines up to the last event.
+'on' is a vehicle that begins to cover the detector (a front), 'off' one that ceases to (a rear). Fields are parted by ',' or by
+';'; a first line 'time,..' is passed over. Without EVENTS standard input is read."""
 import argparse
 import math
 import re
-import sys
 from fractions import Fraction
 
-NUMBER = re.compile(r"[0-9]+(\.[0-9]+)?")
-CLOCK = re.compile(r"([0-9]{1,2}):([0-5][0-9]):([0-5][0-9](?:\.[0-9]+)?)")
+from reading import MOST_SECONDS, Refused, text_of, time_of, told
+
 STATES = {"on": True, "off": False}
-MOST_SECONDS = 604_800
 MOST_COUNT = 99
-
-
-class Refused(Exception):
-    """A line that can't be read, and why."""
-
-    def __init__(self, line, cause):
-        super().__init__(f"{line}: {cause}")
-
-
-def time_of(text):
-    """The seconds of a time, exactly, and whether it is a clock's; None where it is no time."""
-    clock = CLOCK.fullmatch(text)
-    if clock:
-        return 3600 * int(clock[1]) + 60 * int(clock[2]) + Fraction(clock[3]), True
-    return (Fraction(text), False) if NUMBER.fullmatch(text) else None
 
 
 def event_of(line, text):
@@ -120,13 +103,8 @@ def main():
     words.add_argument("--seconds", metavar="N", type=seconds_of)
     words.add_argument("events", metavar="EVENTS", nargs="?", default="/dev/stdin")
     given = words.parse_args()
-    try:
-        with open(given.events, encoding="utf-8-sig") as file:
-            lines = lines_of(file.read(), given.start, given.seconds)
-    except (OSError, UnicodeDecodeError) as fault:
-        sys.exit(f"{given.events}: {fault}")
-    except Refused as refused:
-        sys.exit(f"{given.events}:{refused}")
+    with told(given.events):
+        lines = lines_of(text_of(given.events), given.start, given.seconds)
     for line in lines:
         print(line)
 

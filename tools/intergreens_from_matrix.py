@@ -4,27 +4,13 @@
 Turns a matrix of intergreens into the table of pairs that Vantulig reads. The first line names the entering groups, and the
 first field of each further line a clearing group (with --transposed the other way round); a field has the seconds of the pair,
 or is empty or '-' where there is no conflict. Fields are parted by ',' or by ';'. Without MATRIX standard input is read."""
-import csv
+import argparse
 import re
-import sys
+
+from reading import Refused, rows_of, text_of, told
 
 NAME = re.compile(r"[A-Za-z_][A-Za-z0-9_]{0,31}")
 SECONDS = re.compile(r"0|[1-9][0-9]?")
-
-
-class Refused(Exception):
-    """A line that can't be read, and why."""
-
-    def __init__(self, line, cause):
-        super().__init__(f"{line}: {cause}")
-
-
-def rows_of(text):
-    """The lines that aren't blank: number and trimmed fields. The sign that stands in the first one parts the fields."""
-    first = next((line for line in text.splitlines() if line.strip()), "")
-    reader = csv.reader(text.splitlines(), delimiter=";" if ";" in first else ",")
-    rows = [(reader.line_num, [field.strip() for field in row]) for row in reader]
-    return [(line, fields) for line, fields in rows if any(fields)]
 
 
 def add_name(names, name, line):
@@ -85,23 +71,17 @@ def pairs_of(text, transposed=False):
     return [(names[clearing], names[entering], seconds) for (clearing, entering), seconds in turned]
 
 
-def main(words):
-    transposed = "--transposed" in words
-    files = [word for word in words if word != "--transposed"]
-    if len(files) > 1 or any(word.startswith("--") for word in files):
-        sys.exit(__doc__)
-    name = files[0] if files else "/dev/stdin"
-    try:
-        with open(name, encoding="utf-8-sig", newline="") as file:
-            pairs = pairs_of(file.read(), transposed)
-    except (OSError, UnicodeDecodeError) as fault:
-        sys.exit(f"{name}: {fault}")
-    except Refused as refused:
-        sys.exit(f"{name}:{refused}")
+def main():
+    words = argparse.ArgumentParser(description=__doc__, formatter_class=argparse.RawDescriptionHelpFormatter)
+    words.add_argument("--transposed", action="store_true")
+    words.add_argument("matrix", metavar="MATRIX", nargs="?", default="/dev/stdin")
+    given = words.parse_args()
+    with told(given.matrix):
+        pairs = pairs_of(text_of(given.matrix), given.transposed)
     print("from,to,seconds")
     for clearing, entering, seconds in pairs:
         print(f"{clearing},{entering},{seconds}")
 
 
 if __name__ == "__main__":
-    main(sys.argv[1:])
+    main()
