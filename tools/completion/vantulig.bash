@@ -1,0 +1,58 @@
+# Completion of junction, junction_check and log_report for bash: their commands, and files of the kind that is due.
+
+_vantulig_files()
+{
+    compopt -o filenames 2>/dev/null
+    COMPREPLY=($(compgen -f -X "!*.$1" -- "$cur") $(compgen -d -- "$cur"))
+    [ ${#COMPREPLY[@]} -gt 0 ] || COMPREPLY=($(compgen -f -- "$cur"))
+}
+
+_vantulig_site()
+{
+    case $1 in
+        1) _vantulig_files vap ;;
+        2) _vantulig_files pua ;;
+        3 | 4) _vantulig_files csv ;;
+        5) _vantulig_files txt ;;
+    esac
+}
+
+_vantulig_junction()
+{
+    local cur=${COMP_WORDS[COMP_CWORD]} place=$((COMP_CWORD - 1))
+    if [ "$COMP_CWORD" -eq 1 ]; then
+        COMPREPLY=($(compgen -W "run compile exec live sample audit net" -- "$cur"))
+        return
+    fi
+    case ${COMP_WORDS[1]} in
+        run) _vantulig_site "$place" ;;
+        live) if [ "$place" -eq 6 ]; then COMPREPLY=($(compgen -W "1 2 3 4 5 6 7 8" -- "$cur")); else _vantulig_site "$place"; fi ;;
+        sample) [ "$place" -gt 4 ] || _vantulig_site "$place" ;;
+        compile) [ "$place" -gt 1 ] || _vantulig_files vap ;;
+        exec) if [ "$place" -eq 1 ]; then _vantulig_files code; else _vantulig_site "$place"; fi ;;
+        audit) if [ "$place" -eq 1 ]; then _vantulig_files log; else [ "$place" -gt 4 ] || _vantulig_site "$place"; fi ;;
+        net) [ "$place" -gt 1 ] || _vantulig_files txt ;;
+    esac
+}
+
+_vantulig_junction_check()
+{
+    local cur=${COMP_WORDS[COMP_CWORD]}
+    case $cur in
+        -*) COMPREPLY=($(compgen -W "--help --version" -- "$cur")) ;;
+        *) _vantulig_site "$COMP_CWORD" ;;
+    esac
+}
+
+_vantulig_log_report()
+{
+    local cur=${COMP_WORDS[COMP_CWORD]}
+    case $COMP_CWORD in
+        1) COMPREPLY=($(compgen -W "diagram text sums --help --version" -- "$cur")) ;;
+        2) _vantulig_files log ;;
+    esac
+}
+
+complete -F _vantulig_junction junction
+complete -F _vantulig_junction_check junction_check
+complete -F _vantulig_log_report log_report
