@@ -6,6 +6,7 @@ names that it cites, and in turn those that they cite. It follows names alone, s
 .rt sources and the kit's own words are not counted. A theorem whose definition isn't there any more stops it."""
 import re
 import sys
+import textwrap
 from collections import defaultdict
 from pathlib import Path
 
@@ -14,50 +15,142 @@ CRATES = ROOT / "crates"
 
 # What is said, the call or law that says it, and its definitions: crate, file, words.
 THEOREMS = [
-    ("what safe pictures are", "`Safe`", "sig_guard", "Safety", ["Safe"]),
+    ("what safe pictures are", "`Safe`", [("sig_guard", "Safety", ["Safe"])]),
     ("a step of the guard keeps a safe history safe, whatever is wished", "`sig_guard::laws::step_keeps_safe`",
-     "sig_guard", "Laws", ["BeginsSafe", "StepKeepsSafe"]),
+     [("sig_guard", "Laws", ["BeginsSafe", "StepKeepsSafe"])]),
     ("a turn that was refused would break the rule that is named", "`sig_guard::laws::refused_turn_breaks_its_rule`",
-     "sig_guard", "Laws", ["RefusedEndBreaks", "RefusedStartBreaks", "DecidedAsNatural", "EachRefusalBreaks"]),
+     [("sig_guard", "Laws", ["RefusedEndBreaks", "RefusedStartBreaks", "DecidedAsNatural", "EachRefusalBreaks"])]),
     ("a green begins only after the intergreens", "`sig_guard::laws::green_after_intergreen`",
-     "sig_guard", "Laws", ["GreenAfterIntergreen"]),
+     [("sig_guard", "Laws", ["GreenAfterIntergreen"])]),
+    ("a step of the guard is the definition's, and what a guard stands for", "`Guard::step`, `stay`",
+     [("sig_guard", "Step", ["guard_picture", "guard_refused"]), ("sig_guard", "Stands", ["StandsFor", "ShowsWishes"])]),
+    ("a second refuses at most as many turns as there are groups", "`sig_guard::laws::one_refusal_each`",
+     [("sig_guard", "Refusals", ["OneRefusalEach", "RefusalsNameGroups"])]),
+    ("what is wished of a group, or of all, is shown in time, and no turn is refused any more", "`sig_response::what_is_wished_is_shown`",
+     [("sig_response", "Laws", ["TurnsRed", "TurnsGreen", "ShowsWhatIsWished", "GuardsRespond"])]),
+    ("from rest it is shown sooner, and a site comes to rest", "`sig_response::what_is_wished_is_shown_sooner_at_rest`",
+     [("sig_response", "Rest", ["ShowsSoonerAtRest", "ComesToRest"])]),
+    ("of two groups in conflict the one that has started stays", "`sig_response::the_first_of_two_in_conflict_stays`",
+     [("sig_response", "Laws", ["FirstStays"])]),
+    ("no controller that keeps the rules is faster", "`sig_response::no_controller_is_faster`",
+     [("sig_response", "Fastest", ["NotRedSooner", "NotGreenSooner", "NotFreeSooner", "BoundIsReached"])]),
+    ("each wished turn is made, or refused by a rule that it would break", "`sig_response::nothing_is_blocked_without_need`",
+     [("sig_response", "Refusals", ["NeverBlocksWithoutNeed"])]),
+    ("the bound of a site, with the group and the cause that make it", "`sig_response::worst_case`",
+     [("sig_response", "Worst", ["IsWorstCase"])]),
+    ("a clean interstage ends in its stage", "`trial_response::clean_interstages_end_in_their_stage`",
+     [("trial_response", "Clean", ["CleanEndsInItsStage"])]),
+    ("which from-stages settle in a trial", "`trial_response::stages_settle_where_they_can`",
+     [("trial_response", "Settles", ["BoundOfTables", "SettlesExactly"])]),
+    ("a run that steers to a stage reaches it and shows it in time", "`stage_response::steered_runs_show_their_stage`",
+     [("stage_response", "Laws", ["StageIsReached", "StageIsShown"])]),
+    ("programs of a plain form steer", "`stage_response::programs_steer`",
+     [("stage_response", "Programs", ["ProgramsSteer", "ProgramsShowTheirStage"])]),
     ("every run keeps the guard's rules, whatever its program does", "`controller::laws::runs_are_guarded`",
-     "controller", "Guarded", ["RunsAreGuarded"]),
-    ("which plan a PUA file gives, or its first refusal", "`read_plan`", "pua_reader", "Accepted", ["plan_of_text"]),
-    ("which times a table gives, or its first refusal", "`read_times`", "sig_tables", "TimesTable", ["times_of"]),
-    ("which intergreens a table gives, or its first refusal", "`read_intergreens`", "sig_tables", "IntergreenTable", ["intergreen_of"]),
-    ("which frames a detector file gives, or its first refusal", "`next_frame`", "det_stream", "Stream", ["stream_of"]),
-    ("which trees are those of a program's tokens", "`parse`", "vap_parse", "Grammar", ["Accepts"]),
-    ("which programs pass the checks, or what is refused first", "`check`", "vap_check", "Accepted", ["Accepted", "IsRefused"]),
-    ("what a program means in a pass", "`junction`", "vap_ast", "Passes", ["program_logic"]),
-    ("what a code means in a pass", "`Vm::pass`", "vap_code", "Machine", ["machine"]),
-    ("which code is valid", "`verify`", "vap_code", "Valid", ["Valid"]),
-    ("which text a code has, and which code a text gives", "`write_code`, `read_code`", "code_file", "Laws",
-     ["TextIsRead", "OneText", "NoTextBegins"]),
-    ("a compiled code does what the program does", "`compile`", "vap_compile", "Compiled", ["MeansProgram"]),
-    ("what one second decides, and its record", "`Controller::second`", "controller", "Second", ["record_of"]),
-    ("the text of a log", "`write_second`", "signal_log", "Log", ["log_text"]),
-    ("the text of a sample's summary", "`put_summary`", "signal_log", "Summary", ["summary_text"]),
-    ("each atomic step on the board is one event, and a take is what came since the last", "`det_board::laws`", "det_board", "Laws",
-     ["FrontIsEvent", "RearIsEvent", "ReadRearsIsEvent", "ReadFrontsIsEvent", "DealMoves", "GiveBackMoves", "TakesInOrder"]),
-    ("what is judged of a history: safe, or the first rule that it breaks", "`Auditor::verdict`", "sig_audit", "Verdict", ["IsVerdict"]),
-    ("what is judged of an interstage", "`inter_check`", "sig_audit", "Trial", ["IsInterEnd"]),
-    ("what is written of a log that is judged", "`junction_run::junction`", "junction_run", "Audited", ["IsAudit"]),
-    ("the log of each run is judged safe", "`junction_run::laws::logs_are_judged_safe`", "junction_run", "SafeLogs",
-     ["WrittenLogsAreJudgedSafe", "AuditsSaySafe"]),
+     [("controller", "Guarded", ["RunsAreGuarded"])]),
+    ("the records of a run are short enough for lines of a log", "`controller::laws::runs_are_bounded`",
+     [("controller", "Bounds", ["RunsAreBounded"])]),
+    ("what decides alike makes one run", "`controller::laws::agreeing_logics_make_one_run`",
+     [("controller", "Agree", ["RunsAgree"])]),
+    ("what a controller stands for is safe, and so is each run", "`controller::laws::runs_are_safe`",
+     [("controller", "Laws", ["StandsForSafe", "RunsAreSafe"])]),
+    ("which plan a PUA file gives, or its first refusal", "`read_plan`", [("pua_reader", "Accepted", ["plan_of_text"])]),
+    ("an accepted plan is what the rows of its sections say, and keeps all limits", "`pua_reader::laws`",
+     [("pua_reader", "SectionRows", ["PlanSaysItsRows"]), ("pua_reader", "InterstageRows", ["InterstagesAreTheirSections"]),
+      ("pua_reader", "Laws", ["PlansAreWhole"])]),
+    ("which times a table gives, or its first refusal", "`read_times`",
+     [("sig_tables", "TimesTable", ["times_of", "times_refusal"])]),
+    ("which intergreens a table gives, or its first refusal", "`read_intergreens`",
+     [("sig_tables", "IntergreenTable", ["intergreen_of", "intergreens_refusal"])]),
+    ("the next line of a file, its end, or that it is too long", "`LineReader::next_line`",
+     [("line_reader", "Unread", ["ReadsLine", "TooLongIsRight", "GivesLine"])]),
+    ("which frames a detector file gives, or its first refusal", "`next_frame`", [("det_stream", "Stream", ["stream_of"])]),
+    ("the frames of a detector file keep their limits, and can be taken in turn", "`det_stream::laws`, `sig_types::laws`",
+     [("det_stream", "Laws", ["StreamsAreFrames"]), ("sig_types", "Laws", ["LastIsTaken", "FrontsAreFrames"])]),
+    ("which trees are those of a program's tokens", "`parse`", [("vap_parse", "Grammar", ["Accepts"])]),
+    ("which programs pass the checks, or what is refused first", "`check`",
+     [("vap_check", "Accepted", ["Accepted", "IsRefused"])]),
+    ("what a program means in a pass", "`junction`", [("vap_ast", "Passes", ["program_logic"])]),
+    ("a program has one meaning, and gives few commands", "`vap_ast::laws`",
+     [("vap_ast", "Mean", ["OneMeaning"]), ("vap_ast", "Given", ["ProgramsGiveFew", "ProgramsGiveTheWorlds"])]),
+    ("what a code means in a pass", "`Vm::pass`", [("vap_code", "Machine", ["machine"])]),
+    ("which code is valid", "`verify`", [("vap_code", "Valid", ["Valid"])]),
+    ("each code is valid or has one check that is broken first", "`code_verify::one_check_is_first`",
+     [("code_verify", "First", ["SomeIsFirst", "OneIsFirst", "ValidBreaksNone"])]),
+    ("which text a code has, and which code a text gives", "`write_code`, `read_code`",
+     [("code_file", "Laws", ["TextIsRead", "OneText", "NoTextBegins"])]),
+    ("a compiled code does what the program does", "`compile`", [("vap_compile", "Compiled", ["MeansProgram"])]),
+    ("how a compiled code is laid out", "`compile`",
+     [("vap_compile", "Compiled", ["IsLaidOut"]), ("vap_compile", "Layout", ["routine_starts"])]),
+    ("what one second decides, its record and what it leaves", "`Controller::second`",
+     [("controller", "Second", ["record_of", "past_after_second"])]),
+    ("the text of a log", "`write_second`", [("signal_log", "Log", ["log_text"])]),
+    ("a log's text tells its frames, and is read line by line", "`signal_log::laws`",
+     [("signal_log", "Laws", ["LogCounts", "LogSpells", "LogHasLines", "LinesBegin", "LinesAreShort", "HeaderIsShort",
+       "LinesHaveNoFeed"])]),
+    ("the text of a sample's summary", "`put_summary`", [("signal_log", "Summary", ["summary_text"])]),
+    ("each atomic step on the board is one event, and a take is what came since the last", "`det_board::laws`",
+     [("det_board", "Laws", ["FrontIsEvent", "RearIsEvent", "ReadRearsIsEvent", "ReadFrontsIsEvent", "DealMoves",
+       "GiveBackMoves", "TakesInOrder"])]),
+    ("a look sees a whole published picture, never of an older second", "`picture_cell`: `publish`, `look`, `close`, laws",
+     [("picture_cell", "Sides", ["LooksOnce", "IsOpening", "IsPublisherOf"]),
+      ("picture_cell", "Laws", ["PublishGains", "LookStays", "TellStays", "PublishedStays", "WordsHoldPictures"])]),
+    ("what is judged of a history: safe, or the first rule that it breaks", "`Auditor::verdict`",
+     [("sig_audit", "Verdict", ["IsVerdict"])]),
+    ("each history has one verdict, and what the guard makes is judged safe", "`sig_audit::laws`",
+     [("sig_audit", "Laws", ["EachHasVerdict", "OneVerdict", "SafeIsJudgedSafe", "GuardedIsJudgedSafe"])]),
+    ("what is judged of an interstage", "`inter_check`", [("sig_audit", "Trial", ["IsInterEnd"])]),
+    ("what is written of a log that is judged", "`junction_run::junction`", [("junction_run", "Audited", ["IsAudit"])]),
+    ("the log of each run is judged safe", "`junction_run::laws::logs_are_judged_safe`",
+     [("junction_run", "SafeLogs", ["WrittenLogsAreJudgedSafe", "AuditsSaySafe"])]),
+    ("which calls of files and sinks in memory fail", "`MemFiles`, `MemSink`",
+     [("sig_io", "Memory", ["contents_of", "Fails"]),
+      ("sig_io", "InMemory", ["failing_reads", "failed_reads", "failing_writes", "failed_writes"])]),
     ("the whole contract of `run`, `compile`, `exec`, `sample` and `audit`", "`junction_run::junction`",
-     "junction_run", "Answers", ["JunctionAnswers"]),
-    ("the whole contract of `live`", "`junction_live::live`", "junction_live", "Answers", ["LiveAnswers"]),
-    ("the whole contract of `net`", "`junction_net::net`", "junction_net", "NetAnswers", ["NetAnswers"]),
-    ("the whole contract of `junction_check`", "`site_check::check_junction`", "site_check", "Call", ["IsAnswerTo", "IsNoted"]),
-    ("what is found in the files of a junction, as values", "`site_check::examine`", "site_check", "Examined", ["IsExamined"]),
-    ("the text of what is found in the files of a junction", "`site_findings::write_findings`", "site_findings", "Text", ["IsFindingsText"]),
-    ("what a run's log says is read of it", "`log_view::a_written_log_is_read_whole`", "log_view", "Laws", ["WrittenIsRead", "OnlyWrittenIsRead"]),
-    ("the log of each run is read whole", "`log_laws::run_logs_are_read_whole`", "log_laws", "Laws",
-     ["LoadedRunsAreLogged", "WrittenLogsAreReadWhole"]),
-    ("the log of each live run is read whole", "`log_laws::live_logs_are_read_whole`", "log_laws", "LiveLaws", ["LiveLogsAreReadWhole"]),
+     [("junction_run", "Answers", ["JunctionAnswers"])]),
+    ("files give one thing, each text one answer, and the status is that of the answer",
+     "`junction_run::laws::answers_are_right`",
+     [("junction_run", "Laws", ["LoadsOnce", "ProgramsHaveOneAnswer", "LogsHaveOneAnswer", "LogsHaveOneAudit", "EndsAsGiven",
+       "IsComplete", "LoadedRunsAreGuarded", "WritesOfTheFilesAreGuarded"])]),
+    ("the whole contract of `live`", "`junction_live::live`", [("junction_live", "Answers", ["LiveAnswers"])]),
+    ("a live run without watchers writes the log alone, and its status is that of its answer", "`junction_live::laws`",
+     [("junction_live", "Laws", ["IsComplete", "TextIsLog"])]),
+    ("feeders, controller and watchers beside each other make the seconds", "`play`, `play_watched`",
+     [("junction_live", "Outcome", ["SecondsMade"]), ("junction_live", "Watch", ["SecondsShown", "HaveLooked"])]),
+    ("the whole contract of `net`", "`junction_net::net`", [("junction_net", "NetAnswers", ["NetAnswers"])]),
+    ("a list with its files has one answer, and the status is its own", "`junction_net::laws::net_answers_are_right`",
+     [("junction_net", "Laws", ["GivesOnce", "GivesAlways", "EndsAlways", "IsComplete"])]),
+    ("the whole contract of `junction_check`", "`site_check::check_junction`",
+     [("site_check", "Call", ["IsAnswerTo", "IsNoted"])]),
+    ("what is found in the files of a junction, as values", "`site_check::examine`",
+     [("site_check", "Examined", ["IsExamined"])]),
+    ("the text of what is found in the files of a junction", "`site_findings::write_findings`",
+     [("site_findings", "Text", ["IsFindingsText"])]),
+    ("the plan's lines are its parts, a near word is one slip, an interstage has one end",
+     "`pua_lines::laws`, `plan_check::laws`",
+     [("pua_lines", "Laws", ["NearIsOneSlip", "StageLinesNameStages", "GroupLinesNameGroups", "InterstageLinesBeginThem"]),
+      ("plan_check", "Laws", ["OneEnd"])]),
+    ("the whole contract of `log_report`", "`log_view::report`", [("log_view", "Call", ["IsReported"])]),
+    ("pictures have one chart, which tells each aspect", "`log_chart::laws`",
+     [("log_chart", "Laws", ["HasOneRow", "HasOneChart", "ChartTellsAspects", "RowTellsAspects", "RowIsShort", "HasOneSum"])]),
+    ("the next record of a log, or its first refused line", "`LogRecords::open`, `next_record`",
+     [("log_records", "Answers", ["IsOpened", "AnswersNext"])]),
+    ("a log has one answer of either reader", "`log_lines::laws`, `log_records::laws`",
+     [("log_lines", "Laws", ["OneAnswer", "SomeAnswer", "RecordForm", "ReadsBack"]),
+      ("log_records", "Laws", ["OneAnswer", "OneHeader", "SomeAnswer"])]),
+    ("what a run's log says is read of it", "`log_view::a_written_log_is_read_whole`",
+     [("log_view", "Laws", ["WrittenIsRead", "OnlyWrittenIsRead"])]),
+    ("the log of each run is read whole", "`log_laws::run_logs_are_read_whole`",
+     [("log_laws", "Laws", ["LoadedRunsAreLogged", "WrittenLogsAreReadWhole"])]),
+    ("the log of each live run is read whole", "`log_laws::live_logs_are_read_whole`",
+     [("log_laws", "LiveLaws", ["LiveLogsAreReadWhole"])]),
+    ("which controller is opened of which texts", "`junction_calls::load_into`", [("junction_calls", "Loads", ["IsLoaded"])]),
+    ("what C is told of a second", "`junction_handle::make_second`", [("junction_handle", "Seconds", ["IsSecondMade"])]),
+    ("the calls after an opening tell the records of the program's guarded run", "`junction_calls::laws::loaded_calls_make_runs`",
+     [("junction_calls", "Laws", ["LoadedCallsMakeRuns"])]),
+    ("a history of any controller has no breach where it is safe", "`log_judge::laws`",
+     [("log_judge", "Laws", ["NoBreachIsSafe", "PartsHaveNone"])]),
 ]
-
 DEFINITION = re.compile(r"((?:abbrev |unfoldable |pub )*)(record |data )?([^\s(:{]+)(.*)")
 IMPORT = re.compile(r"(?:pub )?use Rattle\.(\w+)\.specs\.(\w+)(?:\.(?:\{(.*)\}|(\w+)))?(?: as (\w+))?")
 NO_NAMES = {"mutual", "module", "infixr", "infixl", "infix"}
@@ -98,7 +191,7 @@ class Specs:
     """All definitions, and what each file imports."""
 
     def __init__(self):
-        self.blocks, self.words, self.modules, self.constructors = {}, {}, {}, {}
+        self.blocks, self.words, self.modules, self.constructors, self.kept = {}, {}, {}, {}, {}
         for path in sorted(CRATES.glob("*/specs/*.antt")):
             if path.name != "Lib.antt":
                 self.read(path.parts[-3], path.stem, path.read_text(encoding="utf-8").split("\n"))
@@ -136,6 +229,11 @@ class Specs:
 
     def cited(self, definition):
         """The definitions that a definition cites."""
+        if definition not in self.kept:
+            self.kept[definition] = list(self.found_in(definition))
+        return self.kept[definition]
+
+    def found_in(self, definition):
         file, name = definition
         text = "\n".join(self.blocks[file][name])
         for token in set(re.findall(r"[^\s(){}\[\],;]+", text)):
@@ -188,34 +286,45 @@ def link(file):
     return f"[{module}](../crates/{crate}/specs/{module}.antt)"
 
 
-def by_crate(files, told):
-    """The files as a text, crate by crate."""
-    crates = list(dict.fromkeys(crate for crate, _ in files))
-    return "; ".join(f"`{crate}`: " + ", ".join(told(file) for file in files if file[0] == crate) for crate in crates)
+def by_crate(files):
+    """The files as a list of a page, a row for each crate."""
+    for crate in dict.fromkeys(crate for crate, _ in files):
+        row = f"- `{crate}`: " + ", ".join(link(file) for file in files if file[0] == crate)
+        yield textwrap.fill(row, 128, subsequent_indent="  ", break_long_words=False, break_on_hyphens=False)
 
 
-def roots_of(specs, crate, module, names):
-    for name in names:
-        if name not in specs.blocks.get((crate, module), {}):
-            sys.exit(f"tools/believe.py: {crate}/specs/{module} has no {name}")
-    return [((crate, module), name) for name in names]
+def roots_of(specs, roots):
+    for crate, module, names in roots:
+        for name in names:
+            if name not in specs.blocks.get((crate, module), {}):
+                sys.exit(f"tools/believe.py: {crate}/specs/{module} has no {name}")
+            yield ((crate, module), name)
+
+
+def needed_files(specs):
+    """How many definitions of each file the theorems rest on."""
+    needed = defaultdict(int)
+    for file, _ in set().union(*(specs.closure(roots_of(specs, roots)) for _, _, roots in THEOREMS)):
+        needed[file] += 1
+    return needed
 
 
 def main():
-    specs, whole = Specs(), set()
+    specs = Specs()
     everything = {(file, name) for file, block in specs.blocks.items() for name in block}
+    closures = [specs.closure(roots_of(specs, roots)) for _, _, roots in THEOREMS]
+    whole = set().union(*closures)
     print(HEAD)
-    for said, call, crate, module, names in THEOREMS:
-        needed = specs.closure(roots_of(specs, crate, module, names))
-        whole |= needed
-        files = reading_order(specs, needed)
-        told = by_crate(files, link) if len(files) <= 40 else f"{len(files)} files of the table below"
-        roots = ", ".join(f"`{name}`" for name in names)
-        print(f"| {said} | {call} | {roots} | {len(needed)} | {specs.lines(needed)} | {told} |")
+    for (said, call, roots), needed in zip(THEOREMS, closures):
+        words = ", ".join(f"`{name}`" for _, _, names in roots for name in names)
+        print(f"| {said} | {call} | {words} | {len(needed)} | {specs.lines(needed)} |")
     print(MIDDLE.format(len(whole), specs.lines(whole), len(everything), specs.lines(everything)))
-    needed = defaultdict(int)
-    for file, _ in whole:
-        needed[file] += 1
+    for (said, _, _), needed in zip(THEOREMS, closures):
+        files = reading_order(specs, needed)
+        print(f"\n### {said[0].upper()}{said[1:]}\n")
+        print("\n".join(by_crate(files)) if len(files) <= 40 else f"{len(files)} files of the table [below](#file-by-file).")
+    print(END)
+    needed = needed_files(specs)
     for crate in crates_in_order():
         files = [file for file in reading_order(specs, everything) if file[0] == crate]
         cited = [file for file in files if needed[file]]
@@ -228,18 +337,21 @@ def main():
 HEAD = """# The definitions to believe
 
 A theorem says no more than its definitions do. This page, made by `tools/believe.py`, tells for each of them how many
-definitions of `specs/` its statement rests on, how many lines they have, and in which order their files are best read: each
+definitions of `specs/` its statement rests on and how many lines they have; [below](#in-reading-order) stand their files, each
 after those that it cites. The prover has checked the proofs, so they need no reading. A script that follows names found them,
 so a word too many may be among them. Types declared in the sources and words of the toolchain's library are not counted.
 
-| what is said | by | beginning with | definitions | lines | files, in reading order |
-|---|---|---|---|---|---|"""
+| what is said | by | beginning with | definitions | lines |
+|---|---|---|---|---|"""
 
 MIDDLE = """
 Taken together these are {} definitions of {} lines. All definitions of the repository are {}, of {} lines. What isn't
 above are working words, in which contracts of inner functions and proofs speak of what the code keeps. For these theorems
 nothing of them has to be believed.
 
+## In reading order"""
+
+END = """
 ## File by file
 
 Each file with how many of its definitions the theorems rest on, of how many; and the files of working words alone.

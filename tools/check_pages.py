@@ -1,10 +1,20 @@
 #!/usr/bin/env python3
-"""tools/check_pages.py PROGRAM
+"""tools/check_pages.py FOLDER
 
-Runs what the pages show. PROGRAM is a built `junction`. Each program in a page of docs/ is compiled. Of each page of an example, its
-commands are run as they stand, with PROGRAM in the place of `rt try --`, in a copy of crates/junction/examples; each other line
-that the page shows must be a line of what they wrote, or the drawing of a group's aspects, with `.` for red. It
-prints a line for each page, and ends with status 1 where one is wrong. The log of each junction is judged too, and must be safe."""
+Runs what the pages show: README, CONTRIBUTING, those of docs/ and of the examples. FOLDER has the built programs junction,
+junction_check and log_report, as tools/install.py lays them. Of each page
+
+- an indented block that begins with PROGRAM is a program, and must compile;
+- an indented block that begins with a command is run as it stands, all of a page in one shell, from the top of a copy of the
+  repository, for the page of an example from crates/junction there. `rt try -- WORDS` and `rt run -- WORDS` are the program of
+  the folder in which they stand; `# status N` behind a command tells how it ends;
+- each line of any other indented block must be a line that these commands wrote, or the drawing of a group's aspects, with `.`
+  for red;
+- a fenced block that is named for a file is that file; any other fenced block is a form, or needs what isn't here, and is not
+  run.
+
+No command may change a file of the repository. The log of each example is judged too, and must be safe. It prints a line for
+each page, and ends with status 1 where one is wrong."""
 import os
 import re
 import shutil
@@ -15,35 +25,59 @@ from pathlib import Path
 
 ROOT = Path(__file__).resolve().parent.parent
 JUNCTION = ROOT / "crates" / "junction"
-COMMAND = re.compile(r"(rt|cut|tr|tail|awk|cd|grep|head) |[A-Z]+=")
+PROGRAMS = ["junction", "junction_check", "log_report"]
+WORDS = ["rt", "cut", "tr", "tail", "awk", "cd", "grep", "head", "cat", "mkdir", "cmp", "python3", *PROGRAMS, r"tools/\S+"]
+COMMAND = re.compile(rf"({'|'.join(WORDS)}) |[A-Z]+=")
 DRAWING = re.compile(r"(\w+ )?(\w+) +([.UGA]+)")
-# In a page's commands `rt try -- WORDS` and `rt run -- WORDS` are the program.
-SHELL = 'set -e -o pipefail\nrt() { shift 2; "$PROGRAM" "$@"; }\n'
+STATUS = re.compile(r"(.*\S) +# status (\d+)")
+COPIED = ["crates/*/examples", "crates/*/data", "tools", "docs"]
+SHELL = 'set -e -o pipefail\nrt() { shift 2; "$FOLDER/$(basename "$PWD")" "$@"; }\n'
 
 
-def blocks_of(page):
-    """The indented blocks of a page, without their indent; a blank line within a program belongs to it."""
-    blocks, block = [], []
+def parts_of(page):
+    """The indented blocks of a page, without their indent, and its fenced blocks that are named for a file. An indented line
+    that goes on a paragraph or an item belongs to that."""
+    blocks, block, files, name, above = [], [], {}, None, ""
     for line in page.read_text(encoding="utf-8").split("\n") + ["end"]:
-        if line.startswith("    "):
+        if line.startswith("```"):
+            name = line[3:].strip() if name is None else None
+        elif name is not None:
+            files.setdefault(name, []).append(line)
+        elif line.startswith("    ") and (block or not above.strip()):
             block.append(line[4:])
-        elif block:
+            continue
+        above = line
+        if block:
             blocks.append(block)
             block = []
-    return blocks
+    return blocks, {name: lines for name, lines in files.items() if "." in name}
 
 
-def compile_programs(program, page, folder):
+def command_of(line):
+    """The line for the shell, which ends the page where the command ends otherwise than it is told."""
+    found = STATUS.fullmatch(line)
+    return f"if {found[1]}; then false; else [ $? = {found[2]} ]; fi" if found else line
+
+
+def is_program(block):
+    return block[0].startswith("PROGRAM ")
+
+
+def is_command(block):
+    return bool(COMMAND.match(block[0] + " "))
+
+
+def compile_programs(programs, page, folder):
     """What is wrong with the programs that a page shows, and how many there are."""
-    programs = [block for block in blocks_of(page) if block[0].startswith("PROGRAM ")]
+    blocks = [block for block in parts_of(page)[0] if is_program(block)]
     wrong = []
-    for block in programs:
+    for block in blocks:
         file = folder / "shown.vap"
         file.write_text("\n".join(block) + "\n", encoding="utf-8")
-        done = subprocess.run([program, "compile", str(file)], stdout=subprocess.PIPE, stderr=subprocess.PIPE, text=True)
+        done = subprocess.run([programs / "junction", "compile", file], capture_output=True, text=True)
         if done.returncode != 0:
             wrong.append(f"{block[0]} {done.stderr.strip()}")
-    return wrong, len(programs)
+    return wrong, len(blocks)
 
 
 def drawings_of(lines):
@@ -71,30 +105,52 @@ def is_drawn(line, drawings):
     return any(found[3] in one if found[1] else one.startswith(found[3]) for one in drawn)
 
 
-def run_page(program, page, folder):
-    """What an example's page shows and its commands don't write, and how many lines it shows."""
-    shutil.copytree(JUNCTION / "examples", folder / "examples")
-    blocks = blocks_of(page)
-    commands = [block for block in blocks if COMMAND.match(block[0])]
-    if not any(line.startswith("rt ") for block in commands for line in block):
-        return [], 0
-    shown = [line for block in blocks if not COMMAND.match(block[0]) for line in block]
-    text = SHELL + "\n".join(line for block in commands for line in block)
+def copy_tree(folder):
+    """A copy of what commands of pages read."""
+    for pattern in COPIED:
+        for source in ROOT.glob(pattern):
+            shutil.copytree(source, folder / source.relative_to(ROOT), ignore=shutil.ignore_patterns("__pycache__"))
+
+
+def changed_files(folder):
+    """The files of the copy that are no longer those of the repository."""
+    files = [file for pattern in COPIED for top in folder.glob(pattern) for file in top.rglob("*") if file.is_file()]
+    pairs = [(file, ROOT / file.relative_to(folder)) for file in files]
+    return [file.relative_to(folder) for file, own in pairs if own.is_file() and own.read_bytes() != file.read_bytes()]
+
+
+def run_page(programs, page, folder):
+    """What a page shows and its commands don't write, and how many lines it shows."""
+    blocks, files = parts_of(page)
+    commands = [block for block in blocks if is_command(block)]
+    shown = [line for block in blocks if not is_command(block) and not is_program(block) for line in block]
+    if not commands:
+        return [f"no command writes: {line}" for line in shown], len(shown)
+    tree, home = folder / "tree", folder / "home"
+    home.mkdir()
+    copy_tree(tree)
+    start = tree / "crates" / "junction" if page.is_relative_to(JUNCTION) else tree
+    for name, lines in files.items():
+        (start / name).write_text("\n".join(lines) + "\n", encoding="utf-8")
     before = set(folder.rglob("*"))
-    done = subprocess.run(
-        ["bash", "-c", text], cwd=folder, env={**os.environ, "PROGRAM": program}, capture_output=True, text=True
-    )
+    text = SHELL + "\n".join(command_of(line) for block in commands for line in block)
+    words = {**os.environ, "FOLDER": str(programs), "HOME": str(home), "PATH": f"{programs}:{os.environ['PATH']}"}
+    words["PYTHONDONTWRITEBYTECODE"] = "1"
+    done = subprocess.run(["bash", "-c", text], cwd=start, env=words, capture_output=True, text=True)
     if done.returncode != 0:
         return [f"status {done.returncode}: {done.stderr.strip()}"], len(shown)
-    written = done.stdout.split("\n")
-    for file in set(folder.rglob("*")) - before:
-        written += file.read_text(encoding="utf-8").split("\n")
+    written = done.stdout.split("\n") + done.stderr.split("\n")
+    for file in sorted(set(folder.rglob("*")) - before):
+        if file.is_file():
+            written += file.read_text(encoding="utf-8").split("\n")
     lines, drawings = set(written), drawings_of(written)
-    return [f"isn't written: {line}" for line in shown if line not in lines and not is_drawn(line, drawings)], len(shown)
+    wrong = [f"isn't written: {line}" for line in shown if line not in lines and not is_drawn(line, drawings)]
+    return wrong + [f"a command changes {file}" for file in changed_files(tree)], len(shown) + len(commands)
 
 
-def audit_run(program, plan, folder):
+def audit_run(programs, plan, folder):
     """What is wrong with the log of a junction's run, and how many seconds it has."""
+    program = programs / "junction"
     [source] = plan.parent.glob("*.vap")
     [detectors] = [file for file in plan.parent.glob("*.txt") if file.name in ("detectors.txt", "traffic.txt")]
     site = [str(plan), str(plan.with_name("times.csv")), str(plan.with_name("intergreens.csv"))]
@@ -107,12 +163,12 @@ def audit_run(program, plan, folder):
     return [] if verdict == f"SAFE {seconds}" else [verdict], seconds
 
 
-def check(page, act, program, what):
+def check(page, act, programs, what):
     """Does this with a page or a plan in a folder of its own, and tells how it went."""
     with tempfile.TemporaryDirectory() as folder:
-        wrong, count = act(program, page, Path(folder))
+        wrong, count = act(programs, page, Path(folder))
     if wrong or count:
-        print(f"{page.relative_to(ROOT)}: {count} {what}, {len(wrong)} wrong")
+        print(f"{page.relative_to(ROOT)}: {count} {what}, {len(wrong)} wrong", flush=True)
     for line in wrong:
         print(f"    {line}")
     return not wrong
@@ -121,10 +177,15 @@ def check(page, act, program, what):
 def main():
     if len(sys.argv) != 2:
         sys.exit(__doc__)
-    program = str(Path(sys.argv[1]).resolve())
-    right = [check(page, compile_programs, program, "programs") for page in sorted((ROOT / "docs").glob("*.md"))]
-    right += [check(page, run_page, program, "lines shown") for page in sorted(JUNCTION.glob("examples/*/README.md"))]
-    right += [check(plan, audit_run, program, "seconds judged") for plan in sorted(JUNCTION.glob("examples/**/junction.pua"))]
+    programs = Path(sys.argv[1]).resolve()
+    missing = [name for name in PROGRAMS if not (programs / name).is_file()]
+    if missing:
+        sys.exit(f"tools/check_pages.py: {programs} has no {', '.join(missing)}")
+    pages = [ROOT / "README.md", ROOT / "CONTRIBUTING.md", *sorted((ROOT / "docs").glob("*.md"))]
+    examples = sorted(JUNCTION.glob("examples/*.md")) + sorted(JUNCTION.glob("examples/*/README.md"))
+    right = [check(page, compile_programs, programs, "programs") for page in pages]
+    right += [check(page, run_page, programs, "lines and commands") for page in pages + examples]
+    right += [check(plan, audit_run, programs, "seconds judged") for plan in sorted(JUNCTION.glob("examples/**/junction.pua"))]
     sys.exit(0 if all(right) else 1)
 
 

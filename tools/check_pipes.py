@@ -4,6 +4,7 @@
 Runs the first minutes of the four arms with a pipe in the place of each file in turn, written in pieces of 7 bytes, and
 expects what the files give; and looks at what comes where the reader of the records leaves. PROGRAM is a built `junction`. It
 prints a line for each, and ends with status 1 where one is wrong."""
+import argparse
 import os
 import subprocess
 import sys
@@ -60,4 +61,6 @@ def main(program):
 
 
 if __name__ == "__main__":
-    sys.exit(main(sys.argv[1]) if len(sys.argv) == 2 else __doc__)
+    words = argparse.ArgumentParser(description=__doc__, formatter_class=argparse.RawDescriptionHelpFormatter)
+    words.add_argument("program", metavar="PROGRAM")
+    sys.exit(main(words.parse_args().program))

@@ -2,8 +2,10 @@
 """tools/example_logs.py PROGRAM CHECK REPORT
 
 Writes what the gate compares of the examples, after a change of an example or of what a log says: in the crate test_examples, which
-checks, runs and judges them all, copies of their files, their logs, the words and the output. PROGRAM is a built `junction`, and
-CHECK and REPORT are a built `junction_check` and `log_report`. It stops where a call fails, a log isn't safe, or something is found in the files. Look at the difference before it is committed."""
+checks, runs and judges them all, copies of their files, their logs, the words and the output. Beside each example it draws its
+diagram.svg. PROGRAM is a built `junction`, and CHECK and REPORT are a built `junction_check` and `log_report`. It stops where a call
+fails, a log isn't safe, or something is found in the files. Look at the difference before it is committed."""
+import argparse
 import shutil
 import subprocess
 import sys
@@ -14,6 +16,9 @@ EXAMPLES = CRATES / "junction" / "examples"
 CRATE = CRATES / "test_examples"
 DATA = CRATE / "data"
 TABLES = ["times.csv", "intergreens.csv"]
+
+# The seconds of a diagram, where they are not the first hundred.
+DRAWN = {"four_arms": (1, 60), "green_wave/west": (61, 175), "green_wave/east": (61, 175)}
 
 
 def call(program, words):
@@ -39,7 +44,10 @@ def calls_of(folder):
 
 
 def main():
-    program, checker, reporter = (str(Path(word).resolve()) for word in sys.argv[1:])
+    words = argparse.ArgumentParser(description=__doc__, formatter_class=argparse.RawDescriptionHelpFormatter)
+    for name in ("PROGRAM", "CHECK", "REPORT"):
+        words.add_argument(name.lower(), metavar=name)
+    program, checker, reporter = (str(Path(word).resolve()) for word in vars(words.parse_args()).values())
     shutil.rmtree(DATA, ignore_errors=True)
     calls, output = [], b""
     for plan in sorted(EXAMPLES.glob("**/junction.pua")):
@@ -50,6 +58,10 @@ def main():
         verdict = call(program, audit)
         if not verdict.startswith(b"SAFE "):
             sys.exit(f"{audit[1]}: {verdict.decode()}")
+        example = str(plan.parent.relative_to(EXAMPLES))
+        first, last = DRAWN.get(example, (1, min(100, log.count(b"\n") - 1)))
+        picture = call(reporter, ["diagram", audit[1], str(first), str(last)])
+        (plan.parent / "diagram.svg").write_bytes(picture)
         reports = [["report", "text", audit[1], "1", "40"], ["report", "sums", audit[1]]]
         output += found + log + verdict + b"".join(call(reporter, words[1:]) for words in reports)
         calls += [check, run, audit, *reports]
@@ -58,6 +70,4 @@ def main():
 
 
 if __name__ == "__main__":
-    if len(sys.argv) != 4:
-        sys.exit(__doc__)
     main()

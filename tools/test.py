@@ -1,6 +1,9 @@
 #!/usr/bin/env python3
 """Tests of the scripts beside this file: python3 tools/test.py"""
+import hashlib
+import os
 import re
+import shutil
 import subprocess
 import sys
 import tempfile
@@ -9,10 +12,14 @@ from fractions import Fraction
 from pathlib import Path
 
 HERE = Path(__file__).resolve().parent
+TOP = HERE.parent
 sys.path.insert(0, str(HERE))
 sys.dont_write_bytecode = True
+import believe
 import detectors_from_events as events
 import intergreens_from_matrix as matrix
+from test_records import *
+from test_sumo import *
 
 
 def run(script, text, *words):
@@ -175,24 +182,275 @@ class Sentences(unittest.TestCase):
 
 
 class Crates(unittest.TestCase):
-    """Each crate of crates.txt stands in both maps, and no other one does."""
+    """Each crate of crates.txt has its row in docs/crates.md, in its order, and its sentence in README; test crates share one there."""
 
-    def test_each_is_told(self):
-        top = HERE.parent
-        listed = re.findall(r"^(\w+)[^:#\n]*:", (top / "crates.txt").read_text(encoding="utf-8"), re.MULTILINE)
-        rows = [row.split("|")[2] for row in (top / "crates" / "README.md").read_text(encoding="utf-8").split("\n") if row.startswith("| ")]
-        told = re.findall(r"^\| `(\w+)`", (top / "docs" / "crates.md").read_text(encoding="utf-8"), re.MULTILINE)
-        self.assertEqual(sorted(listed), sorted(re.findall(r"`(\w+)`", "".join(rows))))
-        self.assertEqual(sorted(listed), sorted(told))
+    def setUp(self):
+        text = (TOP / "crates.txt").read_text(encoding="utf-8")
+        rows = re.findall(r"^(\w+)[^:#\n]*:(.*)$", text, re.MULTILINE)
+        self.uses = {name: used.split() for name, used in rows}
+
+    def stands_on(self, name):
+        """The crates of the repository on which one stands, itself among them."""
+        below = {name}
+        for used in self.uses[name]:
+            if used in self.uses:
+                below |= self.stands_on(used)
+        return below
+
+    def test_each_stands_on_those_above(self):
+        order = list(self.uses)
+        for name, used in self.uses.items():
+            late = [one for one in used if one in self.uses and order.index(one) > order.index(name)]
+            self.assertEqual(late, [], name)
+
+    def test_each_has_its_row(self):
+        page = (TOP / "docs" / "crates.md").read_text(encoding="utf-8")
+        self.assertEqual(re.findall(r"^\| `(\w+)` \|", page, re.MULTILINE), list(self.uses))
+        for name, tests in re.findall(r"^\| `(\w+)` \|.*\|.*\|(.*)\|$", page, re.MULTILINE):
+            for test in re.findall(r"`(\w+)`", tests):
+                self.assertIn(name, self.stands_on(test), test)
+
+    def test_each_has_its_sentence(self):
+        page = (TOP / "README.md").read_text(encoding="utf-8")
+        part = page.split("\n## Crate by crate\n")[1].split("\n## ")[0]
+        rows = [[cell.strip() for cell in row.split("|")[1:-1]] for row in part.split("\n") if row.startswith("| `")]
+        told = [re.findall(r"`(\w+)`", row[0]) for row in rows]
+        first = [names[0] for names in told[:-1]]
+        self.assertEqual(first, [name for name in self.uses if name in first])
+        self.assertCountEqual(sum(told[:-1], []), [name for name in self.uses if not name.startswith("test_")])
+        self.assertTrue(told[-1][0].startswith("test_"))
+        for (name, *_), (_, calls, sentence) in zip(told, rows):
+            self.assertTrue(0 < len(sentence) <= 120, f"{name}: {len(sentence)} letters")
+            self.assertEqual(bool(calls), not name.startswith("test_"), name)
+
+    def test_each_call_is_there(self):
+        """The calls of README's and proved.md's rows are public words of their crates."""
+        for page in ["README.md", "docs/proved.md"]:
+            for row in re.findall(r"^\| `(\w+)` \| (`[^|]*) \|", (TOP / page).read_text(encoding="utf-8"), re.MULTILINE):
+                name, calls = row
+                if name not in self.uses:
+                    continue
+                sources = "\n".join(file.read_text(encoding="utf-8") for file in (TOP / "crates" / name / "src").rglob("*.rt"))
+                for call in re.findall(r"`([\w:]+)`", calls):
+                    for word in call.split("::"):
+                        said = re.search(rf"\b(fn|struct|enum|trait|mod) {word}\b|pub use [^;]*\b{word}\b", sources)
+                        self.assertTrue(said, f"{page}: {name} has no {call}")
+
+
+class Believe(unittest.TestCase):
+    """docs/believe.md is what its script makes, and has a row for all that docs/proved.md names."""
+
+    def test_the_page_is_made_anew(self):
+        done = subprocess.run([sys.executable, "-B", HERE / "believe.py"], capture_output=True, text=True)
+        self.assertEqual((done.returncode, done.stderr), (0, ""))
+        is_same = done.stdout == (TOP / "docs" / "believe.md").read_text(encoding="utf-8")
+        self.assertTrue(is_same, "tools/believe.py > docs/believe.md")
+
+    def test_no_definition_of_a_clause_is_a_working_word(self):
+        needed = believe.needed_files(believe.Specs())
+        page = (TOP / "docs" / "proved.md").read_text(encoding="utf-8").split("\n## Readers\n")[1]
+        for crate, row in re.findall(r"^\| `(\w+)` \|(.*)\|$", page, re.MULTILINE):
+            for word, is_crate in re.findall(r"`(\w+)`(:?)", re.split(r"(?<!\\)\|", row)[-1].split("(not ")[0]):
+                if is_crate:
+                    crate = word
+                else:
+                    self.assertTrue(needed[crate, word], f"{crate}/specs/{word} stands in no row of tools/believe.py")
+
+
+class Install(unittest.TestCase):
+    """tools/install.py in a checkout of its own, whose programs are scripts."""
+
+    NAMES = ["junction", "junction_check", "log_report"]
+
+    def setUp(self):
+        folder = tempfile.TemporaryDirectory()
+        self.addCleanup(folder.cleanup)
+        self.top, self.prefix = Path(folder.name) / "checkout", Path(folder.name) / "prefix"
+        shutil.copytree(HERE / "completion", self.top / "tools" / "completion")
+        shutil.copy(HERE / "install.py", self.top / "tools")
+        shutil.copy(TOP / "crates.txt", self.top)
+        (self.top / "docs").mkdir()
+        for name in self.NAMES:
+            shutil.copy(TOP / "docs" / f"{name}.1", self.top / "docs")
+            source = self.top / "crates" / name / "src" / "main.rt"
+            source.parent.mkdir(parents=True)
+            source.write_text("// a source\n", encoding="utf-8")
+            os.utime(source, (1, 1))
+            self.built(name).parent.mkdir()
+            self.built(name).write_text(f"#!/bin/sh\necho {name}\n", encoding="utf-8")
+        self.built("junction_check").with_name("junction_check.by-rattle").touch()
+        stamp = self.built("junction").with_name("junction.stamp")
+        stamp.write_text("0" * 64 + hashlib.sha256(self.built("junction").read_bytes()).hexdigest(), encoding="utf-8")
+
+    def built(self, name):
+        return self.top / "crates" / name / "out" / name
+
+    def call(self, *words):
+        done = subprocess.run([sys.executable, "-B", self.top / "tools" / "install.py", *words], capture_output=True, text=True)
+        return done.returncode, done.stdout, done.stderr
+
+    def files(self):
+        return {str(file.relative_to(self.prefix)) for file in self.prefix.rglob("*") if file.is_file()}
+
+    def test_all_programs(self):
+        status, said, fault = self.call(self.prefix)
+        self.assertEqual((status, fault), (0, ""))
+        pages = {f"share/man/man1/{name}.1" for name in self.NAMES}
+        completions = {f"share/bash-completion/completions/{name}" for name in self.NAMES} | {"share/zsh/site-functions/_vantulig"}
+        listed = {f"bin/{name}" for name in self.NAMES} | pages | completions
+        self.assertEqual(self.files(), listed | {"share/vantulig/checksums.txt"})
+        self.assertTrue(all(f"{self.prefix}/{place}\n" in said for place in self.files()))
+        self.assertEqual(subprocess.run([self.prefix / "bin" / "log_report"], capture_output=True).stdout, b"log_report\n")
+        text = (self.prefix / "share" / "vantulig" / "checksums.txt").read_text(encoding="utf-8")
+        self.assertIn("# commit unknown, since this is no clone\n# kit ", text)
+        stamped = "# bin/junction: as `rt run` left it after its proof\n"
+        gated = "# bin/junction_check: as `rt ci` left it after its proof, with the other compiler's build beside it\n"
+        self.assertIn(stamped + gated + "# bin/log_report: not known to come from a proof: no trace of one beside it\n", text)
+        sums = {line[66:]: line[:64] for line in text.splitlines() if not line.startswith("#")}
+        self.assertEqual(sums, {place: hashlib.sha256((self.prefix / place).read_bytes()).hexdigest() for place in listed})
+
+    def test_what_is_not_built_is_refused(self):
+        self.built("log_report").unlink()
+        os.utime(self.built("junction"), (0, 0))
+        status, said, fault = self.call(self.prefix)
+        self.assertEqual((status, said), (1, ""))
+        older = "junction is older than crates/junction/src/main.rt: in crates/junction, `rt run -- --version` builds it anew"
+        lacking = "log_report isn't built: in crates/log_report, `rt run -- --version` proves and builds it"
+        self.assertEqual(fault, f"{older}\n{lacking}\nnothing is installed\n")
+        self.assertFalse(self.prefix.exists())
+        self.assertEqual(self.call(self.prefix, "junction_check")[0], 0)
+        self.assertIn("bin/junction_check", self.files())
+        self.assertNotIn("bin/junction", self.files())
+        self.assertEqual(self.call(self.prefix, "juncton")[0], 1)
+
+    def test_what_is_of_another_origin_stays(self):
+        (self.prefix / "bin").mkdir(parents=True)
+        (self.prefix / "bin" / "junction").write_text("mine", encoding="utf-8")
+        status, said, fault = self.call(self.prefix)
+        self.assertEqual((status, said, fault), (1, "", f"{self.prefix}/bin/junction is of another origin\nnothing is installed\n"))
+        self.assertEqual(self.files(), {"bin/junction"})
+
+    def test_everything_is_taken_away(self):
+        self.assertEqual(self.call(self.prefix, "--remove")[0], 1)
+        (self.prefix / "bin").mkdir(parents=True)
+        (self.prefix / "bin" / "other").write_text("mine", encoding="utf-8")
+        self.assertEqual(self.call(self.prefix)[0], 0)
+        self.assertEqual(self.call(self.prefix, "junction")[0], 0)
+        self.assertEqual(self.call(self.prefix, "--remove")[0], 0)
+        self.assertEqual([str(path.relative_to(self.prefix)) for path in sorted(self.prefix.rglob("*"))], ["bin", "bin/other"])
+
+    def test_a_new_prefix_is_taken_away(self):
+        self.assertEqual(self.call(self.prefix)[0], 0)
+        self.assertEqual(self.call(self.prefix, "--remove")[0], 0)
+        self.assertFalse(self.prefix.exists())
+
+    def test_what_was_changed_stays(self):
+        self.assertEqual(self.call(self.prefix)[0], 0)
+        (self.prefix / "bin" / "junction").write_text("mine", encoding="utf-8")
+        status, _, fault = self.call(self.prefix, "--remove")
+        self.assertEqual((status, fault), (1, f"{self.prefix}/bin/junction was changed since, and stays\n"))
+        self.assertEqual(self.files(), {"bin/junction"})
+
+    def test_checksums(self):
+        status, said, _ = self.call("--checksums", "junction")
+        self.assertEqual(status, 0)
+        self.assertIn("# crates/junction/out/junction: as `rt run` left it after its proof\n", said)
+        self.assertTrue(said.endswith("  crates/junction/out/junction\n"))
+        self.assertEqual(self.call()[0], 1)
+
+    def test_completion_knows_each_command(self):
+        table = (TOP / "README.md").read_text(encoding="utf-8").split("\n## The programs\n")[1].split("\n## ")[0]
+        rows = "".join(row.split("|")[1] for row in table.split("\n") if row.startswith("| `"))
+        commands = {
+            "junction": set(re.findall(r"`junction ([a-z]+)", rows)),
+            "log_report": set(re.findall(r"(?:`|log_report )([a-z]+) LOG", rows)) | {"--help", "--version"},
+        }
+        for name, wanted in commands.items():
+            text = f'source "$1"; COMP_WORDS=({name} ""); COMP_CWORD=1; _vantulig_{name}; echo "${{COMPREPLY[@]}}"'
+            done = subprocess.run(["bash", "-c", text, "-", HERE / "completion" / "vantulig.bash"], capture_output=True, text=True)
+            self.assertEqual((set(done.stdout.split()), done.stderr), (wanted, ""))
+            zsh = (HERE / "completion" / "_vantulig").read_text(encoding="utf-8")
+            self.assertTrue(all(re.search(rf"['( ]{word}[): ]", zsh) for word in wanted), name)
+
+
+class Statuses(unittest.TestCase):
+    """The manual pages have the statuses of docs/limits.md."""
+
+    def test_each_page_has_them(self):
+        rows = (TOP / "docs" / "limits.md").read_text(encoding="utf-8").split("\n## Limits\n")[0]
+        rows = [[cell.strip() for cell in row.split("|")[1:-1]] for row in rows.split("\n") if row.startswith("| ")]
+        for name in rows[0][1:-1]:
+            told = {row[rows[0].index(name)] for row in rows[1:]} - {""}
+            page = (TOP / "docs" / f"{name.strip('`')}.1").read_text(encoding="utf-8")
+            part = page.split(".Sh EXIT STATUS")[1].split(".Sh ")[0]
+            self.assertEqual(set(re.findall(r"^\.It ([0-9])$", part, re.MULTILINE)), told, name)
+
+
+class Pages(unittest.TestCase):
+    """Links and anchors lead somewhere, and README stays short."""
+
+    PAGES = [file for pattern in ("*.md", "docs/*.md", "crates/**/*.md", "viewer/**/*.md", "library/**/*.md") for file in TOP.glob(pattern)]
+
+    def text_of(self, page):
+        return re.sub(r"^```.*?^```", "", page.read_text(encoding="utf-8"), flags=re.DOTALL | re.MULTILINE)
+
+    def anchors_of(self, page):
+        heads = re.findall(r"^#+ (.*)$", self.text_of(page), re.MULTILINE)
+        plain = (re.sub(r"\[([^]]*)\]\([^)]*\)", r"\1", head).lower() for head in heads)
+        return {re.sub(r"[^\w\- ]", "", head).replace(" ", "-") for head in plain}
+
+    def test_links(self):
+        for page in self.PAGES:
+            for link in re.findall(r"\]\(([^)\s]+)\)", self.text_of(page)):
+                if link.startswith(("https:", "http:")):
+                    continue
+                name, _, anchor = link.partition("#")
+                target = (page.parent / name).resolve() if name else page
+                self.assertTrue(target.exists(), f"{page.relative_to(TOP)}: {link}")
+                if anchor:
+                    self.assertIn(anchor, self.anchors_of(target), f"{page.relative_to(TOP)}: {link}")
+
+    def test_each_page_is_reached_from_readme(self):
+        reached, left = set(), [TOP / "README.md"]
+        while left:
+            page = left.pop()
+            if page in reached or page.suffix != ".md":
+                continue
+            reached.add(page)
+            links = re.findall(r"\]\(([^)#\s]+)", self.text_of(page))
+            left += [file for file in ((page.parent / link).resolve() for link in links if ":" not in link) if file.is_file()]
+        self.assertEqual({str(page.relative_to(TOP)) for page in self.PAGES if page.resolve() not in reached}, set())
+
+    def test_readme_is_short(self):
+        text = (TOP / "README.md").read_text(encoding="utf-8")
+        self.assertLessEqual(text.count("\n"), 160)
+        self.assertLessEqual(len(text.split()), 2400)
+
+    def test_lines_are_short(self):
+        for page in self.PAGES:
+            for at, line in enumerate(self.text_of(page).split("\n"), 1):
+                is_table = line.startswith(("|", "    ", "!["))
+                self.assertTrue(is_table or len(line) <= 128, f"{page.relative_to(TOP)}: {at}: {len(line)} columns")
 
 
 class Pictures(unittest.TestCase):
     """The picture of the page is what the gate expects of the program."""
 
     def test_the_four_arms(self):
-        folder = HERE.parent / "crates" / "log_report"
-        picture = (folder / "examples" / "four_arms_minute.svg").read_bytes()
-        self.assertEqual(picture, (folder / "stdout").read_bytes())
+        crates = HERE.parent / "crates"
+        picture = crates / "junction" / "examples" / "four_arms" / "diagram.svg"
+        self.assertEqual(picture.read_bytes(), (crates / "log_report" / "stdout").read_bytes())
+
+
+class Viewer(unittest.TestCase):
+    """The tests of the page in the browser; without node or Chromium theirs are skipped, and said to be."""
+
+    def test_the_page(self):
+        script = HERE.parent / "viewer" / "test" / "test.py"
+        done = subprocess.run([sys.executable, "-B", str(script)], capture_output=True, text=True)
+        self.assertEqual(done.returncode, 0, done.stderr)
+        for skipped in sorted(set(re.findall(r"skipped '(.*)'", done.stderr))):
+            print(f"{script.name}: skipped: {skipped}")
 
 
 if __name__ == "__main__":
