@@ -146,6 +146,8 @@ THEOREMS = [
      [("log_laws", "LiveLaws", ["LiveLogsAreReadWhole"])]),
     ("which controller is opened of which texts", "`junction_calls::load_into`", [("junction_calls", "Loads", ["IsLoaded"])]),
     ("what C is told of a second", "`junction_handle::make_second`", [("junction_handle", "Seconds", ["IsSecondMade"])]),
+    ("the names of groups and the refused stage commands that calls tell", "`junction_calls::group_name`, `refused_stage`",
+     [("junction_calls", "Named", ["IsGroupName", "IsStageTold"])]),
     ("the calls after an opening tell the records of the program's guarded run", "`junction_calls::laws::loaded_calls_make_runs`",
      [("junction_calls", "Laws", ["LoadedCallsMakeRuns"])]),
     ("a history of any controller has no breach where it is safe", "`log_judge::laws`",

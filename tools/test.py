@@ -15,6 +15,7 @@ HERE = Path(__file__).resolve().parent
 TOP = HERE.parent
 sys.path.insert(0, str(HERE))
 sys.dont_write_bytecode = True
+import answers
 import believe
 import detectors_from_events as events
 import intergreens_from_matrix as matrix
@@ -235,6 +236,23 @@ class Crates(unittest.TestCase):
                     for word in call.split("::"):
                         said = re.search(rf"\b(fn|struct|enum|trait|mod) {word}\b|pub use [^;]*\b{word}\b", sources)
                         self.assertTrue(said, f"{page}: {name} has no {call}")
+
+
+class Answers(unittest.TestCase):
+    def test_each_file_is_read_and_written_line_by_line(self):
+        for file in (TOP / "crates").glob("*/proofs/**/Answers.antt"):
+            text = file.read_text(encoding="utf-8")
+            written = answers.render(*answers.parse(text))
+            lines = [[line for line in it.split("\n") if line.strip()] for it in (text, written)]
+            self.assertEqual(*lines, str(file))
+
+    def test_lemmas_that_no_answer_uses_go(self):
+        lemmas = "use A.{b}\n\nhalf : ℕ\nhalf = 1\n\nother : ℕ\nother = 2\n\n"
+        text = lemmas + "-- why\npub f : goal.f\nf x = record {\n  a = half;\n  b = x\n}\n"
+        head, blocks = answers.parse(text)
+        self.assertEqual([it.name for it in answers.needed(blocks)], ["half", "f"])
+        self.assertEqual(answers.fields_of(blocks[2]), ("", [("a", "half"), ("b", "x")]))
+        self.assertEqual(answers.blocks_at(text, {11}), {"f"})
 
 
 class Believe(unittest.TestCase):
