@@ -3,9 +3,12 @@
 
 Turns a matrix of intergreens into the table of pairs that Vantulig reads. The first line names the entering groups, and the
 first field of each further line a clearing group (with --transposed the other way round); a field has the seconds of the pair,
-or is empty or '-' where there is no conflict. Fields are parted by ',' or by ';'. Without MATRIX standard input is read."""
+or is empty or '-' where there is no conflict. Fields are parted by ',' or by ';'. Without MATRIX standard input is read. The
+pairs in no conflict, which may be green at once, are told on standard error."""
 import argparse
+import itertools
 import re
+import sys
 
 from reading import Refused, rows_of, text_of, told
 
@@ -54,9 +57,8 @@ def seconds_of(line, pair, field):
     return int(field)
 
 
-def pairs_of(text, transposed=False):
+def pairs_of(names, fields, transposed=False):
     """The pairs in conflict, in the order of the matrix: clearing group, entering group, seconds."""
-    names, fields = matrix_of(text)
     found = {}
     for (row, column), (line, field) in fields.items():
         seconds = seconds_of(line, f"{names[row]} to {names[column]}", field)
@@ -77,7 +79,12 @@ def main():
     words.add_argument("matrix", metavar="MATRIX", nargs="?", default="/dev/stdin")
     given = words.parse_args()
     with told(given.matrix):
-        pairs = pairs_of(text_of(given.matrix), given.transposed)
+        names, fields = matrix_of(text_of(given.matrix))
+        pairs = pairs_of(names, fields, given.transposed)
+    conflicts = {frozenset((clearing, entering)) for clearing, entering, _ in pairs}
+    for one, other in itertools.combinations(names.values(), 2):
+        if frozenset((one, other)) not in conflicts:
+            print(f"no conflict: {one} and {other}", file=sys.stderr)
     print("from,to,seconds")
     for clearing, entering, seconds in pairs:
         print(f"{clearing},{entering},{seconds}")

@@ -44,21 +44,24 @@ class Examples(unittest.TestCase):
 
 
 class Matrix(unittest.TestCase):
+    def pairs(self, text, transposed=False):
+        return matrix.pairs_of(*matrix.matrix_of(text), transposed)
+
     def refused(self, text, said):
         with self.assertRaises(matrix.Refused) as stop:
-            matrix.pairs_of(text)
+            self.pairs(text)
         self.assertEqual(str(stop.exception), said)
 
     def test_commas_and_semicolons(self):
         pairs = [("K1", "K2", 5), ("K2", "K1", 4)]
-        self.assertEqual(matrix.pairs_of("from,K1,K2,K3\nK1,-,5,\nK2,4,,-\nK3,,,\n"), pairs)
-        self.assertEqual(matrix.pairs_of(";K1;K2\r\n\r\nK1; ; 5\r\nk2;4;-\r\n"), pairs)
+        self.assertEqual(self.pairs("from,K1,K2,K3\nK1,-,5,\nK2,4,,-\nK3,,,\n"), pairs)
+        self.assertEqual(self.pairs(";K1;K2\r\n\r\nK1; ; 5\r\nk2;4;-\r\n"), pairs)
 
     def test_transposed(self):
-        self.assertEqual(matrix.pairs_of(";A;B\nA;;7\nB;3;\n", True), [("B", "A", 7), ("A", "B", 3)])
+        self.assertEqual(self.pairs(";A;B\nA;;7\nB;3;\n", True), [("B", "A", 7), ("A", "B", 3)])
 
     def test_no_conflict_at_all(self):
-        self.assertEqual(matrix.pairs_of(",A,B\nA,,\nB,,\n"), [])
+        self.assertEqual(self.pairs(",A,B\nA,,\nB,,\n"), [])
 
     def test_refusals(self):
         self.refused("", "1: there is no line with the names of the groups")
@@ -72,6 +75,11 @@ class Matrix(unittest.TestCase):
         self.refused(",A,B\nA,,100\nB,1,\n", "2: '100' (A to B) is no whole number from 0 to 99")
         self.refused(",A,B\nA,0,1\nB,1,\n", "2: A has an intergreen with itself")
         self.refused(",A,B\nA,,\n\nB,1,\n", "4: B and A conflict one way only")
+
+    def test_pairs_in_no_conflict_are_told(self):
+        told = "no conflict: K1 and K3\nno conflict: K2 and K3\n"
+        text = "from,K1,K2,K3\nK1,-,5,\nK2,4,,-\nK3,,,\n"
+        self.assertEqual(run("intergreens_from_matrix.py", text), (0, "from,to,seconds\nK1,K2,5\nK2,K1,4\n", told))
 
     def test_the_script(self):
         self.assertEqual(
