@@ -15,6 +15,7 @@ junction_check and log_report, as tools/install.py lays them. Of each page
 
 No command may change a file of the repository. The log of each example is judged too, and must be safe. It prints a line for
 each page, and ends with status 1 where one is wrong."""
+import argparse
 import os
 import re
 import shutil
@@ -175,9 +176,9 @@ def check(page, act, programs, what):
 
 
 def main():
-    if len(sys.argv) != 2:
-        sys.exit(__doc__)
-    programs = Path(sys.argv[1]).resolve()
+    words = argparse.ArgumentParser(description=__doc__, formatter_class=argparse.RawDescriptionHelpFormatter)
+    words.add_argument("folder", metavar="FOLDER", type=Path)
+    programs = words.parse_args().folder.resolve()
     missing = [name for name in PROGRAMS if not (programs / name).is_file()]
     if missing:
         sys.exit(f"tools/check_pages.py: {programs} has no {', '.join(missing)}")

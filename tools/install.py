@@ -175,6 +175,9 @@ def write_checksums(names):
 
 def main(words):
     options, names = [word for word in words if word.startswith("--")], [word for word in words if not word.startswith("--")]
+    if options == ["--help"]:
+        print(__doc__)
+        return
     try:
         if options == ["--checksums"]:
             write_checksums(names or PROGRAMS)

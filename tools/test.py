@@ -459,6 +459,18 @@ class Pages(unittest.TestCase):
                 self.assertTrue(is_table or len(line) <= 128, f"{page.relative_to(TOP)}: {at}: {len(line)} columns")
 
 
+class Helps(unittest.TestCase):
+    """Each script of this folder tells its use."""
+
+    def test_each_script_has_its_help(self):
+        for script in sorted(HERE.glob("*.py")):
+            text = script.read_text(encoding="utf-8")
+            if text.startswith("#!") and script.name not in ("test.py", "believe.py"):
+                done = subprocess.run([sys.executable, "-B", script, "--help"], capture_output=True, text=True)
+                self.assertEqual((done.returncode, done.stderr), (0, ""), script.name)
+                self.assertIn(text.split('"""')[1].split("\n")[0], done.stdout, script.name)
+
+
 class Pictures(unittest.TestCase):
     """The picture of the page is what the gate expects of the program."""
 

@@ -27,6 +27,7 @@ __all__ = ["Geometry", "Sites", "Findings", "ManyStages", "Protocol", "Driver", 
 
 HERE = Path(__file__).resolve().parent
 JUNCTION, CHECK = os.environ.get("JUNCTION"), os.environ.get("JUNCTION_CHECK")
+HAS_LIBRARY = bool(importlib.util.find_spec("vantulig")) or (controllers.LIBRARY / "vantulig" / "libjunction.so").exists()
 VALUES = clearing.Values()
 
 # A crossing of two one-way roads, west to east (link 0) and south to north (link 1), each with 20 m over the junction.
@@ -299,7 +300,7 @@ class Protocol(unittest.TestCase):
             if before:
                 sys.modules["vantulig"] = before
 
-    @unittest.skipIf(importlib.util.find_spec("vantulig") or (controllers.LIBRARY / "vantulig" / "libjunction.so").exists(), "the library is there")
+    @unittest.skipIf(HAS_LIBRARY, "the library is there")
     def test_no_library(self):
         with self.assertRaisesRegex(controllers.NoLibrary, "--library: the package `vantulig` isn't there"):
             controllers.Controllers(uses_library=True)
@@ -425,6 +426,10 @@ class Networks(unittest.TestCase):
         self.assertGreaterEqual(len(records), 60)
         if JUNCTION:
             self.call("drive_sumo.py", "--junction", JUNCTION, "--logs", "logs", *minute)
+            if HAS_LIBRARY:
+                self.call("drive_sumo.py", "--library", "--logs", "logs_of_library", *minute)
+                for log in (self.folder / "logs").iterdir():
+                    self.assertEqual((self.folder / "logs_of_library" / log.name).read_bytes(), log.read_bytes(), log.name)
             if CHECK:
                 told = self.call("check_sites.py", "--logs", "logs", JUNCTION, CHECK, "sites")
                 self.assertIn("2 sites, 120 seconds; 0 with findings of junction_check, 0 not SAFE, 0 interstages not", told)
