@@ -9,14 +9,16 @@ use crate::stop::LoadStop;
 use sig_io::{Files, ReadRefusal, read_whole};
 use std::alloc::Global;
 
-/// The bytes that a text may have.
-pub(crate) const TEXT_LIMIT: usize = 1048576;
+/// The bytes that a program, a PUA file or a table may have.
+pub const TEXT_LIMIT: usize = 1048576;
 
 /// The bytes that a code file may have.
 pub(crate) const CODE_LIMIT: usize = 2097152;
 
-/// Reads a file within its limit.
-pub(crate) fn read_file<'a, F: Files>(
+/// Reads a file of at most so many bytes.
+///
+/// The error is `ReadFault` where it could not be read, `TooLong` where it has more bytes, or `Memory`.
+pub fn read_file<'a, F: Files>(
     alloc: Global,
     files: &mut F,
     word: &'a str,

@@ -20,10 +20,10 @@ const AUDIT: &str = "audit";
 
 /// The names of the files of a site.
 #[derive(Clone, Copy)]
-pub(crate) struct SiteWords<'a> {
-    pub(crate) plan: &'a str,
-    pub(crate) times: &'a str,
-    pub(crate) intergreens: &'a str,
+pub struct SiteWords<'a> {
+    pub plan: &'a str,
+    pub times: &'a str,
+    pub intergreens: &'a str,
 }
 
 /// The names of the files of a site.
@@ -44,7 +44,7 @@ pub(crate) fn site_words<'a>(
 
 /// What decides the passes of a run: the name of a program or of a code.
 #[derive(Clone, Copy)]
-pub(crate) enum Source<'a> {
+pub enum Source<'a> {
     Program(&'a str),
     Code(&'a str),
 }

@@ -32,9 +32,14 @@ mod status;
 mod stop;
 mod top;
 
-pub use load::{Site, load_site};
+pub use file::{TEXT_LIMIT, read_file};
+pub use form::{SiteWords, Source};
+pub use load::{Site, load_site, load_source};
 pub use notes::{write_stop, write_words};
+pub use program::judge_source;
+pub use reasons::{ReasonText, reason};
 pub use run::make_controller;
+pub use site::{SiteTables, take_site};
 pub use status::{Status, exit_status};
 pub use stop::{LineReason, LoadStop, PlayStop, Reason, Stop, status_of};
 pub use top::junction;

@@ -71,7 +71,9 @@ fn take_source<'a, F: Files>(
 }
 
 /// Reads and judges the plan, the times, the intergreens and a source, one after the other.
-pub(crate) fn load<'a, F: Files>(
+///
+/// The error is the first file that is not as it must be, or that could not be read, or `Memory`.
+pub fn load_source<'a, F: Files>(
     alloc: Global,
     source: &Source<'a>,
     words: &SiteWords<'a>,
@@ -117,7 +119,7 @@ fn load_named<'a, F: Files, N: Sink>(
     ensures contents_stay { F.told files.new ≡ F.told files.old }
     ensures later { F.faults files.old ≤ F.faults files.new }
 {
-    match load(alloc, &Source::Program(program), words, files) {
+    match load_source(alloc, &Source::Program(program), words, files) {
         Ok(site) => Ok(site),
         Err(stop) => {
             write_load_stop(&stop, notes);

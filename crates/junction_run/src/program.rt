@@ -81,12 +81,9 @@ fn check_tree<'a>(alloc: Global, program: Program, word: &'a str) -> Result<Chec
     }
 }
 
-/// The checked program of a text: its tokens, their tree, its readings of the cycle, and the checks.
-pub(crate) fn judge_source<'a>(
-    alloc: Global,
-    text: &[u8],
-    word: &'a str,
-) -> Result<Checked, LoadStop<'a>>
+/// The checked program of a text: its tokens, their tree, its readings of the cycle, and the checks. The error is its refusal, at
+/// the file of that name, or `Memory`.
+pub fn judge_source<'a>(alloc: Global, text: &[u8], word: &'a str) -> Result<Checked, LoadStop<'a>>
     requires { length text.now ≤ 1048576 }
     ensures text { IsCheckedText text.now result }
     ensures word { IfErr result (λ stop. IsAt word.now stop) }

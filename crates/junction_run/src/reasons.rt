@@ -33,12 +33,12 @@ use vap_parse::ParseWhy;
 
 /// The pieces of a reason: its name, and up to two things that it speaks of, each after a blank.
 #[derive(Clone, Copy)]
-pub(crate) struct ReasonText<'a> {
-    pub(crate) name: &'a [u8],
-    pub(crate) blank: &'a [u8],
-    pub(crate) first: &'a [u8],
-    pub(crate) gap: &'a [u8],
-    pub(crate) second: &'a [u8],
+pub struct ReasonText<'a> {
+    pub name: &'a [u8],
+    pub blank: &'a [u8],
+    pub first: &'a [u8],
+    pub gap: &'a [u8],
+    pub second: &'a [u8],
 }
 
 fn name_alone<'x>(name: &'x [u8]) -> ReasonText<'x>
@@ -244,7 +244,7 @@ pub(crate) fn line_reason<'x>(reason: LineReason, digits: &'x mut Buffer) -> Rea
 }
 
 /// The pieces of the reason of a refused file.
-pub(crate) fn reason<'x>(reason: &'x Reason, digits: &'x mut Buffer) -> ReasonText<'x>
+pub fn reason<'x>(reason: &'x Reason, digits: &'x mut Buffer) -> ReasonText<'x>
     ensures { told_text result ≡ reason_text reason.now }
 {
     match reason {

@@ -21,7 +21,7 @@ ghost use Rattle.junction_run.specs.Stop.{StopsAt, StopsAmong, StopsWith, status
 ghost use Rattle.junction_run.specs.declared.status.Status.TheVariants as status;
 
 use crate::form::{SiteWords, Source};
-use crate::load::{Site, load};
+use crate::load::{Site, load_source};
 use crate::play::play;
 use crate::stop::{LoadStop, Stop};
 use controller::Controller;
@@ -110,7 +110,7 @@ pub(crate) fn run<'a, F: Files, O: Sink>(
     ensures read { StopsWith status_of status.ReadFault result → Rose (F.faults files.old) (F.faults files.new) }
     ensures write { StopsWith status_of status.WriteFault result → Rose (O.faults out.old) (O.faults out.new) }
 {
-    let site = match load(alloc, source, words, files) {
+    let site = match load_source(alloc, source, words, files) {
         Ok(site) => site,
         Err(stop) => return Err(Stop::Load(stop)),
     };

@@ -22,7 +22,7 @@ ghost use Rattle.junction_run.specs.declared.status.Status.TheVariants as status
 
 use crate::draw::{draw_frame, generator_of};
 use crate::form::{SiteWords, Source};
-use crate::load::load;
+use crate::load::load_source;
 use crate::run::make_controller;
 use crate::seconds::SampleSeconds;
 use crate::stop::{LoadStop, PlayStop, Stop};
@@ -94,7 +94,7 @@ pub(crate) fn sample<'a, F: Files, O: Sink>(
     ensures read { StopsWith status_of status.ReadFault result → Rose (F.faults files.old) (F.faults files.new) }
     ensures write { StopsWith status_of status.WriteFault result → Rose (O.faults out.old) (O.faults out.new) }
 {
-    let site = match load(alloc, &Source::Program(program), words, files) {
+    let site = match load_source(alloc, &Source::Program(program), words, files) {
         Ok(site) => site,
         Err(stop) => return Err(Stop::Load(stop)),
     };

@@ -25,10 +25,10 @@ use std::alloc::Global;
 
 /// A plan, and the tables that were read against it.
 #[derive(Drop)]
-pub(crate) struct SiteTables {
-    pub(crate) plan: Plan,
-    pub(crate) times: Times,
-    pub(crate) intergreens: Intergreens,
+pub struct SiteTables {
+    pub plan: Plan,
+    pub times: Times,
+    pub intergreens: Intergreens,
 }
 
 fn judge_plan<'a>(alloc: Global, text: &[u8], word: &'a str) -> Result<Plan, LoadStop<'a>>
@@ -164,7 +164,9 @@ fn take_intergreens<'a, F: Files>(
 }
 
 /// Reads and judges the plan, the times and the intergreens, one after the other.
-pub(crate) fn take_site<'a, F: Files>(
+///
+/// The error is the first file that is not as it must be, or that could not be read, or `Memory`.
+pub fn take_site<'a, F: Files>(
     alloc: Global,
     words: &SiteWords<'a>,
     files: &mut F,

@@ -36,7 +36,7 @@ returns-clause-ended g c = λ file e.
     c.play_site.result _ _ loaded.1 (ReachedInPlay.at_detectors playing loaded.1)
     (played_alike (sites.playing_in c.in-Ok.site) playing c.args.detectors.now (stream_of (file c.args.detectors.now)) c.play_site.result _ _
     (source_log source c.in-Ok.site.code loaded.0 loaded.2 c.play_site.ensures.valid (sites.site_in c.in-Ok.site))
-    (c.play_site.ensures.played file (c.load.ensures.contents_stay ∙ e)))
+    (c.play_site.ensures.played file (c.load_source.ensures.contents_stay ∙ e)))
 
 pub returns-clause-word : goal.returns-clause-word
 returns-clause-word g c =

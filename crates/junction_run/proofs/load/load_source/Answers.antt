@@ -5,7 +5,7 @@ use Rattle.junction_run.specs.Loading.{IsSource, played_at}
 use Rattle.junction_run.specs.Sites.{site_of_tables}
 use Rattle.junction_run.proofs.Ends.{among, among_more}
 use Rattle.junction_run.proofs.Texts.{no_site, no_last, last_taken}
-use Rattle.junction_run.proofs.load.load.Goals as goal
+use Rattle.junction_run.proofs.load.load_source.Goals as goal
 
 pub returns-in-Err-clause-loaded : goal.returns-in-Err-clause-loaded
 returns-in-Err-clause-loaded g c = λ file e.
