@@ -1,9 +1,11 @@
-//! Draws and sums a log: `diagram LOG FROM TO` writes an SVG signal timing diagram of these seconds, `text LOG FROM TO` the same
-//! as characters, and `sums LOG` what groups, stages, refusals, faults and detectors add up to.
+//! Draws, sums and judges a log: `diagram LOG FROM TO` writes an SVG signal timing diagram of these seconds, `text LOG FROM TO` the
+//! same as characters, `sums LOG` what groups, stages, refusals, faults and detectors add up to, and `breaches LOG PUA TIMES
+//! INTERGREENS` what the log of any controller breaks of the rules of a junction.
 #![tactic(auto)]
 
+use breach_view::report_breaches;
 use log_view::{Status, Stop, exit_status, report, write_stop};
-use sig_io::{DiskFiles, ErrSink, OutSink};
+use sig_io::{DiskFiles, ErrSink, Files, OutSink, Sink};
 use std::alloc::{AllocError, Global};
 use std::env::Args;
 use std::io::ErrorKind;
@@ -19,6 +21,22 @@ fn words_of(alloc: Global, args: io::Result<Args>) -> Result<Vec<String>, AllocE
     }
 }
 
+// Does what the words ask for, and answers the exit status.
+fn answer<F: Files, O: Sink, N: Sink>(
+    alloc: Global,
+    words: &[String],
+    files: &mut F,
+    out: &mut O,
+    notes: &mut N,
+) -> u8 {
+    match words.first() {
+        Some(word) if word.as_str() == "breaches" => {
+            judge_notes::exit_status(report_breaches(alloc, words, files, out, notes))
+        }
+        _ => exit_status(report(alloc, words, files, out, notes)),
+    }
+}
+
 fn main(rt: HostRuntime) -> ExitCode {
     let alloc = rt.alloc();
     let stdout = rt.stdout();
@@ -27,11 +45,11 @@ fn main(rt: HostRuntime) -> ExitCode {
     let mut out = OutSink::new(&stdout);
     let mut notes = ErrSink::new(&stderr);
     let status = match words_of(alloc, env::args(&rt)) {
-        Ok(words) => report(alloc, &words, &mut files, &mut out, &mut notes),
+        Ok(words) => answer(alloc, &words, &mut files, &mut out, &mut notes),
         Err(_) => {
             write_stop(&mut notes, &Stop::Memory);
-            Status::Memory
+            exit_status(Status::Memory)
         }
     };
-    ExitCode::from(exit_status(status))
+    ExitCode::from(status)
 }

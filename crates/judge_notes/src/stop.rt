@@ -1,0 +1,35 @@
+// Why a call that judges a log stopped.
+
+use log_lines::LogWhy as PictureWhy;
+use log_records::LogWhy as RecordWhy;
+use log_site::SiteStop;
+
+/// Why a line of a log is refused.
+#[derive(Clone, Copy, Debug, PartialEq, Eq)]
+pub enum LineWhy {
+    /// A log of which only the pictures are read.
+    Picture(PictureWhy),
+    /// A log whose records are read whole.
+    Record(RecordWhy),
+}
+
+/// Why a call ended before all was done. A file goes by its word, and its lines count from 1.
+#[derive(Drop)]
+pub enum JudgeStop<'a> {
+    /// The words are no form of a call.
+    Words,
+    /// Memory was wanted and could not be had.
+    Memory,
+    /// The plan or a table was not taken.
+    Site(SiteStop<'a>),
+    /// The log could not be read.
+    ReadFault(&'a str),
+    /// A line of the log is refused.
+    RefusedLine {
+        word: &'a str,
+        line: u32,
+        why: LineWhy,
+    },
+    /// Standard output could not be written.
+    WriteFault,
+}

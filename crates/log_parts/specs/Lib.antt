@@ -1,0 +1,4 @@
+pub mod Seconds
+pub mod Log
+pub mod Taken
+pub mod Answers

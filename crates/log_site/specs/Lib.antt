@@ -1,0 +1,4 @@
+pub mod Loading
+pub mod Reasons
+pub mod Sites
+pub mod Stop

@@ -1,0 +1,131 @@
+// Whole calls of `log_report breaches` over files in memory.
+use breach_view::report_breaches;
+use judge_notes::Status;
+use sig_io::{MemFiles, MemSink};
+use std::alloc::Global;
+use std::test::Fail;
+use test_texts::sites::{INTERGREENS, ONE_WAY, TIMES, TWO_STAGES};
+
+// A part of a log: K1 ends too soon, shows red-amber after amber, and K2 turns green too soon and without red-amber.
+const PART: &str = "VAPLOG 1 K1 K2\n\
+11|-|RR|\n\
+12|-|UR|\n\
+13|-|GR|\n\
+14|-|GR|\n\
+15|-|AR|\n\
+16|-|AR|\n\
+17|-|UR|\n\
+18|-|RG|\n";
+
+const WORDS: &str = "\
+15 MinGreen K1: green from second 13 for 2 s; minimum 10 s\n\
+17 Sequence K1: red-amber after amber\n\
+17 Sequence K1: amber from second 15 for 2 s; time 3 s\n\
+18 Sequence K1: red after red-amber\n\
+18 Sequence K2: red-amber from second 18 for 0 s; time 1 s\n\
+18 Intergreen K2 K1: K1 ended in second 15, K2 is green in second 18, 3 s later; intergreen 5 s\n\
+SECONDS 8\n\
+BREACHES 6\n\
+SUM Sequence K1 times:3\n\
+SUM Sequence K2 times:1\n\
+SUM MinGreen K1 times:1\n\
+SUM Intergreen K2 K1 times:1\n";
+
+const TABLE: &str = "second,rule,group,other,shown,since,seconds,needed\n\
+15,MinGreen,K1,,G,13,2,10\n\
+17,Sequence,K1,,AU,,,\n\
+18,Sequence,K1,,UR,,,\n\
+18,Intergreen,K2,K1,,15,3,5\n";
+
+// What a call told: its status, what it wrote, and its note.
+#[derive(Drop)]
+struct Told {
+    status: Status,
+    out: MemSink,
+    notes: MemSink,
+}
+
+// Calls `log_report breaches` over this log and this table of intergreens, with these options.
+fn call(alloc: Global, log: &str, pairs: &[u8], options: &[&str]) -> Result<Told, Fail> {
+    let files = vec![in alloc;
+        (String::from_str(alloc, "l")?, log.as_bytes().to_vec(alloc)?),
+        (String::from_str(alloc, "p")?, TWO_STAGES.to_vec(alloc)?),
+        (String::from_str(alloc, "t")?, TIMES.to_vec(alloc)?),
+        (String::from_str(alloc, "i")?, pairs.to_vec(alloc)?),
+    ]?;
+    let mut files = MemFiles::new(files, Vec::new(alloc), 4096);
+    let mut list = Vec::new(alloc);
+    for word in ["breaches", "l", "p", "t", "i"] {
+        list.push(String::from_str(alloc, word)?)?;
+    }
+    for word in options {
+        list.push(String::from_str(alloc, word)?)?;
+    }
+    let mut out = MemSink::new(alloc, 65536, Vec::new(alloc))?;
+    let mut notes = MemSink::new(alloc, 4096, Vec::new(alloc))?;
+    let status = report_breaches(alloc, &list, &mut files, &mut out, &mut notes);
+    Ok(Told { status, out, notes })
+}
+
+#[test]
+fn a_part_in_words(rt: HostRuntime) -> Result<(), Fail> {
+    let told = call(rt.alloc(), PART, INTERGREENS, &[])?;
+    assert_eq!(rt; told.status, Status::Broken);
+    assert_eq!(rt; told.out.bytes(), WORDS.as_bytes());
+    assert_eq!(rt; told.notes.bytes(), b"".as_slice());
+    Ok(())
+}
+
+#[test]
+fn a_part_as_a_table_with_a_tolerance(rt: HostRuntime) -> Result<(), Fail> {
+    let told = call(
+        rt.alloc(),
+        PART,
+        INTERGREENS,
+        &["--csv", "--amber-tolerance", "1"],
+    )?;
+    assert_eq!(rt; told.status, Status::Broken);
+    assert_eq!(rt; told.out.bytes(), TABLE.as_bytes());
+    Ok(())
+}
+
+#[test]
+fn a_log_without_a_record(rt: HostRuntime) -> Result<(), Fail> {
+    let told = call(rt.alloc(), "VAPLOG 1 K1 K2\n", INTERGREENS, &[])?;
+    assert_eq!(rt; told.status, Status::Done);
+    assert_eq!(rt; told.out.bytes(), b"SECONDS 0\nBREACHES 0\n".as_slice());
+    Ok(())
+}
+
+#[test]
+fn a_gap_in_the_seconds(rt: HostRuntime) -> Result<(), Fail> {
+    let told = call(
+        rt.alloc(),
+        "VAPLOG 1 K1 K2\n11|-|RR|\n13|-|RR|\n",
+        INTERGREENS,
+        &[],
+    )?;
+    assert_eq!(rt; told.status, Status::Refused);
+    assert_eq!(rt; told.out.bytes(), b"".as_slice());
+    assert_eq!(rt; told.notes.bytes(), b"log_report: l:3: Line\n".as_slice());
+    Ok(())
+}
+
+#[test]
+fn a_pair_that_is_listed_one_way(rt: HostRuntime) -> Result<(), Fail> {
+    let told = call(rt.alloc(), PART, ONE_WAY, &[])?;
+    assert_eq!(rt; told.status, Status::Refused);
+    assert_eq!(rt;
+        told.notes.bytes(),
+        b"log_report: i:2: OneWay K1 K2\n".as_slice()
+    );
+    Ok(())
+}
+
+#[test]
+fn ten_seconds_of_tolerance(rt: HostRuntime) -> Result<(), Fail> {
+    let told = call(rt.alloc(), PART, INTERGREENS, &["--amber-tolerance", "10"])?;
+    assert_eq!(rt; told.status, Status::Words);
+    assert_eq!(rt; told.notes.bytes(), b"log_report: Words\n".as_slice());
+    Ok(())
+}

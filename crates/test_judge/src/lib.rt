@@ -1,0 +1,5 @@
+//! Tests alone, of what is told of a log that is judged by a site: whole calls, with all that they write.
+#![tactic(auto)]
+
+#[cfg(test)]
+mod breaches;
