@@ -48,8 +48,16 @@ _vantulig_log_report()
 {
     local cur=${COMP_WORDS[COMP_CWORD]}
     case $COMP_CWORD in
-        1) COMPREPLY=($(compgen -W "diagram text sums --help --version" -- "$cur")) ;;
+        1) COMPREPLY=($(compgen -W "diagram text sums breaches --help --version" -- "$cur")) ;;
         2) _vantulig_files log ;;
+        *)
+            [ "${COMP_WORDS[1]}" = breaches ] || return
+            case $COMP_CWORD in
+                3) _vantulig_files pua ;;
+                4 | 5) _vantulig_files csv ;;
+                *) COMPREPLY=($(compgen -W "--amber-tolerance --csv" -- "$cur")) ;;
+            esac
+            ;;
     esac
 }
 
