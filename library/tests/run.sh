@@ -1,7 +1,7 @@
 #!/bin/sh
 # run.sh REPOSITORY JUNCTION BUILD: the tests of the library that `make test` built, in C under the address, undefined behaviour
 # and thread sanitizers and under valgrind, in C and C++ from the shared library, in Python from the wheel, and as units of FMI
-# 3.0, against the logs and notes of the built program JUNCTION.
+# 3.0, against the logs and notes of the built program JUNCTION, and where VECTORS names folders of vectors, against these.
 set -e
 here=$(cd "$(dirname "$0")/.." && pwd); repository=$1; junction=$2; build=$3; bin=$build/bin; logs=$build/logs
 if [ ! -x "$junction" ]; then
@@ -38,6 +38,12 @@ ${PYTHON:-/usr/bin/python3} -m venv --system-site-packages "$build/venv"
 "$build/venv/bin/pip" install -q --no-index --no-deps "$build"/vantulig-*.whl
 export EXAMPLES="$repository/crates/junction/examples" LOGS="$logs"
 (cd "$build" && "$build/venv/bin/python3" -m unittest discover -s "$here/python/tests" 2>&1)
+echo 'const char *junction_version(void) { return "0.0.0"; }' | cc -shared -fPIC -x c - -o "$build/other.so"
+if VANTULIG="$build/other.so" "$build/venv/bin/python3" -c 'import vantulig; vantulig.Controller(b"", b"", b"", b"")' 2> "$build/said"; then
+    echo "WRONG: a library of another version is taken"; exit 1
+fi
+grep 'ImportError: .*has version 0.0.0' "$build/said" > /dev/null || { cat "$build/said"; exit 1; }
+if [ -n "$VECTORS" ]; then "$build/venv/bin/python3" "$here/tests/vectors.py" $VECTORS; fi
 for words in "$logs"/*.words; do
     set -- $(cat "$words"); name=$(basename "$words" .words); printf '%s: ' "$name"
     python3 "$here/fmi/make_fmu.py" "$build/$name.fmu" "$build" "$1" "$2" "$3" "$4"
