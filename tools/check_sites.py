@@ -56,7 +56,7 @@ def log_of(given, row, folder):
 def untold_of(text, notes):
     """The findings of junction_check that notes.txt doesn't tell already: pairs of groups that may be green at once do."""
     pairs = {frozenset(pair) for pair in re.findall(r"^(?:no conflict|permitted): (\w+) and (\w+),", notes, re.MULTILINE)}
-    lines = [line for line in text.splitlines() if not line.startswith((" ", "files refused: "))]
+    lines = [line for line in text.splitlines() if not line.startswith((" ", "worst case: ", "files refused: "))]
     return [line for line in lines if not any(frozenset(pair) in pairs for pair in APART.findall(line))]
 
 

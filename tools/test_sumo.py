@@ -204,7 +204,7 @@ class Findings(unittest.TestCase):
         text = f"{apart}\n  K4 4\n  ^^\n{apart.replace('K4', 'K5')}\nfiles refused: 0, warnings: 2\n"
         notes = "no conflict: K1 and K4, though no stage has both green\npermitted: K5 and K6, green together in phases 1"
         self.assertEqual(check_sites.untold_of(text, notes), [apart.replace("K4", "K5")])
-        self.assertEqual(check_sites.untold_of("files refused: 0, warnings: 0\n", ""), [])
+        self.assertEqual(check_sites.untold_of("worst case: 9 s\nfiles refused: 0, warnings: 0\n", ""), [])
 
 
 class ManyStages(unittest.TestCase):

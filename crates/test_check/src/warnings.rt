@@ -5,37 +5,37 @@ use std::test::Fail;
 const OF_PROGRAMS: [Case<'static>; 7] = [
     Case {
         program: b"PROGRAM p;\nwish := 0;\nIF wihs THEN\n  Interstage(1, 2) END;\nIF Detection(1) AND wihs THEN x := 1 END;\nPROG_ENDE: .\n",
-        text: b"p.vap:3: unassigned-variable: the variable `wihs` is read and never assigned, so it is always 0\n  IF wihs THEN\n     ^^^^\nfiles refused: 0, warnings: 1\n",
+        text: b"p.vap:3: unassigned-variable: the variable `wihs` is read and never assigned, so it is always 0\n  IF wihs THEN\n     ^^^^\nworst case: 16 s from a wish to what is shown (K2: minimum green of K1 and intergreen from it)\nfiles refused: 0, warnings: 1\n",
         ..WARNED
     },
     Case {
         program: b"PROGRAM p;\nCONST cars = 9;\nIF Detection(1) AND Current_state(cars, green) AND\n  T_red(3) > 1 THEN\n  Sg_red(2) END;\nPROG_ENDE: .\n",
-        text: b"p.vap:3: unknown-group: the plan has no signal group with the number 9; groups go by their numbers in the PUA file\n  IF Detection(1) AND Current_state(cars, green) AND\n                                    ^^^^\np.vap:4: unknown-group: the plan has no signal group with the number 3; groups go by their numbers in the PUA file\n    T_red(3) > 1 THEN\n          ^\nfiles refused: 0, warnings: 2\n",
+        text: b"p.vap:3: unknown-group: the plan has no signal group with the number 9; groups go by their numbers in the PUA file\n  IF Detection(1) AND Current_state(cars, green) AND\n                                    ^^^^\np.vap:4: unknown-group: the plan has no signal group with the number 3; groups go by their numbers in the PUA file\n    T_red(3) > 1 THEN\n          ^\nworst case: 16 s from a wish to what is shown (K2: minimum green of K1 and intergreen from it)\nfiles refused: 0, warnings: 2\n",
         ..WARNED
     },
     Case {
         program: b"PROGRAM p;\nIF Detection(1) AND\n  T_red(3) > 1 THEN Sg_red(2) END;\nPROG_ENDE: .\n",
-        text: b"p.vap:2: unknown-group: the plan has no signal group with the number 3; groups go by their numbers in the PUA file\n  IF Detection(1) AND\n  ^^^^^^^^^^^^^^^^^^^\nfiles refused: 0, warnings: 1\n",
+        text: b"p.vap:2: unknown-group: the plan has no signal group with the number 3; groups go by their numbers in the PUA file\n  IF Detection(1) AND\n  ^^^^^^^^^^^^^^^^^^^\nworst case: 16 s from a wish to what is shown (K2: minimum green of K1 and intergreen from it)\nfiles refused: 0, warnings: 1\n",
         ..WARNED
     },
     Case {
         program: b"PROGRAM p;\nIF Detection(1) AND Stage_active(3) THEN Interstage(0, 2) END;\nPROG_ENDE: .\n",
-        text: b"p.vap:2: unknown-stage: the plan has no stage 3; stages go by their places in the PUA file, from 1\n  IF Detection(1) AND Stage_active(3) THEN Interstage(0, 2) END;\n                                   ^\np.vap:2: unknown-stage: the plan has no stage 0; stages go by their places in the PUA file, from 1\n  IF Detection(1) AND Stage_active(3) THEN Interstage(0, 2) END;\n                                                      ^\nfiles refused: 0, warnings: 2\n",
+        text: b"p.vap:2: unknown-stage: the plan has no stage 3; stages go by their places in the PUA file, from 1\n  IF Detection(1) AND Stage_active(3) THEN Interstage(0, 2) END;\n                                   ^\np.vap:2: unknown-stage: the plan has no stage 0; stages go by their places in the PUA file, from 1\n  IF Detection(1) AND Stage_active(3) THEN Interstage(0, 2) END;\n                                                      ^\nworst case: 16 s from a wish to what is shown (K2: minimum green of K1 and intergreen from it)\nfiles refused: 0, warnings: 2\n",
         ..WARNED
     },
     Case {
         program: b"PROGRAM p;\nIF Detection(1) THEN\n  Clear_front_ends(65) END;\nPROG_ENDE: .\n",
-        text: b"p.vap:3: unknown-detector: 65 is no detector; they have the numbers 1 to 64\n    Clear_front_ends(65) END;\n                     ^^\nfiles refused: 0, warnings: 1\n",
+        text: b"p.vap:3: unknown-detector: 65 is no detector; they have the numbers 1 to 64\n    Clear_front_ends(65) END;\n                     ^^\nworst case: 16 s from a wish to what is shown (K2: minimum green of K1 and intergreen from it)\nfiles refused: 0, warnings: 1\n",
         ..WARNED
     },
     Case {
         program: b"PROGRAM p;\nIF Detection(1) THEN Interstage(2, 2) END;\nPROG_ENDE: .\n",
-        text: b"p.vap:2: missing-interstage: the plan has no interstage from stage 2 to stage 2\n  IF Detection(1) THEN Interstage(2, 2) END;\n                                  ^\nfiles refused: 0, warnings: 1\n",
+        text: b"p.vap:2: missing-interstage: the plan has no interstage from stage 2 to stage 2\n  IF Detection(1) THEN Interstage(2, 2) END;\n                                  ^\nworst case: 16 s from a wish to what is shown (K2: minimum green of K1 and intergreen from it)\nfiles refused: 0, warnings: 1\n",
         ..WARNED
     },
     Case {
         program: b"PROGRAM p;\nIF Detection(1) THEN x := Headway(12) END;\ny := Occupancy(12);\nPROG_ENDE: .\n",
-        text: b"p.vap:2: silent-detector: the program reads detector 12, and the detector file never has it\n  IF Detection(1) THEN x := Headway(12) END;\n                                    ^^\nfiles refused: 0, warnings: 1\n",
+        text: b"p.vap:2: silent-detector: the program reads detector 12, and the detector file never has it\n  IF Detection(1) THEN x := Headway(12) END;\n                                    ^^\nworst case: 16 s from a wish to what is shown (K2: minimum green of K1 and intergreen from it)\nfiles refused: 0, warnings: 1\n",
         ..WARNED
     },
 ];
@@ -92,6 +92,7 @@ p.pua:16: late-red-end: in the interstage from stage 1 to stage 2 the red of K2 
 p.pua:17: interstage-not-clean: the interstage from stage 2 to stage 1 is not carried out as it stands: in its second 2 the guard refuses K1:Intergreen:K2
   $INTERSTAGE2
   ^^^^^^^^^^^^
+worst case: 16 s from a wish to what is shown (K2: minimum green of K1 and intergreen from it)
 files refused: 0, warnings: 7
 ",
     ..WARNED
@@ -141,6 +142,7 @@ g.csv:2: short-intergreen: the intergreen from K1 to K2 is 2 seconds, and the am
 p.pua:23: late-red-end: in the interstage from stage 2 to stage 1 the red of K1 ends in second 6, where by red-amber and intergreens second 3 would do
   K1 6 127
   ^^
+worst case: 14 s from a wish to what is shown (K1: its minimum green and amber)
 files refused: 0, warnings: 4
 ",
     ..WARNED
