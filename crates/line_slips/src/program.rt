@@ -1,0 +1,155 @@
+// Slips in the text of a program.
+use crate::bytes::{begins, is_digit, is_word_byte};
+use crate::slip::{ByteSlip, TokenSlip};
+use crate::words::{is_condition_open, is_one_of, word_after, word_before};
+
+const ELSE_IFS: [&[u8]; 4] = [b"ELSEIF", b"ELSIF", b"ELIF", b"ELSE_IF"];
+
+const END_IFS: [&[u8]; 3] = [b"ENDIF", b"END_IF", b"FI"];
+
+const LOOPS: [&[u8]; 9] = [
+    b"WHILE", b"FOR", b"REPEAT", b"UNTIL", b"LOOP", b"DO", b"SWITCH", b"CASE", b"FOREACH",
+];
+
+const OPERATORS: [&[u8]; 4] = [b"AND", b"OR", b"NOT", b"IF"];
+
+// What a byte that begins no token is likely to be.
+fn of_byte(b: u8) -> Option<ByteSlip> {
+    match b {
+        0 => Some(ByteSlip::ZeroByte),
+        b'!' => Some(ByteSlip::NotEqual),
+        b'{' | b'}' => Some(ByteSlip::Braces),
+        b'"' | b'\'' => Some(ByteSlip::Quotes),
+        b'&' | b'|' => Some(ByteSlip::AndOr),
+        b'$' => Some(ByteSlip::PlanAsProgram),
+        _ if b > 126 => Some(ByteSlip::BeyondAscii),
+        _ => None,
+    }
+}
+
+/// Of a line with a byte that begins no token: by its first byte outside comments that begins none.
+pub fn byte_slip(line: &[u8]) -> Option<ByteSlip> {
+    let mut in_comment = false;
+    let mut last = 0u8;
+    for b in line {
+        if in_comment {
+            in_comment = !(last == b'*' && *b == b'/');
+        } else if last == b'/' && *b == b'*' {
+            in_comment = true;
+        } else if let Some(slip) = of_byte(*b) {
+            return Some(slip);
+        }
+        last = *b;
+    }
+    None
+}
+
+// Whether one token goes on from this byte to that one.
+fn is_inside(last: u8, b: u8) -> bool {
+    (is_word_byte(last) && is_word_byte(b))
+        || (b == b'=' && (last == b':' || last == b'<' || last == b'>'))
+        || (b == b'>' && last == b'<')
+}
+
+// Whether a text has no token at its beginning, where this byte stands before it.
+fn has_ended(last: u8, rest: &[u8]) -> bool {
+    match rest {
+        [] => true,
+        [b, ..] => b.is_ascii_whitespace() || is_inside(last, *b) || begins(rest, b"/*"),
+    }
+}
+
+fn last_byte(text: &[u8]) -> u8 {
+    match text.last() {
+        Some(b) => *b,
+        None => 0,
+    }
+}
+
+// Whether a value is wanted behind a text that ends with this byte and this word.
+fn wants_value(last: u8, word: &[u8]) -> bool {
+    matches!(
+        last,
+        b'=' | b'<' | b'>' | b'+' | b'-' | b'*' | b'/' | b'(' | b'['
+    ) || is_one_of(word, &OPERATORS)
+}
+
+// By the words before and at a token.
+fn of_words(before: &[u8], word: &[u8]) -> Option<TokenSlip> {
+    if is_one_of(before, &ELSE_IFS) || is_one_of(word, &ELSE_IFS) {
+        Some(TokenSlip::ElseIf)
+    } else if is_one_of(before, &END_IFS)
+        || is_one_of(word, &END_IFS)
+        || (before.eq_ignore_ascii_case(b"END") && word.eq_ignore_ascii_case(b"IF"))
+    {
+        Some(TokenSlip::EndIf)
+    } else if is_one_of(before, &LOOPS) || is_one_of(word, &LOOPS) {
+        Some(TokenSlip::Loop)
+    } else {
+        None
+    }
+}
+
+// Whether a text ends with a digit and a comma, blanks aside.
+fn ends_with_decimal(before: &[u8]) -> bool {
+    match before {
+        [.., digit, b','] => is_digit(*digit),
+        _ => false,
+    }
+}
+
+// By the signs before and at a token.
+fn of_signs(before: &[u8], rest: &[u8]) -> Option<TokenSlip> {
+    let last = last_byte(before);
+    if begins(rest, b"//") || (last == b'/' && begins(rest, b"/")) {
+        Some(TokenSlip::SlashComment)
+    } else if begins(rest, b"=") && last == b'=' {
+        Some(TokenSlip::DoubleEqual)
+    } else if begins(rest, b"=") {
+        Some(TokenSlip::EqualForAssign)
+    } else if ends_with_decimal(before) && rest.first().is_some_and(|b| is_digit(*b)) {
+        Some(TokenSlip::DecimalComma)
+    } else if begins(rest, b"(") && is_word_byte(last) {
+        Some(TokenSlip::UnknownCall)
+    } else {
+        None
+    }
+}
+
+// By what is wanted behind the text before a token.
+fn of_wanted(before: &[u8], word: &[u8]) -> Option<TokenSlip> {
+    if wants_value(last_byte(before), word_before(before)) {
+        Some(TokenSlip::ValueMissing)
+    } else if word.eq_ignore_ascii_case(b"PROG_ENDE") {
+        Some(TokenSlip::EndMissing)
+    } else if !word.is_empty() && is_condition_open(before) {
+        Some(TokenSlip::ThenMissing)
+    } else {
+        None
+    }
+}
+
+// By the signs, and then by what is wanted.
+fn of_signs_and_wants(before: &[u8], rest: &[u8], word: &[u8]) -> Option<TokenSlip> {
+    match of_signs(before, rest) {
+        Some(slip) => Some(slip),
+        None => of_wanted(before, word),
+    }
+}
+
+/// Of a text with which there is no program from the token at this place on.
+pub fn token_slip(text: &[u8], place: u32) -> Option<TokenSlip> {
+    let (before, rest) = text.split_at((place as usize).min(text.len()));
+    if text.trim_ascii().is_empty() {
+        return Some(TokenSlip::EmptyProgram);
+    }
+    if has_ended(last_byte(before), rest) {
+        return Some(TokenSlip::TextEnds);
+    }
+    let before = before.trim_ascii_end();
+    let word = word_after(rest);
+    match of_words(word_before(before), word) {
+        Some(slip) => Some(slip),
+        None => of_signs_and_wants(before, rest, word),
+    }
+}

@@ -1,0 +1,493 @@
+// The sentences of slips: what a mistake is likely to be, and what to do.
+use crate::finding::{FileKind, Refusal};
+use crate::sentences::{Sentences, sentences_of};
+use det_stream::StreamWhy;
+use line_slips::{
+    ByteSlip, EntrySlip, PlanSlip, Table, TableSlip, TokenSlip, again_slip, byte_slip, entry_slip,
+    header_slip, name_slip, names_in, number_slip, row_slip, section_slip, token_slip,
+};
+use pua_reader::PuaWhy;
+use sig_tables::TableWhy;
+use vap_lex::LexWhy;
+use vap_parse::ParseWhy;
+
+static PROGRAM_AS_PLAN: Sentences = Sentences {
+    means: b"a program stands in the place of the PUA file",
+    often: b"",
+    cure: b"`junction_check PROGRAM PUA TIMES INTERGREENS [DETECTORS]`",
+};
+
+static TABLE_AS_PLAN: Sentences = Sentences {
+    means: b"a table stands in the place of the PUA file",
+    often: b"",
+    cure: b"`junction_check PROGRAM PUA TIMES INTERGREENS [DETECTORS]`",
+};
+
+static COMMENT_SIGN: Sentences = Sentences {
+    means: b"no row of its section; a comment of a PUA file begins with `$`, and with no other sign",
+    often: b"",
+    cure: b"begin it with `$` and a blank",
+};
+
+static DECIMAL_SECONDS: Sentences = Sentences {
+    means: b"a decimal; the seconds of a PUA file are whole numbers",
+    often: b"",
+    cure: b"the next whole second",
+};
+
+static SECOND_KEY: Sentences = Sentences {
+    means: b"a second `length`, `from` or `to`, so the `$INTERSTAGE` above is missing or misspelt and is a comment; or \
+             no whole number behind it",
+    often: b"",
+    cure: b"`$INTERSTAGE2` above; `length: 6`, `from stage: 1`, `to stage: 2`",
+};
+
+static ONE_NUMBER: Sentences = Sentences {
+    means: b"the row of this group has one number, and it needs two numbers: the seconds R and E in which its red and \
+             its green end",
+    often: b"",
+    cure: b"ending group `-127 E`, starting group `R 127`",
+};
+
+static LONE_STAGE: Sentences = Sentences {
+    means: b"the name stands above already, and it stands alone: the `$STARTING_STAGE` above is missing or misspelt and \
+             is a comment",
+    often: b"",
+    cure: b"look at the `$` line above",
+};
+
+static GROUP_AGAIN: Sentences = Sentences {
+    means: b"has a name or a number that stands above already",
+    often: b"",
+    cure: b"each group has a name and a number of its own",
+};
+
+static SEMICOLONS: Sentences = Sentences {
+    means: b"the fields are parted by `;`, and have to be by `,`",
+    often: b"a table program with a German setting saved it",
+    cure: b"save it with `,`, or exchange each `;`",
+};
+
+static MATRIX: Sentences = Sentences {
+    means: b"a matrix, where a list of pairs has to stand: one record `from,to,seconds` for each two groups, both ways",
+    often: b"",
+    cure: b"`tools/intergreens_from_matrix.py` makes the list",
+};
+
+static PAIRS_AS_TIMES: Sentences = Sentences {
+    means: b"the table of intergreens stands in the place of the table of times",
+    often: b"",
+    cure: b"`junction_check PROGRAM PUA TIMES INTERGREENS [DETECTORS]`",
+};
+
+static TIMES_AS_PAIRS: Sentences = Sentences {
+    means: b"the table of times stands in the place of the table of intergreens",
+    often: b"",
+    cure: b"`junction_check PROGRAM PUA TIMES INTERGREENS [DETECTORS]`",
+};
+
+static OTHER_WORDS: Sentences = Sentences {
+    means: b"the first record isn't the header, word for word: other columns or another language",
+    often: b"blanks after the commas, columns in another order, UTF-16, an empty file",
+    cure: b"`group,min_green,red_amber,amber`, with `,min_red` or without; `from,to,seconds`",
+};
+
+static BLANK_IN_RECORD: Sentences = Sentences {
+    means: b"a group that the PUA file doesn't have",
+    often: b"a blank in the field",
+    cure: b"names as in `$SIGNAL_GROUPS`, without blanks around them",
+};
+
+static NO_SUCH_GROUP: Sentences = Sentences {
+    means: b"names a group that the PUA file doesn't have",
+    often: b"",
+    cure: b"names as in `$SIGNAL_GROUPS`, in upper and lower case too",
+};
+
+static MINIMUM_GREEN: Sentences = Sentences {
+    means: b"the minimum green has to be a whole number, 1 to 255",
+    often: b"`05`, a decimal, a blank, 0",
+    cure: b"the second field: 1 to 255",
+};
+
+static RED_AMBER: Sentences = Sentences {
+    means: b"the red-amber has to be a whole number, 0 to 9",
+    often: b"a decimal; the columns exchanged",
+    cure: b"the third field: 0 to 9",
+};
+
+static AMBER: Sentences = Sentences {
+    means: b"the amber has to be a whole number, 0 to 9",
+    often: b"a decimal; the columns exchanged",
+    cure: b"the fourth field: 0 to 9",
+};
+
+static MINIMUM_RED: Sentences = Sentences {
+    means: b"the minimum red has to be a whole number, 1 to 255",
+    often: b"`05`, a decimal, a blank, 0",
+    cure: b"the fifth field: 1 to 255",
+};
+
+static INTERGREEN: Sentences = Sentences {
+    means: b"the intergreen has to be a whole number, 0 to 99",
+    often: b"a decimal, a blank, `05`",
+    cure: b"the third field: 0 to 99",
+};
+
+static PLAN_AS_PROGRAM: Sentences = Sentences {
+    means: b"`$` begins no token; a PUA file stands in the place of the program",
+    often: b"",
+    cure: b"`junction_check PROGRAM PUA TIMES INTERGREENS [DETECTORS]`",
+};
+
+static NOT_EQUAL: Sentences = Sentences {
+    means: b"`!` begins no token; what differs is written `<>`",
+    often: b"",
+    cure: b"`<>`",
+};
+
+static BRACES: Sentences = Sentences {
+    means: b"a brace begins no token; a comment is written `/* .. */`",
+    often: b"",
+    cure: b"`/* .. */`",
+};
+
+static QUOTES: Sentences = Sentences {
+    means: b"a quote begins no token; the language has no texts",
+    often: b"",
+    cure: b"numbers: groups and stages go by theirs",
+};
+
+static AND_OR: Sentences = Sentences {
+    means: b"`&` and `|` begin no token; they are written `AND` and `OR`",
+    often: b"",
+    cure: b"`AND`, `OR`",
+};
+
+static BEYOND_ASCII: Sentences = Sentences {
+    means: b"a letter or a sign beyond ASCII, outside a comment",
+    often: b"an umlaut, a long dash, a blank that can't be broken",
+    cure: b"names of the letters A to Z, digits and `_`",
+};
+
+static ZERO_BYTE: Sentences = Sentences {
+    means: b"a byte 0 stands in the line",
+    often: b"a file in UTF-16; a broken copy",
+    cure: b"save it as ASCII or UTF-8",
+};
+
+static EMPTY_PROGRAM: Sentences = Sentences {
+    means: b"the program is empty",
+    often: b"",
+    cure: b"`PROGRAM name;`, statements, `PROG_ENDE: .`",
+};
+
+static TEXT_ENDS: Sentences = Sentences {
+    means: b"the text ends here, and `PROG_ENDE: .` is missing",
+    often: b"a copy that was cut off",
+    cure: b"`PROG_ENDE: .` as the last line",
+};
+
+static ELSE_IF: Sentences = Sentences {
+    means: b"`ELSEIF` and the like are no words of the language",
+    often: b"",
+    cure: b"`ELSE`, `IF`, and an `END` more",
+};
+
+static END_IF: Sentences = Sentences {
+    means: b"`ENDIF` and the like are no words of the language",
+    often: b"",
+    cure: b"`END`",
+};
+
+static LOOP: Sentences = Sentences {
+    means: b"`WHILE`, `FOR` and other loops are no words of the language: a program runs once in each second",
+    often: b"",
+    cure: b"`IF`, and a variable for what has to last",
+};
+
+static SLASH_COMMENT: Sentences = Sentences {
+    means: b"`//` begins no comment; a comment is written `/* .. */`",
+    often: b"",
+    cure: b"`/* .. */`",
+};
+
+static DOUBLE_EQUAL: Sentences = Sentences {
+    means: b"`==` is no sign; two values are compared with `=`",
+    often: b"",
+    cure: b"`=`",
+};
+
+static EQUAL_FOR_ASSIGN: Sentences = Sentences {
+    means: b"`=` compares; a variable is assigned with `:=`",
+    often: b"",
+    cure: b"`:=`",
+};
+
+static DECIMAL_COMMA: Sentences = Sentences {
+    means: b"`2,5` is no number; numbers are whole, and behind the comma a name is wanted",
+    often: b"",
+    cure: b"whole seconds; or tenths, compared with ten times the reading",
+};
+
+static VALUE_MISSING: Sentences = Sentences {
+    means: b"a value is wanted here, behind an operator or a bracket: a number, a name or a reading. `THEN` and other \
+             words of the language are none",
+    often: b"",
+    cure: b"write the value, or take the operator out",
+};
+
+static THEN_MISSING: Sentences = Sentences {
+    means: b"the `THEN` of the `IF` before is missing",
+    often: b"",
+    cure: b"`IF test THEN .. END`",
+};
+
+static END_MISSING: Sentences = Sentences {
+    means: b"an `IF` above has no `END`: it is open where the program ends",
+    often: b"",
+    cure: b"count `IF` and `END`; each `IF` has one `END`",
+};
+
+static UNKNOWN_CALL: Sentences = Sentences {
+    means: b"the word before the bracket is no command and no reading",
+    often: b"a misspelt word, or one of another system",
+    cure: b"the words stand in language.md; what is left out in profile.md",
+};
+
+static TWO_BLANKS: Sentences = Sentences {
+    means: b"two spaces part the entries, where one has to",
+    often: b"",
+    cure: b"one space between entries",
+};
+
+static BLANK_AT_END: Sentences = Sentences {
+    means: b"a space stands at the end of the line",
+    often: b"",
+    cure: b"no space at the end of a line",
+};
+
+static COMMAS: Sentences = Sentences {
+    means: b"the three numbers of an entry are parted by `,`, and have to be by `:`",
+    often: b"",
+    cure: b"`detector:fronts:rears`",
+};
+
+static TWO_NUMBERS: Sentences = Sentences {
+    means: b"an entry has two numbers, and needs three: the rears are missing",
+    often: b"",
+    cure: b"`detector:fronts:rears`",
+};
+
+static HEADINGS: Sentences = Sentences {
+    means: b"the line has words; the file has no row of headings and no comments",
+    often: b"",
+    cure: b"take it out: the first line is second 1",
+};
+
+fn of_plan(slip: PlanSlip) -> &'static Sentences {
+    match slip {
+        PlanSlip::ProgramAsPlan => &PROGRAM_AS_PLAN,
+        PlanSlip::TableAsPlan => &TABLE_AS_PLAN,
+        PlanSlip::CommentSign => &COMMENT_SIGN,
+        PlanSlip::DecimalSeconds => &DECIMAL_SECONDS,
+        PlanSlip::SecondKey => &SECOND_KEY,
+        PlanSlip::OneNumber => &ONE_NUMBER,
+        PlanSlip::LoneStage => &LONE_STAGE,
+        PlanSlip::GroupAgain => &GROUP_AGAIN,
+    }
+}
+
+fn of_table(slip: TableSlip) -> &'static Sentences {
+    match slip {
+        TableSlip::Semicolons => &SEMICOLONS,
+        TableSlip::Matrix => &MATRIX,
+        TableSlip::PairsAsTimes => &PAIRS_AS_TIMES,
+        TableSlip::TimesAsPairs => &TIMES_AS_PAIRS,
+        TableSlip::OtherWords => &OTHER_WORDS,
+        TableSlip::BlankInRecord => &BLANK_IN_RECORD,
+        TableSlip::NoSuchGroup => &NO_SUCH_GROUP,
+        TableSlip::MinimumGreen => &MINIMUM_GREEN,
+        TableSlip::RedAmber => &RED_AMBER,
+        TableSlip::Amber => &AMBER,
+        TableSlip::MinimumRed => &MINIMUM_RED,
+        TableSlip::Intergreen => &INTERGREEN,
+    }
+}
+
+fn of_byte(slip: ByteSlip) -> &'static Sentences {
+    match slip {
+        ByteSlip::PlanAsProgram => &PLAN_AS_PROGRAM,
+        ByteSlip::NotEqual => &NOT_EQUAL,
+        ByteSlip::Braces => &BRACES,
+        ByteSlip::Quotes => &QUOTES,
+        ByteSlip::AndOr => &AND_OR,
+        ByteSlip::BeyondAscii => &BEYOND_ASCII,
+        ByteSlip::ZeroByte => &ZERO_BYTE,
+    }
+}
+
+fn of_token(slip: TokenSlip) -> &'static Sentences {
+    match slip {
+        TokenSlip::EmptyProgram => &EMPTY_PROGRAM,
+        TokenSlip::TextEnds => &TEXT_ENDS,
+        TokenSlip::ElseIf => &ELSE_IF,
+        TokenSlip::EndIf => &END_IF,
+        TokenSlip::Loop => &LOOP,
+        TokenSlip::SlashComment => &SLASH_COMMENT,
+        TokenSlip::DoubleEqual => &DOUBLE_EQUAL,
+        TokenSlip::EqualForAssign => &EQUAL_FOR_ASSIGN,
+        TokenSlip::DecimalComma => &DECIMAL_COMMA,
+        TokenSlip::ValueMissing => &VALUE_MISSING,
+        TokenSlip::ThenMissing => &THEN_MISSING,
+        TokenSlip::EndMissing => &END_MISSING,
+        TokenSlip::UnknownCall => &UNKNOWN_CALL,
+    }
+}
+
+fn of_entry(slip: EntrySlip) -> &'static Sentences {
+    match slip {
+        EntrySlip::TwoBlanks => &TWO_BLANKS,
+        EntrySlip::BlankAtEnd => &BLANK_AT_END,
+        EntrySlip::Commas => &COMMAS,
+        EntrySlip::TwoNumbers => &TWO_NUMBERS,
+        EntrySlip::Headings => &HEADINGS,
+    }
+}
+
+/// What is told of a reason: a part of its line, which may be empty, and sentences.
+#[derive(Drop)]
+pub(crate) struct Said<'a> {
+    pub(crate) quoted: &'a [u8],
+    pub(crate) sentences: &'static Sentences,
+}
+
+// Sentences with nothing quoted before them.
+fn plain<'a>(sentences: &'static Sentences) -> Said<'a> {
+    Said {
+        quoted: &[],
+        sentences,
+    }
+}
+
+// Of a line of a PUA file: a group's row is quoted.
+fn said_of_plan<'a>(slip: PlanSlip, line: &'a [u8]) -> Said<'a> {
+    match slip {
+        PlanSlip::OneNumber | PlanSlip::GroupAgain => Said {
+            quoted: line.trim_ascii(),
+            sentences: of_plan(slip),
+        },
+        PlanSlip::ProgramAsPlan
+        | PlanSlip::TableAsPlan
+        | PlanSlip::CommentSign
+        | PlanSlip::DecimalSeconds
+        | PlanSlip::SecondKey
+        | PlanSlip::LoneStage => plain(of_plan(slip)),
+    }
+}
+
+// The slip of a line of a PUA file.
+fn plan_slip(why: &PuaWhy, line: &[u8]) -> Option<PlanSlip> {
+    match why {
+        PuaWhy::Section => section_slip(line),
+        PuaWhy::Row => row_slip(line),
+        PuaWhy::NameTwice => again_slip(line),
+        PuaWhy::NotText
+        | PuaWhy::UnknownName
+        | PuaWhy::Range
+        | PuaWhy::NoStart
+        | PuaWhy::PairTwice
+        | PuaWhy::Inconsistent {
+            inter: _,
+            group: _,
+            name: _,
+        }
+        | PuaWhy::Limit => None,
+    }
+}
+
+// Of a record: names that are no groups' are quoted.
+fn said_of_table<'a>(slip: TableSlip, record: &'a [u8]) -> Said<'a> {
+    if slip == TableSlip::NoSuchGroup {
+        return Said {
+            quoted: names_in(record),
+            sentences: of_table(slip),
+        };
+    }
+    plain(of_table(slip))
+}
+
+// The table that a file is; None for another file.
+fn table_in(file: FileKind) -> Option<Table> {
+    match file {
+        FileKind::Times => Some(Table::Times),
+        FileKind::Intergreens => Some(Table::Intergreens),
+        FileKind::Pua | FileKind::Program | FileKind::Detectors => None,
+    }
+}
+
+// The slip of a record.
+fn table_slip(why: TableWhy, table: Table, record: &[u8]) -> Option<TableSlip> {
+    match why {
+        TableWhy::Header => header_slip(table, record),
+        TableWhy::Number => number_slip(table, record),
+        TableWhy::UnknownName => name_slip(record),
+        TableWhy::Fields
+        | TableWhy::Twice
+        | TableWhy::Missing(_)
+        | TableWhy::OneWay(_, _)
+        | TableWhy::SelfConflict => None,
+    }
+}
+
+// The sentences of a program's slip; None where nothing is known of it.
+fn of_program(refusal: &Refusal, program: &[u8], line: &[u8]) -> Option<&'static Sentences> {
+    match refusal {
+        Refusal::Lex(LexWhy::Byte) => Some(of_byte(byte_slip(line)?)),
+        Refusal::Parse(ParseWhy::Unexpected(place)) => Some(of_token(token_slip(program, *place)?)),
+        Refusal::Stream(StreamWhy::Entry) => Some(of_entry(entry_slip(line)?)),
+        Refusal::Lex(_)
+        | Refusal::Parse(_)
+        | Refusal::Stream(_)
+        | Refusal::Pua(_)
+        | Refusal::Table(_)
+        | Refusal::Check(_)
+        | Refusal::Mark
+        | Refusal::TooLong => None,
+    }
+}
+
+// What is told of a slip; None where nothing is known of it.
+fn slip_said<'a>(
+    refusal: &Refusal,
+    file: FileKind,
+    program: &[u8],
+    line: &'a [u8],
+) -> Option<Said<'a>> {
+    match refusal {
+        Refusal::Pua(why) => Some(said_of_plan(plan_slip(why, line)?, line)),
+        Refusal::Table(why) => {
+            let slip = table_slip(*why, table_in(file)?, line)?;
+            Some(said_of_table(slip, line))
+        }
+        Refusal::Lex(_)
+        | Refusal::Parse(_)
+        | Refusal::Check(_)
+        | Refusal::Stream(_)
+        | Refusal::Mark
+        | Refusal::TooLong => Some(plain(of_program(refusal, program, line)?)),
+    }
+}
+
+/// What is told of a refusal: what its line shows of the mistake, else what the reason means.
+pub(crate) fn said_of<'a>(
+    refusal: &Refusal,
+    file: FileKind,
+    program: &[u8],
+    line: &'a [u8],
+) -> Said<'a> {
+    match slip_said(refusal, file, program, line) {
+        Some(said) => said,
+        None => plain(sentences_of(refusal)),
+    }
+}
