@@ -16,13 +16,13 @@ const OPERATORS: [&[u8]; 4] = [b"AND", b"OR", b"NOT", b"IF"];
 // What a byte that begins no token is likely to be.
 fn of_byte(b: u8) -> Option<ByteSlip> {
     match b {
-        0 => Some(ByteSlip::ZeroByte),
         b'!' => Some(ByteSlip::NotEqual),
         b'{' | b'}' => Some(ByteSlip::Braces),
         b'"' | b'\'' => Some(ByteSlip::Quotes),
         b'&' | b'|' => Some(ByteSlip::AndOr),
         b'$' => Some(ByteSlip::PlanAsProgram),
-        _ if b > 126 => Some(ByteSlip::BeyondAscii),
+        _ if b > 127 => Some(ByteSlip::BeyondAscii),
+        _ if b.is_ascii_control() && !b.is_ascii_whitespace() => Some(ByteSlip::ControlByte),
         _ => None,
     }
 }

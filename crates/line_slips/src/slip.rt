@@ -65,8 +65,8 @@ pub enum ByteSlip {
     AndOr,
     /// A byte beyond ASCII.
     BeyondAscii,
-    /// A byte 0.
-    ZeroByte,
+    /// A control byte.
+    ControlByte,
 }
 
 /// What the mistake is likely to be where there is no program with a token.

@@ -170,8 +170,8 @@ static BEYOND_ASCII: Sentences = Sentences {
     cure: b"names of the letters A to Z, digits and `_`",
 };
 
-static ZERO_BYTE: Sentences = Sentences {
-    means: b"a byte 0 stands in the line",
+static CONTROL_BYTE: Sentences = Sentences {
+    means: b"a control byte, as a byte 0, stands in the line",
     often: b"a file in UTF-16; a broken copy",
     cure: b"save it as ASCII or UTF-8",
 };
@@ -323,7 +323,7 @@ fn of_byte(slip: ByteSlip) -> &'static Sentences {
         ByteSlip::Quotes => &QUOTES,
         ByteSlip::AndOr => &AND_OR,
         ByteSlip::BeyondAscii => &BEYOND_ASCII,
-        ByteSlip::ZeroByte => &ZERO_BYTE,
+        ByteSlip::ControlByte => &CONTROL_BYTE,
     }
 }
 
