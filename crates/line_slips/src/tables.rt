@@ -1,4 +1,6 @@
 // Slips in a table.
+ghost use Rattle.std.specs.Prelude.{◌≤◌};
+
 use crate::bytes::{begins, is_blank, is_digit};
 use crate::slip::TableSlip;
 

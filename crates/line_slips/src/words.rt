@@ -1,4 +1,6 @@
 // The words of a program's text around a place.
+ghost use Rattle.std.specs.Prelude.{◌<◌, length};
+
 use crate::bytes::is_word_byte;
 
 /// The word that a text begins with.
