@@ -24,7 +24,7 @@ pub(crate) fn word_before(text: &[u8]) -> &[u8] {
         }
         from = place;
     }
-    let (_, word) = text.split_at(from);
+    let (_, word) = text.split_at(from.min(text.len()));
     word
 }
 
