@@ -1,7 +1,7 @@
 // Slips in the text of a program.
 use crate::bytes::{begins, is_digit, is_word_byte};
 use crate::slip::{ByteSlip, TokenSlip};
-use crate::words::{is_condition_open, is_one_of, word_after, word_before};
+use crate::words::{Opened, is_empty_text, is_one_of, opened_in, word_after, word_before};
 
 const ELSE_IFS: [&[u8]; 4] = [b"ELSEIF", b"ELSIF", b"ELIF", b"ELSE_IF"];
 
@@ -27,21 +27,25 @@ fn of_byte(b: u8) -> Option<ByteSlip> {
     }
 }
 
-/// Of a line with a byte that begins no token: by its first byte outside comments that begins none.
+/// Of a line with a byte that begins no token: by its first byte outside comments that begins none. A comment may begin in an
+/// earlier line, and one may end in a later one.
 pub fn byte_slip(line: &[u8]) -> Option<ByteSlip> {
     let mut in_comment = false;
+    let mut found = None;
     let mut last = 0u8;
     for b in line {
         if in_comment {
             in_comment = !(last == b'*' && *b == b'/');
         } else if last == b'/' && *b == b'*' {
             in_comment = true;
-        } else if let Some(slip) = of_byte(*b) {
-            return Some(slip);
+        } else if last == b'*' && *b == b'/' {
+            found = None;
+        } else if found.is_none() {
+            found = of_byte(*b);
         }
         last = *b;
     }
-    None
+    found
 }
 
 // Whether one token goes on from this byte to that one.
@@ -51,12 +55,22 @@ fn is_inside(last: u8, b: u8) -> bool {
         || (b == b'>' && last == b'<')
 }
 
-// Whether a text has no token at its beginning, where this byte stands before it.
-fn has_ended(last: u8, rest: &[u8]) -> bool {
-    match rest {
-        [] => true,
-        [b, ..] => b.is_ascii_whitespace() || is_inside(last, *b) || begins(rest, b"/*"),
+// A text behind the rest of the token that it begins with, where this byte stands before it.
+fn behind_token(last: u8, rest: &[u8]) -> &[u8] {
+    let mut last = last;
+    for i in 0..rest.len() {
+        if !is_inside(last, rest[i]) {
+            let (_, behind) = rest.split_at(i);
+            return behind;
+        }
+        last = rest[i];
     }
+    &[]
+}
+
+// Whether a text ends with the token that goes on at its beginning, where this byte stands before it.
+fn has_ended(last: u8, rest: &[u8]) -> bool {
+    is_empty_text(behind_token(last, rest))
 }
 
 fn last_byte(text: &[u8]) -> u8 {
@@ -105,7 +119,9 @@ fn of_signs(before: &[u8], rest: &[u8]) -> Option<TokenSlip> {
         Some(TokenSlip::SlashComment)
     } else if begins(rest, b"=") && last == b'=' {
         Some(TokenSlip::DoubleEqual)
-    } else if begins(rest, b"=") {
+    } else if last == b'=' && (begins(rest, b">") || begins(rest, b"<")) {
+        Some(TokenSlip::SwappedSigns)
+    } else if begins(rest, b"=") && !opened_in(before).condition {
         Some(TokenSlip::EqualForAssign)
     } else if ends_with_decimal(before) && rest.first().is_some_and(|b| is_digit(*b)) {
         Some(TokenSlip::DecimalComma)
@@ -116,31 +132,53 @@ fn of_signs(before: &[u8], rest: &[u8]) -> Option<TokenSlip> {
     }
 }
 
-// By what is wanted behind the text before a token.
-fn of_wanted(before: &[u8], word: &[u8]) -> Option<TokenSlip> {
-    if wants_value(last_byte(before), word_before(before)) {
-        Some(TokenSlip::ValueMissing)
-    } else if word.eq_ignore_ascii_case(b"PROG_ENDE") {
-        Some(TokenSlip::EndMissing)
-    } else if !word.is_empty() && is_condition_open(before) {
-        Some(TokenSlip::ThenMissing)
-    } else {
-        None
+// Whether the line that a text begins with has a `THEN`.
+fn has_then(rest: &[u8]) -> bool {
+    for i in 0..rest.len() {
+        let (_, here) = rest.split_at(i);
+        if begins(here, b"THEN") {
+            return true;
+        }
+        if rest[i] == b'\n' {
+            return false;
+        }
     }
+    false
+}
+
+// By the `IF` that is open before a token.
+fn of_opened(opened: Opened, rest: &[u8], word: &[u8]) -> Option<TokenSlip> {
+    if word.eq_ignore_ascii_case(b"PROG_ENDE") && 0 < opened.ifs {
+        Some(TokenSlip::EndMissing)
+    } else if word.is_empty() || !opened.condition {
+        None
+    } else if has_then(rest) {
+        Some(TokenSlip::OperatorMissing)
+    } else {
+        Some(TokenSlip::ThenMissing)
+    }
+}
+
+// By what is wanted behind the text before a token.
+fn of_wanted(before: &[u8], rest: &[u8], word: &[u8]) -> Option<TokenSlip> {
+    if wants_value(last_byte(before), word_before(before)) {
+        return Some(TokenSlip::ValueMissing);
+    }
+    of_opened(opened_in(before), rest, word)
 }
 
 // By the signs, and then by what is wanted.
 fn of_signs_and_wants(before: &[u8], rest: &[u8], word: &[u8]) -> Option<TokenSlip> {
     match of_signs(before, rest) {
         Some(slip) => Some(slip),
-        None => of_wanted(before, word),
+        None => of_wanted(before, rest, word),
     }
 }
 
 /// Of a text with which there is no program from the token at this place on.
 pub fn token_slip(text: &[u8], place: u32) -> Option<TokenSlip> {
     let (before, rest) = text.split_at((place as usize).min(text.len()));
-    if text.trim_ascii().is_empty() {
+    if is_empty_text(text) {
         return Some(TokenSlip::EmptyProgram);
     }
     if has_ended(last_byte(before), rest) {

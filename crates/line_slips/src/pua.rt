@@ -45,6 +45,8 @@ pub fn row_slip(line: &[u8]) -> Option<PlanSlip> {
         Some(PlanSlip::DecimalSeconds)
     } else if begins_with_one(line, &KEYS) {
         Some(PlanSlip::SecondKey)
+    } else if begins(line, b"red ") {
+        Some(PlanSlip::RedRow)
     } else if word_count(line) == 2 && ends_with_digit(line) {
         Some(PlanSlip::OneNumber)
     } else {

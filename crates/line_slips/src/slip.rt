@@ -13,11 +13,13 @@ pub enum PlanSlip {
     DecimalSeconds,
     /// A second `length`, `from` or `to` in an interstage, so that the `$INTERSTAGE` above is misspelt.
     SecondKey,
+    /// A row of red groups that names a green one, or that follows no stage's row.
+    RedRow,
     /// A group's row of an interstage with one number.
     OneNumber,
     /// A row that is a stage's name alone, so that the `$STARTING_STAGE` above is misspelt.
     LoneStage,
-    /// A group's row whose name or number stands above.
+    /// A row with a name or a number twice, or with one that stands above.
     GroupAgain,
 }
 
@@ -86,12 +88,16 @@ pub enum TokenSlip {
     SlashComment,
     /// `==` for `=`.
     DoubleEqual,
+    /// `=>` for `>=`, or `=<` for `<=`.
+    SwappedSigns,
     /// `=` for `:=`.
     EqualForAssign,
     /// `2,5` for a decimal.
     DecimalComma,
     /// Nothing where a value is wanted.
     ValueMissing,
+    /// Two values with nothing between them.
+    OperatorMissing,
     /// An `IF` without `THEN`.
     ThenMissing,
     /// An `IF` without `END`.

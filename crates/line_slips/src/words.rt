@@ -38,58 +38,112 @@ pub(crate) fn is_one_of(word: &[u8], words: &[&[u8]]) -> bool {
     false
 }
 
-// Where a scan of a text stands: in a comment, or outside.
+/// What is open at the end of a text: whether an `IF` has no `THEN` yet, and how many have no `END`.
+#[derive(Clone, Copy, Debug, PartialEq, Eq)]
+pub(crate) struct Opened {
+    pub(crate) condition: bool,
+    pub(crate) ifs: usize,
+}
+
+// Where a scan of a text stands: in a comment or outside, what is open, and where the word begins that is being read.
 #[derive(Clone, Copy)]
 struct Scan {
     in_comment: bool,
-    is_open: bool,
+    opened: Opened,
     from: usize,
 }
 
 // Notes a word.
-fn note(scan: &mut Scan, word: &[u8]) {
+fn note(opened: Opened, word: &[u8]) -> Opened {
     if word.eq_ignore_ascii_case(b"IF") {
-        scan.is_open = true;
+        Opened {
+            condition: true,
+            ifs: opened.ifs.saturating_add(1),
+        }
     } else if word.eq_ignore_ascii_case(b"THEN") {
-        scan.is_open = false;
+        Opened {
+            condition: false,
+            ifs: opened.ifs,
+        }
+    } else if word.eq_ignore_ascii_case(b"END") {
+        Opened {
+            condition: false,
+            ifs: opened.ifs.saturating_sub(1),
+        }
+    } else {
+        opened
     }
 }
 
-/// Whether an `IF` of a text has no `THEN` yet. Comments are passed over.
-pub(crate) fn is_condition_open(text: &[u8]) -> bool {
+/// What is open at the end of a text. Comments are passed over.
+pub(crate) fn opened_in(text: &[u8]) -> Opened {
     let mut scan = Scan {
         in_comment: false,
-        is_open: false,
+        opened: Opened {
+            condition: false,
+            ifs: 0,
+        },
         from: 0,
     };
     for i in 0..text.len() {
-        step(&mut scan, text, i);
+        scan = step(scan, text, i);
     }
     let (_, last) = text.split_at(scan.from.min(text.len()));
-    if !scan.in_comment {
-        note(&mut scan, last);
+    if scan.in_comment {
+        scan.opened
+    } else {
+        note(scan.opened, last)
     }
-    scan.is_open
+}
+
+// Goes over a byte in a comment, with the text before it and from it on.
+fn step_inside(scan: Scan, before: &[u8], here: &[u8]) -> Scan {
+    if here.starts_with(b"/") && before.ends_with(b"*") {
+        Scan {
+            in_comment: false,
+            opened: scan.opened,
+            from: before.len().saturating_add(1),
+        }
+    } else {
+        scan
+    }
 }
 
 // Goes over the byte at a place.
-fn step(scan: &mut Scan, text: &[u8], i: usize)
+fn step(scan: Scan, text: &[u8], i: usize) -> Scan
     requires { i < length text.now }
 {
     let (before, here) = text.split_at(i);
     if scan.in_comment {
-        if here.starts_with(b"/") && before.ends_with(b"*") {
-            scan.in_comment = false;
-            scan.from = i + 1;
+        return step_inside(scan, before, here);
+    }
+    if is_word_byte(text[i]) {
+        return scan;
+    }
+    let (_, word) = before.split_at(scan.from.min(before.len()));
+    Scan {
+        in_comment: here.starts_with(b"/*"),
+        opened: note(scan.opened, word),
+        from: i.saturating_add(1),
+    }
+}
+
+/// Whether a text has nothing but white space and comments.
+pub(crate) fn is_empty_text(text: &[u8]) -> bool {
+    let mut in_comment = false;
+    let mut last = b' ';
+    for b in text {
+        if in_comment {
+            in_comment = !(last == b'*' && *b == b'/');
+            last = if in_comment { *b } else { b' ' };
+        } else if last == b'/' && *b == b'*' {
+            in_comment = true;
+            last = b' ';
+        } else if last == b'/' || !(b.is_ascii_whitespace() || *b == b'/') {
+            return false;
+        } else {
+            last = *b;
         }
-        return;
     }
-    if here.starts_with(b"/*") {
-        scan.in_comment = true;
-    }
-    if !is_word_byte(text[i]) {
-        let (_, word) = before.split_at(scan.from.min(before.len()));
-        note(scan, word);
-        scan.from = i + 1;
-    }
+    in_comment || last != b'/'
 }

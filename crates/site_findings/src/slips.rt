@@ -42,6 +42,12 @@ static SECOND_KEY: Sentences = Sentences {
     cure: b"`$INTERSTAGE2` above; `length: 6`, `from stage: 1`, `to stage: 2`",
 };
 
+static RED_ROW: Sentences = Sentences {
+    means: b"a `red` row names a group that is green in the stage above, or follows no row of a stage",
+    often: b"",
+    cure: b"the groups that are red in the stage, below its row",
+};
+
 static ONE_NUMBER: Sentences = Sentences {
     means: b"the row of this group has one number, and it needs two numbers: the seconds R and E in which its red and \
              its green end",
@@ -57,7 +63,7 @@ static LONE_STAGE: Sentences = Sentences {
 };
 
 static GROUP_AGAIN: Sentences = Sentences {
-    means: b"has a name or a number that stands above already",
+    means: b"has a name or a number twice, or one that stands above already",
     often: b"",
     cure: b"each group has a name and a number of its own",
 };
@@ -218,6 +224,12 @@ static DOUBLE_EQUAL: Sentences = Sentences {
     cure: b"`=`",
 };
 
+static SWAPPED_SIGNS: Sentences = Sentences {
+    means: b"`=>` and `=<` are no signs; they are written `>=` and `<=`",
+    often: b"",
+    cure: b"`>=`, `<=`",
+};
+
 static EQUAL_FOR_ASSIGN: Sentences = Sentences {
     means: b"`=` compares; a variable is assigned with `:=`",
     often: b"",
@@ -235,6 +247,12 @@ static VALUE_MISSING: Sentences = Sentences {
              words of the language are none",
     often: b"",
     cure: b"write the value, or take the operator out",
+};
+
+static OPERATOR_MISSING: Sentences = Sentences {
+    means: b"two values stand beside each other, with no operator between them",
+    often: b"",
+    cure: b"`AND`, `OR`, a comparison or an arithmetic sign",
 };
 
 static THEN_MISSING: Sentences = Sentences {
@@ -292,6 +310,7 @@ fn of_plan(slip: PlanSlip) -> &'static Sentences {
         PlanSlip::CommentSign => &COMMENT_SIGN,
         PlanSlip::DecimalSeconds => &DECIMAL_SECONDS,
         PlanSlip::SecondKey => &SECOND_KEY,
+        PlanSlip::RedRow => &RED_ROW,
         PlanSlip::OneNumber => &ONE_NUMBER,
         PlanSlip::LoneStage => &LONE_STAGE,
         PlanSlip::GroupAgain => &GROUP_AGAIN,
@@ -336,9 +355,11 @@ fn of_token(slip: TokenSlip) -> &'static Sentences {
         TokenSlip::Loop => &LOOP,
         TokenSlip::SlashComment => &SLASH_COMMENT,
         TokenSlip::DoubleEqual => &DOUBLE_EQUAL,
+        TokenSlip::SwappedSigns => &SWAPPED_SIGNS,
         TokenSlip::EqualForAssign => &EQUAL_FOR_ASSIGN,
         TokenSlip::DecimalComma => &DECIMAL_COMMA,
         TokenSlip::ValueMissing => &VALUE_MISSING,
+        TokenSlip::OperatorMissing => &OPERATOR_MISSING,
         TokenSlip::ThenMissing => &THEN_MISSING,
         TokenSlip::EndMissing => &END_MISSING,
         TokenSlip::UnknownCall => &UNKNOWN_CALL,
@@ -382,6 +403,7 @@ fn said_of_plan<'a>(slip: PlanSlip, line: &'a [u8]) -> Said<'a> {
         | PlanSlip::CommentSign
         | PlanSlip::DecimalSeconds
         | PlanSlip::SecondKey
+        | PlanSlip::RedRow
         | PlanSlip::LoneStage => plain(of_plan(slip)),
     }
 }

@@ -12,7 +12,7 @@ fn misses(alloc: Global, case: &Case<'_>) -> Result<bool, Fail> {
 const OF_PLANS: [Case<'static>; 5] = [
     Case {
         pua: b"$SIGNAL_GROUPS\nK1 1\nK2 1\n",
-        text: b"p.pua:3: NameTwice: `K2 1` has a name or a number that stands above already\n  K2 1\n  ^^^^\n  cure: each group has a name and a number of its own\n",
+        text: b"p.pua:3: NameTwice: `K2 1` has a name or a number twice, or one that stands above already\n  K2 1\n  ^^^^\n  cure: each group has a name and a number of its own\n",
         ..REFUSED
     },
     Case {
