@@ -88,14 +88,20 @@ fn wants_value(last: u8, word: &[u8]) -> bool {
     ) || is_one_of(word, &OPERATORS)
 }
 
-// By the words before and at a token.
-fn of_words(before: &[u8], word: &[u8]) -> Option<TokenSlip> {
+// Whether a text ends with `END IF`.
+fn ends_with_end_if(before: &[u8]) -> bool {
+    let word = word_before(before);
+    let (above, _) = before.split_at(before.len().saturating_sub(word.len()));
+    word.eq_ignore_ascii_case(b"IF")
+        && word_before(above.trim_ascii_end()).eq_ignore_ascii_case(b"END")
+}
+
+// By the words before and at a token, which has this text before it.
+fn of_words(text: &[u8], word: &[u8]) -> Option<TokenSlip> {
+    let before = word_before(text);
     if is_one_of(before, &ELSE_IFS) || is_one_of(word, &ELSE_IFS) {
         Some(TokenSlip::ElseIf)
-    } else if is_one_of(before, &END_IFS)
-        || is_one_of(word, &END_IFS)
-        || (before.eq_ignore_ascii_case(b"END") && word.eq_ignore_ascii_case(b"IF"))
-    {
+    } else if is_one_of(before, &END_IFS) || is_one_of(word, &END_IFS) || ends_with_end_if(text) {
         Some(TokenSlip::EndIf)
     } else if is_one_of(before, &LOOPS) || is_one_of(word, &LOOPS) {
         Some(TokenSlip::Loop)
@@ -186,7 +192,7 @@ pub fn token_slip(text: &[u8], place: u32) -> Option<TokenSlip> {
     }
     let before = before.trim_ascii_end();
     let word = word_after(rest);
-    match of_words(word_before(before), word) {
+    match of_words(before, word) {
         Some(slip) => Some(slip),
         None => of_signs_and_wants(before, rest, word),
     }

@@ -189,9 +189,9 @@ static EMPTY_PROGRAM: Sentences = Sentences {
 };
 
 static TEXT_ENDS: Sentences = Sentences {
-    means: b"the text ends here, and `PROG_ENDE: .` is missing",
+    means: b"the text ends here, and a `PROG_ENDE: .` is missing or not whole",
     often: b"a copy that was cut off",
-    cure: b"`PROG_ENDE: .` as the last line",
+    cure: b"`PROG_ENDE: .` at the end of each subroutine and of the program",
 };
 
 static ELSE_IF: Sentences = Sentences {

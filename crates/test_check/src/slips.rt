@@ -83,7 +83,7 @@ const OF_PROGRAMS: [Case<'static>; 9] = [
     },
     Case {
         program: b"PROGRAM p;\nx := 1;\n",
-        text: b"p.vap:2: Unexpected: the text ends here, and `PROG_ENDE: .` is missing\n",
+        text: b"p.vap:2: Unexpected: the text ends here, and a `PROG_ENDE: .` is missing or not whole\n",
         ..REFUSED
     },
     Case {
