@@ -1,8 +1,7 @@
 // The line of the worst case of a site.
-ghost use Rattle.std.specs.Prelude.{◌++◌, OnOk, codes};
+ghost use Rattle.std.specs.Prelude.{OnOk};
 ghost use Rattle.site_findings.specs.Put.{Puts};
-ghost use Rattle.site_findings.specs.Reasons.{group_text};
-ghost use Rattle.site_findings.specs.Worst.{case_text, cause_text, worst_text};
+ghost use Rattle.site_findings.specs.Worst.{case_text, cause_text, held_text, worst_text};
 
 use crate::text::Text;
 use pua_model::Plan;
@@ -10,14 +9,15 @@ use sig_response::{Cause, WorstCase};
 use sig_types::GroupNo;
 use std::alloc::AllocError;
 
-// Puts that a group holds another one back by its minimum green, and what comes after it.
+// Puts that a group holds another one back by its minimum green, and by what comes after it.
+#[tactic(auto, unfolding(crate::specs::Worst::held_text))]
 fn put_held(
     text: &mut Text,
     plan: &Option<Plan>,
     other: GroupNo,
     after: &[u8],
 ) -> Result<(), AllocError>
-    ensures { OnOk result (Puts text.old text.new (codes "minimum green of " ++ group_text plan.now other ++ after.now)) }
+    ensures { OnOk result (Puts text.old text.new (held_text plan.now other after.now)) }
 {
     text.put(b"minimum green of ")?;
     text.put_group(plan, other)?;
