@@ -25,6 +25,7 @@ usage_text =
     codes "log_report diagram LOG FROM TO   an SVG signal timing diagram of these seconds, at most 3600\n"
     ++ codes "log_report text LOG FROM TO      the same as characters\n"
     ++ codes "log_report sums LOG              what groups, stages, refusals, faults and detectors add up to\n"
+    ++ codes "log_report breaches LOG PUA TIMES INTERGREENS [--amber-tolerance N] [--csv]\n                                 each breach of the rules by any controller, in words or as a table\n"
     ++ codes "log_report --help | --version    this text; the version\n"
 
 -- which version it is
