@@ -1,0 +1,6 @@
+pub mod Gathered
+pub mod Extreme
+pub mod Same
+pub mod Adding
+pub mod Pages
+pub mod Shortest
