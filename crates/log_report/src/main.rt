@@ -1,10 +1,11 @@
 //! Draws, sums and judges a log: `diagram LOG FROM TO` writes an SVG signal timing diagram of these seconds, `text LOG FROM TO` the
-//! same as characters, `sums LOG` what groups, stages, refusals, faults and detectors add up to, and `breaches LOG PUA TIMES
-//! INTERGREENS` what the log of any controller breaks of the rules of a junction.
+//! same as characters, `sums LOG` what groups, stages, refusals, faults and detectors add up to, `breaches LOG PUA TIMES INTERGREENS`
+//! what the log of any controller breaks of the rules of a junction, and `protocol LOG PUA TIMES INTERGREENS` what came in it.
 #![tactic(auto)]
 
 use breach_view::report_breaches;
 use log_view::{Status, Stop, exit_status, report, write_stop};
+use protocol_view::report_protocol;
 use sig_io::{DiskFiles, ErrSink, Files, OutSink, Sink};
 use std::alloc::{AllocError, Global};
 use std::env::Args;
@@ -32,6 +33,9 @@ fn answer<F: Files, O: Sink, N: Sink>(
     match words.first() {
         Some(word) if word.as_str() == "breaches" => {
             judge_notes::exit_status(report_breaches(alloc, words, files, out, notes))
+        }
+        Some(word) if word.as_str() == "protocol" => {
+            judge_notes::exit_status(report_protocol(alloc, words, files, out, notes))
         }
         _ => exit_status(report(alloc, words, files, out, notes)),
     }

@@ -45,6 +45,10 @@ fn put_usage<O: Sink>(draft: &mut Draft, sink: &mut O)
     );
     draft.put(
         sink,
+        b"log_report protocol LOG PUA TIMES INTERGREENS [--csv]\n                                 what came in the log of any controller, beside what the tables say\n",
+    );
+    draft.put(
+        sink,
         b"log_report --help | --version    this text; the version\n",
     );
 }
