@@ -48,14 +48,19 @@ _vantulig_log_report()
 {
     local cur=${COMP_WORDS[COMP_CWORD]}
     case $COMP_CWORD in
-        1) COMPREPLY=($(compgen -W "diagram text sums breaches --help --version" -- "$cur")) ;;
+        1) COMPREPLY=($(compgen -W "diagram text sums breaches protocol --help --version" -- "$cur")) ;;
         2) _vantulig_files log ;;
         *)
-            [ "${COMP_WORDS[1]}" = breaches ] || return
+            local options
+            case ${COMP_WORDS[1]} in
+                breaches) options="--amber-tolerance --csv" ;;
+                protocol) options=--csv ;;
+                *) return ;;
+            esac
             case $COMP_CWORD in
                 3) _vantulig_files pua ;;
                 4 | 5) _vantulig_files csv ;;
-                *) COMPREPLY=($(compgen -W "--amber-tolerance --csv" -- "$cur")) ;;
+                *) COMPREPLY=($(compgen -W "$options" -- "$cur")) ;;
             esac
             ;;
     esac
