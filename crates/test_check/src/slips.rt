@@ -152,16 +152,31 @@ const OF_DETECTORS: [Case<'static>; 5] = [
 ];
 
 #[test]
-fn lines_show_slips(rt: HostRuntime) -> Result<(), Fail> {
+fn plans_show_slips(rt: HostRuntime) -> Result<(), Fail> {
     for case in OF_PLANS {
         assert!(rt; !misses(rt.alloc(), &case)?);
     }
+    Ok(())
+}
+
+#[test]
+fn tables_show_slips(rt: HostRuntime) -> Result<(), Fail> {
     for case in OF_TABLES {
         assert!(rt; !misses(rt.alloc(), &case)?);
     }
+    Ok(())
+}
+
+#[test]
+fn programs_show_slips(rt: HostRuntime) -> Result<(), Fail> {
     for case in OF_PROGRAMS {
         assert!(rt; !misses(rt.alloc(), &case)?);
     }
+    Ok(())
+}
+
+#[test]
+fn detectors_show_slips(rt: HostRuntime) -> Result<(), Fail> {
     for case in OF_DETECTORS {
         assert!(rt; !misses(rt.alloc(), &case)?);
     }
