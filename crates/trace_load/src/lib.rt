@@ -1,0 +1,9 @@
+//! A program at its site, read once and judged as `junction run` judges it, with its text and the names of what it has.
+//!
+//! `specs/Loaded` says what the files give.
+#![tactic(auto)]
+
+mod load;
+mod program;
+
+pub use load::{Loaded, load_program};
