@@ -1,0 +1,134 @@
+// What calls answer that do nothing.
+use junction_calls::{RefusedStage, group_name, load_into, refused_stage};
+use junction_handle::{DetectorCounts, Told, empty, make_second, take};
+use std::alloc::Global;
+use std::test::Fail;
+use test_cases::cases::{Case, DONE, TIMER_RUN};
+
+// So many fronts and rears of detector 1.
+fn counts(fronts: u32, rears: u32) -> DetectorCounts {
+    let mut counts = DetectorCounts {
+        fronts: [0; 64],
+        rears: [0; 64],
+    };
+    counts.fronts[0] = fronts;
+    counts.rears[0] = rears;
+    counts
+}
+
+// A place in which another second stands.
+fn untold() -> Told {
+    Told {
+        second: 77,
+        fault_line: 0,
+        stages: 0,
+        turns: 0,
+        place: 0,
+        from: 0,
+        to: 0,
+        t: 0,
+        fault: 0,
+        groups: 0,
+        aspects: [0; 64],
+        turn_groups: [0; 64],
+        turn_rules: [0; 64],
+        turn_others: [0; 64],
+        reserved: [0; 2],
+    }
+}
+
+// What loading answers, with the note's place and its length.
+fn loaded(alloc: Global, case: &Case<'_>) -> (u32, [u8; 40], usize) {
+    let mut handle = empty();
+    let mut note = [b'.'; 40];
+    let mut noted = 7;
+    let status = load_into(
+        alloc,
+        &mut handle,
+        case.program,
+        case.plan,
+        case.times,
+        case.intergreens,
+        &mut note,
+        &mut noted,
+    );
+    let _ended = take(&mut handle, alloc);
+    (status, note, noted)
+}
+
+const NO_PROGRAM: Case<'static> = Case {
+    name: "no program",
+    program: b"PROGRAM nothing;",
+    ..DONE
+};
+
+const NO_PLAN: Case<'static> = Case {
+    name: "no plan, whose note is cut",
+    plan: b"$SIGNAL_GROUPS\nK1 1\nK1 2\n",
+    ..DONE
+};
+
+#[test]
+fn refused_texts_are_noted(rt: HostRuntime) -> Result<(), Fail> {
+    let alloc = rt.alloc();
+    let (status, note, noted) = loaded(alloc, &NO_PROGRAM);
+    assert_eq!(rt; status, 5);
+    assert_eq!(rt; noted, 32);
+    assert_eq!(rt;
+        note.as_slice(),
+        b"junction: program:1: Unexpected\n........".as_slice()
+    );
+    let (status, _note, noted) = loaded(alloc, &DONE);
+    assert_eq!(rt; status, 0);
+    assert_eq!(rt; noted, 0);
+    let (status, note, _noted) = loaded(alloc, &NO_PLAN);
+    assert_eq!(rt; status, 5);
+    assert!(rt; note.starts_with(b"junction: plan:"));
+    Ok(())
+}
+
+#[test]
+fn nothing_is_told_of_what_is_not_there(rt: HostRuntime) -> Result<(), Fail> {
+    let alloc = rt.alloc();
+    let mut handle = empty();
+    let mut name = [b'.'; 4];
+    let mut stage = RefusedStage {
+        from: 9,
+        to: 9,
+        rule: 9,
+    };
+    assert_eq!(rt; group_name(&mut handle, alloc, 0, &mut name), 0);
+    assert_eq!(rt; refused_stage(&mut handle, alloc, 0, &mut stage), 4);
+    let case = TIMER_RUN;
+    let status = load_into(
+        alloc,
+        &mut handle,
+        case.program,
+        case.plan,
+        case.times,
+        case.intergreens,
+        &mut [],
+        &mut 0,
+    );
+    assert_eq!(rt; status, 0);
+    assert_eq!(rt; group_name(&mut handle, alloc, 2, &mut name), 0);
+    assert_eq!(rt; name.as_slice(), b"....".as_slice());
+    assert_eq!(rt; group_name(&mut handle, alloc, 1, &mut name[..1]), 2);
+    assert_eq!(rt; name.as_slice(), b"K...".as_slice());
+    assert_eq!(rt; refused_stage(&mut handle, alloc, 0, &mut stage), 4);
+    assert_eq!(rt; stage.rule, 9);
+    let mut told = untold();
+    let rears_ahead = counts(0, 1);
+    assert_eq!(rt;
+        make_second(&mut handle, alloc, &rears_ahead, &mut told),
+        Some(false)
+    );
+    assert_eq!(rt; told.second, 77);
+    let _ended = take(&mut handle, alloc);
+    assert_eq!(rt;
+        make_second(&mut handle, alloc, &rears_ahead, &mut told),
+        None
+    );
+    assert_eq!(rt; told.second, 77);
+    Ok(())
+}
