@@ -179,6 +179,10 @@ THEOREMS = [
      [("vap_code", "Sights", ["machine_sights"]), ("controller", "Seen", ["sights_in"])]),
     ("how often statements began and tests were answered", "`trace_counts::Counts`",
      [("trace_counts", "Counted", ["HasCounted"]), ("trace_counts", "Places", ["statements_in", "tests_in"])]),
+    ("which values a program has, which of them words choose, and the row of each second", "`trace_values`",
+     [("trace_values", "Columns", ["columns_of"]), ("trace_values", "Choices", ["IsChoice"]),
+      ("trace_values", "Rows", ["header_text", "row_told"]), ("trace_values", "Nearest", ["IsNearest"])]),
+    ("a program at its site, each file read once", "`trace_load::load_program`", [("trace_load", "Loaded", ["IsToldLoad"])]),
     ("the seconds of a detector file, told one after the other", "`trace_run::play`",
      [("trace_run", "Told", ["IsPlayed", "IsWritten", "IsStop"])]),
 ]
