@@ -345,6 +345,9 @@ def needed_files(specs):
 
 
 def main():
+    if sys.argv[1:] in (["-h"], ["--help"]):
+        print(__doc__)
+        return
     specs = Specs()
     everything = {(file, name) for file, block in specs.blocks.items() for name in block}
     closures = [specs.closure(roots_of(specs, roots)) for _, _, roots in THEOREMS]

@@ -465,7 +465,7 @@ class Helps(unittest.TestCase):
     def test_each_script_has_its_help(self):
         for script in sorted(HERE.glob("*.py")):
             text = script.read_text(encoding="utf-8")
-            if text.startswith("#!") and script.name not in ("test.py", "believe.py"):
+            if text.startswith("#!") and script.name != "test.py":
                 done = subprocess.run([sys.executable, "-B", script, "--help"], capture_output=True, text=True)
                 self.assertEqual((done.returncode, done.stderr), (0, ""), script.name)
                 self.assertIn(text.split('"""')[1].split("\n")[0], done.stdout, script.name)
