@@ -34,16 +34,17 @@ pub fn byte_slip(line: &[u8]) -> Option<ByteSlip> {
     let mut found = None;
     let mut last = 0u8;
     for b in line {
+        let begins_comment = !in_comment && last == b'/' && *b == b'*';
         if in_comment {
             in_comment = !(last == b'*' && *b == b'/');
-        } else if last == b'/' && *b == b'*' {
+        } else if begins_comment {
             in_comment = true;
         } else if last == b'*' && *b == b'/' {
             found = None;
         } else if found.is_none() {
             found = of_byte(*b);
         }
-        last = *b;
+        last = if begins_comment { 0 } else { *b };
     }
     found
 }
@@ -152,6 +153,15 @@ fn has_then(rest: &[u8]) -> bool {
     false
 }
 
+// By an `=` behind a name that is assigned to, which may be a word of another language.
+fn of_assigned(before: &[u8], rest: &[u8]) -> Option<TokenSlip> {
+    if begins(rest, b"=") && is_word_byte(last_byte(before)) && !opened_in(before).condition {
+        Some(TokenSlip::EqualForAssign)
+    } else {
+        None
+    }
+}
+
 // By the `IF` that is open before a token.
 fn of_opened(opened: Opened, rest: &[u8], word: &[u8]) -> Option<TokenSlip> {
     if word.eq_ignore_ascii_case(b"PROG_ENDE") && 0 < opened.ifs {
@@ -191,6 +201,9 @@ pub fn token_slip(text: &[u8], place: u32) -> Option<TokenSlip> {
         return Some(TokenSlip::TextEnds);
     }
     let before = before.trim_ascii_end();
+    if let Some(slip) = of_assigned(before, rest) {
+        return Some(slip);
+    }
     let word = word_after(rest);
     match of_words(before, word) {
         Some(slip) => Some(slip),

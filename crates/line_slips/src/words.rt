@@ -96,9 +96,10 @@ pub(crate) fn opened_in(text: &[u8]) -> Opened {
     }
 }
 
-// Goes over a byte in a comment, with the text before it and from it on.
+// Goes over a byte in a comment, with the text before it and from it on. The star that the comment begins with doesn't end it.
 fn step_inside(scan: Scan, before: &[u8], here: &[u8]) -> Scan {
-    if here.starts_with(b"/") && before.ends_with(b"*") {
+    let is_behind = scan.from.saturating_add(1) < before.len();
+    if is_behind && here.starts_with(b"/") && before.ends_with(b"*") {
         Scan {
             in_comment: false,
             opened: scan.opened,

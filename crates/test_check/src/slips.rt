@@ -75,7 +75,7 @@ const OF_TABLES: [Case<'static>; 7] = [
     },
 ];
 
-const OF_PROGRAMS: [Case<'static>; 9] = [
+const OF_PROGRAMS: [Case<'static>; 10] = [
     Case {
         program: b"$SIGNAL_GROUPS\n",
         text: b"p.vap:1: Byte: `$` begins no token; a PUA file stands in the place of the program\n",
@@ -114,6 +114,11 @@ const OF_PROGRAMS: [Case<'static>; 9] = [
     Case {
         program: b"PROGRAM p;\nx := Anforderung(3);\nPROG_ENDE: .\n",
         text: b"p.vap:2: Unexpected: the word before the bracket is no command and no reading\n",
+        ..REFUSED
+    },
+    Case {
+        program: b"PROGRAM p;\n/*/ IF x then */\nloop = 3;\nPROG_ENDE: .\n",
+        text: b"p.vap:3: Unexpected: `=` compares; a variable is assigned with `:=`\n",
         ..REFUSED
     },
     Case {
