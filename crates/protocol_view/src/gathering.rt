@@ -64,7 +64,7 @@ pub fn gather<'a, F: Files>(
         Ok(page) => page,
         Err(_memory) => return Err(JudgeStop::Memory),
     };
-    for _line in 0..u64::MAX {
+    'lines: loop {
         match part.next_picture(files, plan) {
             Ok(true) => page.add(part.picture()),
             Ok(false) => {
@@ -76,5 +76,4 @@ pub fn gather<'a, F: Files>(
             Err(refusal) => return Err(stop_of(refusal, log)),
         }
     }
-    Err(JudgeStop::Memory)
 }

@@ -1,21 +1,10 @@
 // Whole calls of `log_report breaches` over files in memory.
+use crate::calls::{PART, Told, files_of, sinks_of, words_of};
 use breach_view::report_breaches;
 use judge_notes::Status;
-use sig_io::{MemFiles, MemSink};
 use std::alloc::Global;
 use std::test::Fail;
-use test_texts::sites::{INTERGREENS, ONE_WAY, TIMES, TWO_STAGES};
-
-// A part of a log: K1 ends too soon, shows red-amber after amber, and K2 turns green too soon and without red-amber.
-const PART: &str = "VAPLOG 1 K1 K2\n\
-11|-|RR|\n\
-12|-|UR|\n\
-13|-|GR|\n\
-14|-|GR|\n\
-15|-|AR|\n\
-16|-|AR|\n\
-17|-|UR|\n\
-18|-|RG|\n";
+use test_texts::sites::{INTERGREENS, ONE_WAY};
 
 const WORDS: &str = "\
 15 MinGreen K1: green from second 13 for 2 s; minimum 10 s\n\
@@ -37,33 +26,12 @@ const TABLE: &str = "second,rule,group,other,shown,since,seconds,needed\n\
 18,Sequence,K1,,UR,,,\n\
 18,Intergreen,K2,K1,,15,3,5\n";
 
-// What a call told: its status, what it wrote, and its note.
-#[derive(Drop)]
-struct Told {
-    status: Status,
-    out: MemSink,
-    notes: MemSink,
-}
-
 // Calls `log_report breaches` over this log and this table of intergreens, with these options.
 fn call(alloc: Global, log: &str, pairs: &[u8], options: &[&str]) -> Result<Told, Fail> {
-    let files = vec![in alloc;
-        (String::from_str(alloc, "l")?, log.as_bytes().to_vec(alloc)?),
-        (String::from_str(alloc, "p")?, TWO_STAGES.to_vec(alloc)?),
-        (String::from_str(alloc, "t")?, TIMES.to_vec(alloc)?),
-        (String::from_str(alloc, "i")?, pairs.to_vec(alloc)?),
-    ]?;
-    let mut files = MemFiles::new(files, Vec::new(alloc), 4096);
-    let mut list = Vec::new(alloc);
-    for word in ["breaches", "l", "p", "t", "i"] {
-        list.push(String::from_str(alloc, word)?)?;
-    }
-    for word in options {
-        list.push(String::from_str(alloc, word)?)?;
-    }
-    let mut out = MemSink::new(alloc, 65536, Vec::new(alloc))?;
-    let mut notes = MemSink::new(alloc, 4096, Vec::new(alloc))?;
-    let status = report_breaches(alloc, &list, &mut files, &mut out, &mut notes);
+    let mut files = files_of(alloc, log, pairs)?;
+    let words = words_of(alloc, "breaches", options)?;
+    let (mut out, mut notes) = sinks_of(alloc)?;
+    let status = report_breaches(alloc, &words, &mut files, &mut out, &mut notes);
     Ok(Told { status, out, notes })
 }
 

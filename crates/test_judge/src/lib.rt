@@ -3,3 +3,7 @@
 
 #[cfg(test)]
 mod breaches;
+#[cfg(test)]
+mod calls;
+#[cfg(test)]
+mod protocol;
