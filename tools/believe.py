@@ -71,7 +71,7 @@ THEOREMS = [
     ("which programs pass the checks, or what is refused first", "`check`",
      [("vap_check", "Accepted", ["Accepted", "IsRefused"])]),
     ("what a program means in a pass", "`junction`", [("vap_ast", "Passes", ["program_logic"])]),
-    ("a program has one meaning, and gives few commands", "`vap_ast::laws`",
+    ("a program has one meaning, and gives few commands", "`vap_ast::one_meaning`",
      [("vap_ast", "Mean", ["OneMeaning"]), ("vap_ast", "Given", ["ProgramsGiveFew", "ProgramsGiveTheWorlds"])]),
     ("what a code means in a pass", "`Vm::pass`", [("vap_code", "Machine", ["machine"])]),
     ("which code is valid", "`verify`", [("vap_code", "Valid", ["Valid"])]),
@@ -182,8 +182,8 @@ THEOREMS = [
     ("which values a program has, which of them words choose, and the row of each second", "`trace_values`",
      [("trace_values", "Columns", ["columns_of"]), ("trace_values", "Choices", ["IsChoice"]),
       ("trace_values", "Rows", ["header_text", "row_told"]), ("trace_values", "Nearest", ["IsNearest"])]),
-    ("a program at its site, each file read once", "`trace_load::load_program`", [("trace_load", "Loaded", ["IsToldLoad"])]),
-    ("the seconds of a detector file, told one after the other", "`trace_run::play`",
+    ("a program at its site, with its checked tree and its text", "`trace_load::load_program`", [("trace_load", "Loaded", ["IsToldLoad"])]),
+    ("the seconds of a detector file, told one after the other", "`trace_run::tell_all`",
      [("trace_run", "Told", ["IsPlayed", "IsWritten", "IsStop"])]),
 ]
 DEFINITION = re.compile(r"((?:abbrev |unfoldable |pub )*)(record |data )?([^\s(:{]+)(.*)")
