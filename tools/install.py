@@ -3,11 +3,11 @@
 tools/install.py PREFIX --remove
 tools/install.py --checksums [NAME..]
 
-Copies the built programs (junction, junction_check, log_report; or those that are named) to PREFIX/bin, with their manual pages and
-completions for bash and zsh, and writes PREFIX/share/vantulig/checksums.txt: the SHA-256 of each file, the commit, the kit, and which
-programs come from a proof. It tells what it did. A program that isn't built, or is older than its sources, is refused, and so is a
-file of another origin in the way; then nothing is copied. --remove takes away what it installed, and leaves a file that was changed
-since. --checksums writes such a list of the built programs where they stand."""
+Copies the built programs (junction, junction_check, junction_trace, log_report; or those that are named) to PREFIX/bin, with their
+manual pages and completions for bash and zsh, and writes PREFIX/share/vantulig/checksums.txt: the SHA-256 of each file, the commit,
+the kit, and which programs come from a proof. It tells what it did. A program that isn't built, or is older than its sources, is
+refused, and so is a file of another origin in the way; then nothing is copied. --remove takes away what it installed, and leaves a
+file that was changed since. --checksums writes such a list of the built programs where they stand."""
 import hashlib
 import re
 import shutil
@@ -16,7 +16,7 @@ import sys
 from pathlib import Path
 
 ROOT = Path(__file__).resolve().parent.parent
-PROGRAMS = ["junction", "junction_check", "log_report"]
+PROGRAMS = ["junction", "junction_check", "junction_trace", "log_report"]
 LIST = Path("share/vantulig/checksums.txt")
 SUM = re.compile(r"([0-9a-f]{64})  (.+)")
 MADE = "# made the folder "

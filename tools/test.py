@@ -286,7 +286,7 @@ class Believe(unittest.TestCase):
 class Install(unittest.TestCase):
     """tools/install.py in a checkout of its own, whose programs are scripts."""
 
-    NAMES = ["junction", "junction_check", "log_report"]
+    NAMES = ["junction", "junction_check", "junction_trace", "log_report"]
 
     def setUp(self):
         folder = tempfile.TemporaryDirectory()
@@ -331,7 +331,8 @@ class Install(unittest.TestCase):
         self.assertIn("# commit unknown, since this is no clone\n# kit ", text)
         stamped = "# bin/junction: as `rt run` left it after its proof\n"
         gated = "# bin/junction_check: as `rt ci` left it after its proof, with the other compiler's build beside it\n"
-        self.assertIn(stamped + gated + "# bin/log_report: not known to come from a proof: no trace of one beside it\n", text)
+        unknown = "# bin/junction_trace: not known to come from a proof: no trace of one beside it\n"
+        self.assertIn(stamped + gated + unknown + "# bin/log_report: not known to come from a proof: no trace of one beside it\n", text)
         sums = {line[66:]: line[:64] for line in text.splitlines() if not line.startswith("#")}
         self.assertEqual(sums, {place: hashlib.sha256((self.prefix / place).read_bytes()).hexdigest() for place in listed})
 

@@ -1,4 +1,4 @@
-# Completion of junction, junction_check and log_report for bash: their commands, and files of the kind that is due.
+# Completion of junction, junction_check, junction_trace and log_report for bash: their commands, and files of the kind that is due.
 
 _vantulig_files()
 {
@@ -44,6 +44,16 @@ _vantulig_junction_check()
     esac
 }
 
+_vantulig_junction_trace()
+{
+    local cur=${COMP_WORDS[COMP_CWORD]}
+    case $COMP_CWORD in
+        1) COMPREPLY=($(compgen -W "values --help --version" -- "$cur")) ;;
+        [2-6]) _vantulig_site "$((COMP_CWORD - 1))" ;;
+        *) COMPREPLY=($(compgen -W "--from --to" -- "$cur")) ;;
+    esac
+}
+
 _vantulig_log_report()
 {
     local cur=${COMP_WORDS[COMP_CWORD]}
@@ -68,4 +78,5 @@ _vantulig_log_report()
 
 complete -F _vantulig_junction junction
 complete -F _vantulig_junction_check junction_check
+complete -F _vantulig_junction_trace junction_trace
 complete -F _vantulig_log_report log_report

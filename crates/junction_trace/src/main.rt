@@ -1,0 +1,37 @@
+//! Tells what a program does inside: `values` in each second of a run.
+#![tactic(auto)]
+
+use junction_run::{LoadStop, Status, Stop as RunStop, exit_status};
+use sig_io::{DiskFiles, ErrSink, OutSink};
+use std::alloc::{AllocError, Global};
+use std::env::Args;
+use std::io::ErrorKind;
+use std::process::ExitCode;
+use std::{env, io};
+use trace_call::{Stop, trace, write_stop};
+
+// The words after the program's name. A word that is no UTF-8 makes the words no form, and none stand for it.
+fn words_of(alloc: Global, args: io::Result<Args>) -> Result<Vec<String>, AllocError> {
+    match args {
+        Ok(args) => args.skip(1).collect(alloc),
+        Err(error) if error.kind() == ErrorKind::OutOfMemory => Err(AllocError),
+        Err(_) => Ok(Vec::new(alloc)),
+    }
+}
+
+fn main(rt: HostRuntime) -> ExitCode {
+    let alloc = rt.alloc();
+    let stdout = rt.stdout();
+    let stderr = rt.stderr();
+    let mut files = DiskFiles::new(&rt);
+    let mut out = OutSink::new(&stdout);
+    let mut notes = ErrSink::new(&stderr);
+    let status = match words_of(alloc, env::args(&rt)) {
+        Ok(words) => trace(alloc, &words, &mut files, &mut out, &mut notes),
+        Err(_) => {
+            write_stop(&Stop::Run(RunStop::Load(LoadStop::Memory)), &mut notes);
+            Status::Memory
+        }
+    };
+    ExitCode::from(exit_status(status))
+}

@@ -1,0 +1,7 @@
+use Rattle.sig_io.proofs.Drafts.{then}
+use Rattle.trace_call.specs.Call.{usage_text}
+use Rattle.trace_call.proofs.call.put_usage.Goals as goal
+
+pub returns : goal.returns
+unfolding usage_text
+returns g c = then (then c.put.ensures c.put-2.ensures) c.put-3.ensures

@@ -1,0 +1,13 @@
+use Rattle.std.proofs.Common.{Err, refl}
+use Rattle.trace_call.specs.declared.stop.Stop.TheVariants.{Words}
+use Rattle.trace_call.proofs.call.trace.Goals as goal
+
+pub returns-in-None-clause-traced : goal.returns-in-None-clause-traced
+returns-in-None-clause-traced g c = record {
+  given = Err Words;
+  answer = rw c.in-None.ensures (refl, refl);
+  status_is = refl;
+  note = c.write_stop.ensures;
+  read_fault = λ is. absurd is;
+  write_fault = λ is. absurd is;
+}

@@ -1,0 +1,81 @@
+-- The words of a call.
+use Rattle.std.specs.Prelude.{ℕ, ◌+◌, ◌-◌, nat_le, Bool, ◌&&◌, List, [], ◌∷◌, codes, length, take, Option, None, Some, if◌then◌else◌, slice_index_or}
+use Rattle.std.specs.Option.{option_map}
+use Rattle.std.specs.Str.{bytes_eq}
+use Rattle.sig_types.specs.Text.{number_of, within}
+use Rattle.junction_run.specs.Form.{SiteWords}
+
+-- the names of the files of a run
+pub record RunWords : Type 0 where
+  pub program : List ℕ
+  pub site : SiteWords
+  pub detectors : List ℕ
+
+-- the values of these names, all where there are none, in the seconds from the first to the last
+pub record ValuesWords : Type 0 where
+  pub run : RunWords
+  pub names : List (List ℕ)
+  pub first : ℕ
+  pub last : ℕ
+
+-- what the words ask for
+pub data Asked : Type 0 where
+  Help : Asked
+  Version : Asked
+  Values : (asked : ValuesWords) → Asked
+
+-- words, and a number
+pub record Numbered : Type 0 where
+  pub words : List (List ℕ)
+  pub number : ℕ
+
+-- whether the last but one of these words is an option
+abbrev pub has_option : List (List ℕ) → List ℕ → Bool
+has_option words option = nat_le 2 (length words) && bytes_eq (slice_index_or words (length words - 2) []) option
+
+-- the number that the last word is, from 1 to 604,800
+abbrev pub last_number : List (List ℕ) → Option ℕ
+last_number words = within 1 604800 (number_of (slice_index_or words (length words - 1) []))
+
+-- The words before an option that stands behind them with its number, and the number; where it doesn't stand there all words, and
+-- another number. None where the word behind it is no such number.
+abbrev pub cut_option : List (List ℕ) → List ℕ → ℕ → Option Numbered
+cut_option words option other =
+    if has_option words option
+    then option_map (λ n. record { words = take (length words - 2) words; number = n }) (last_number words)
+    else Some (record { words = words; number = other })
+
+-- what is asked for with this last second, where the first is known
+abbrev pub values_from : RunWords → ℕ → Option Numbered → Option Asked
+values_from run last None = None
+values_from run last (Some cut) = Some (Values (record { run = run; names = cut.words; first = cut.number; last = last }))
+
+-- the same, where the last is known
+abbrev pub values_to : RunWords → Option Numbered → Option Asked
+values_to run None = None
+values_to run (Some cut) = values_from run cut.number (cut_option cut.words (codes "--from") 1)
+
+-- NAME .. --from N --to N
+abbrev pub values_form : RunWords → List (List ℕ) → Option Asked
+values_form run words = values_to run (cut_option words (codes "--to") 604800)
+
+-- --help and --version
+abbrev pub lone_form : List ℕ → Option Asked
+lone_form word =
+    if bytes_eq word (codes "--help") then Some Help
+    else (if bytes_eq word (codes "--version") then Some Version else None)
+
+-- FORM and the names of files, and the words behind them
+abbrev pub run_form : (form : List ℕ) → RunWords → List (List ℕ) → Option Asked
+run_form form run words = if bytes_eq form (codes "values") then values_form run words else None
+
+-- what the words after the program's name ask for; None where they are no form
+abbrev pub form_of : List (List ℕ) → Option Asked
+form_of (word ∷ []) = lone_form word
+form_of (form ∷ program ∷ plan ∷ times ∷ intergreens ∷ detectors ∷ words) =
+    run_form form (record {
+      program = program;
+      site = record { plan = plan; times = times; intergreens = intergreens };
+      detectors = detectors;
+    }) words
+form_of _ = None

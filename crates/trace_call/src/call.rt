@@ -1,0 +1,127 @@
+// The top call.
+ghost use Rattle.std.specs.Prelude.{◌≡◌, ◌≤◌, ℕ, List, Option, OnErr, IsTrue, ◌⊎◌, map, string_bytes};
+ghost use Rattle.std.specs.Option.{ForSome};
+ghost use Rattle.sig_io.specs.Draft.{IsDraft, Puts};
+ghost use Rattle.sig_io.specs.Outside.{Rose};
+ghost use Rattle.sig_io.specs.Seen.{seen};
+ghost use Rattle.junction_run.specs.Stop.{StopsWith};
+ghost use Rattle.junction_run.specs.declared.status.Status.TheVariants as status;
+ghost use Rattle.trace_call.specs.Call.{IsDone, IsTraced, IsWritten, usage_text, version_text};
+ghost use Rattle.trace_call.specs.FormWords.{asked_in};
+ghost use Rattle.trace_call.specs.Notes.{status_of};
+
+use crate::form::{Form, form_of};
+use crate::stop::{Stop, status_of, write_stop};
+use crate::values::values;
+use junction_run::{PlayStop, Status, Stop as RunStop};
+use sig_io::{Draft, Files, Sink};
+use std::alloc::Global;
+
+// Puts how it is called.
+#[tactic(auto, unfolding(crate::specs::Call::usage_text))]
+fn put_usage<O: Sink>(draft: &mut Draft, sink: &mut O)
+    ensures { Puts O.taken O.faults draft.old draft.new sink.old sink.new usage_text }
+{
+    draft.put(
+        sink,
+        b"junction_trace values PROGRAM PUA TIMES INTERGREENS DETECTORS [NAME ..] [--from N] [--to N]\n",
+    );
+    draft.put(
+        sink,
+        b"    a table of the program's variables, timers and cells after each second, as CSV\n",
+    );
+    draft.put(
+        sink,
+        b"junction_trace --help | --version\n    this text; the version\n",
+    );
+}
+
+// Gives a sink the rest of a text.
+fn end<'a, O: Sink>(draft: Draft, out: &mut O) -> Result<(), Stop<'a>>
+    ensures written { (start : Option (List ℕ)) (text : List ℕ) → IsDraft start (O.taken out.old) draft text →
+        IsWritten text result start (O.taken out.new) }
+    ensures cause { OnErr result (IsTrue draft.failed ⊎ Rose (O.faults out.old) (O.faults out.new)) }
+    ensures later { O.faults out.old ≤ O.faults out.new }
+{
+    match draft.finish(out) {
+        Ok(()) => Ok(()),
+        Err(_fault) => Err(Stop::Run(RunStop::Play(PlayStop::WriteFault))),
+    }
+}
+
+// Writes how it is called.
+fn write_usage<'a, O: Sink>(out: &mut O) -> Result<(), Stop<'a>>
+    ensures written { IsWritten usage_text result (O.taken out.old) (O.taken out.new) }
+    ensures cause { OnErr result (Rose (O.faults out.old) (O.faults out.new)) }
+{
+    let mut draft = Draft::new();
+    put_usage(&mut draft, out);
+    end(draft, out)
+}
+
+// Writes the version.
+fn write_version<'a, O: Sink>(out: &mut O) -> Result<(), Stop<'a>>
+    ensures written { IsWritten version_text result (O.taken out.old) (O.taken out.new) }
+    ensures cause { OnErr result (Rose (O.faults out.old) (O.faults out.new)) }
+{
+    let mut draft = Draft::new();
+    draft.put(out, b"junction_trace 0.1.0\n");
+    end(draft, out)
+}
+
+// Does what is asked for.
+fn do_form<'a, F: Files, O: Sink>(
+    alloc: Global,
+    form: Form<'a>,
+    files: &mut F,
+    out: &mut O,
+) -> Result<(), Stop<'a>>
+    ensures done { ForSome (F.told files.old) (λ file.
+        IsDone (asked_in form.entry) file result (O.taken out.old) (O.taken out.new)) }
+    ensures contents_stay { F.told files.new ≡ F.told files.old }
+    ensures read { StopsWith status_of status.ReadFault result → Rose (F.faults files.old) (F.faults files.new) }
+    ensures write { StopsWith status_of status.WriteFault result → Rose (O.faults out.old) (O.faults out.new) }
+{
+    match form {
+        Form::Help => write_usage(out),
+        Form::Version => write_version(out),
+        Form::Values { run, names, window } => values(alloc, run, names, window, files, out),
+    }
+}
+
+/// Does what the words of the command line after the program's name say, and tells in a note why it stopped where it did.
+///
+/// - `values PROGRAM PUA TIMES INTERGREENS DETECTORS NAME .. --from N --to N` writes a table of the values that the names choose, all
+///   where there are none, as each second from N to N leaves them. The files are read and judged as by `junction run`, and then the
+///   names. All memory is taken before the first byte is written.
+/// - `--help` and `--version` write how it is called, and the version.
+pub fn trace<F: Files, O: Sink, N: Sink>(
+    alloc: Global,
+    words: &[String],
+    files: &mut F,
+    out: &mut O,
+    notes: &mut N,
+) -> Status
+    ensures traced { IsTraced (map string_bytes words.now)
+        (seen (F.told files.old) (F.told files.new) (F.faults files.old) (F.faults files.new))
+        (seen (O.taken out.old) (O.taken out.new) (O.faults out.old) (O.faults out.new))
+        (seen (N.taken notes.old) (N.taken notes.new) (N.faults notes.old) (N.faults notes.new))
+        result }
+    ensures contents_stay { F.told files.new ≡ F.told files.old }
+{
+    let form = match form_of(words) {
+        Some(form) => form,
+        None => {
+            let stop = Stop::Words;
+            write_stop(&stop, notes);
+            return Status::Words;
+        }
+    };
+    match do_form(alloc, form, files, out) {
+        Ok(()) => Status::Done,
+        Err(stop) => {
+            write_stop(&stop, notes);
+            status_of(&stop)
+        }
+    }
+}

@@ -1,0 +1,125 @@
+// The words of a call.
+ghost use Rattle.std.specs.Prelude.{◌≡◌, None, Some, MatchOption, map, string_bytes};
+ghost use Rattle.trace_call.specs.Form.{cut_option, form_of, lone_form, run_form, values_form};
+ghost use Rattle.trace_call.specs.FormWords.{asked_in, run_named};
+
+use junction_run::SiteWords;
+use sig_types::MOST_LINES;
+use sig_types::text::number;
+
+/// The names of the files of a run.
+#[derive(Clone, Copy)]
+pub struct RunNames<'a> {
+    pub program: &'a str,
+    pub site: SiteWords<'a>,
+    pub detectors: &'a str,
+}
+
+/// Some seconds of a run.
+#[derive(Clone, Copy, Debug, PartialEq, Eq)]
+pub struct Window {
+    /// The first second, from 1.
+    pub from: u32,
+    /// The last second.
+    pub to: u32,
+}
+
+/// What the words ask for.
+#[derive(Clone, Copy)]
+pub enum Form<'a> {
+    /// How it is called.
+    Help,
+    /// Which version it is.
+    Version,
+    /// The values of these names, or of all, in these seconds.
+    Values {
+        run: RunNames<'a>,
+        names: &'a [String],
+        window: Window,
+    },
+}
+
+// The words before an option that stands behind them with its number, and the number; where it doesn't stand there all words, and
+// another number. None where the word behind it is no such number.
+fn cut_option<'a>(words: &'a [String], option: &str, other: u32) -> Option<(&'a [String], u32)>
+    ensures { MatchOption result (cut_option (map string_bytes words.now) option.now other ≡ None)
+        (λ cut. cut_option (map string_bytes words.now) option.now other
+        ≡ Some (record { words = map string_bytes cut.0.now; number = cut.1 })) }
+{
+    if words.len() < 2 {
+        return Some((words, other));
+    }
+    let at = words.len() - 2;
+    if words[at].as_str() != option {
+        return Some((words, other));
+    }
+    let Some(value) = number(words[at + 1].as_bytes(), 1, MOST_LINES) else {
+        return None;
+    };
+    let (front, _) = words.split_at(at);
+    Some((front, value))
+}
+
+// NAME .. --from N --to N
+fn values_form<'a>(run: RunNames<'a>, words: &'a [String]) -> Option<Form<'a>>
+    ensures { MatchOption result (values_form (run_named run.entry) (map string_bytes words.now) ≡ None)
+        (λ form. values_form (run_named run.entry) (map string_bytes words.now) ≡ Some (asked_in form)) }
+{
+    let Some((words, to)) = cut_option(words, "--to", MOST_LINES) else {
+        return None;
+    };
+    let Some((names, from)) = cut_option(words, "--from", 1) else {
+        return None;
+    };
+    let window = Window { from, to };
+    Some(Form::Values { run, names, window })
+}
+
+// --help and --version
+fn lone_form(word: &str) -> Option<Form<'_>>
+    ensures { MatchOption result (lone_form word.now ≡ None) (λ form. lone_form word.now ≡ Some (asked_in form)) }
+{
+    if word == "--help" {
+        Some(Form::Help)
+    } else if word == "--version" {
+        Some(Form::Version)
+    } else {
+        None
+    }
+}
+
+// FORM and the names of files, and the words behind them
+fn run_form<'a>(form: &str, run: RunNames<'a>, words: &'a [String]) -> Option<Form<'a>>
+    ensures { MatchOption result (run_form form.now (run_named run.entry) (map string_bytes words.now) ≡ None)
+        (λ asked. run_form form.now (run_named run.entry) (map string_bytes words.now) ≡ Some (asked_in asked)) }
+{
+    if form == "values" {
+        values_form(run, words)
+    } else {
+        None
+    }
+}
+
+/// What the words after the program's name ask for; None where they are no form.
+pub fn form_of(words: &[String]) -> Option<Form<'_>>
+    ensures { MatchOption result (form_of (map string_bytes words.now) ≡ None)
+        (λ form. form_of (map string_bytes words.now) ≡ Some (asked_in form)) }
+{
+    match words {
+        [word] => lone_form(word.as_str()),
+        [form, program, plan, times, intergreens, detectors, rest @ ..] => {
+            let site = SiteWords {
+                plan: plan.as_str(),
+                times: times.as_str(),
+                intergreens: intergreens.as_str(),
+            };
+            let run = RunNames {
+                program: program.as_str(),
+                site,
+                detectors: detectors.as_str(),
+            };
+            run_form(form.as_str(), run, rest)
+        }
+        _ => None,
+    }
+}

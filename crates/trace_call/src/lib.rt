@@ -1,0 +1,10 @@
+//! The top call of `junction_trace`: what a program does inside.
+#![tactic(auto)]
+
+mod call;
+mod form;
+mod stop;
+mod values;
+
+pub use call::trace;
+pub use stop::{Stop, write_stop};
