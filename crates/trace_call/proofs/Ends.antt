@@ -1,5 +1,5 @@
 -- How telling ends.
-use Rattle.std.proofs.Common.{◌≡◌, ◌++◌, [], ℕ, Bool, true, false, List, Option, Result, Ok, Err, inl, inr, ◌⊎◌, refl, sym, subst, arith, append_assoc, Bor}
+use Rattle.std.proofs.Common.{◌≡◌, ◌++◌, [], ℕ, Bool, true, false, List, Option, Result, Ok, Err, inl, inr, ◌⊎◌, refl, subst, arith, append_assoc, Bor}
 use Rattle.std.proofs.lemmas.List.{append-nil}
 use Rattle.std.specs.Prelude.{IsTrue}
 use Rattle.sig_io.specs.Draft.{FailsOnly}
@@ -29,23 +29,40 @@ played_stop ReadFault word stream frames is = (refl, is)
 played_stop WriteFault word stream frames is = is
 played_stop (Refused line why) word stream frames is = (refl, is.0, is.1)
 
+-- words that are no form are no fault
+pub words_no_read : status.Words ≡ status.ReadFault → ⊥
+words_no_read is = absurd cc
+
+pub words_no_write : status.Words ≡ status.WriteFault → ⊥
+words_no_write is = absurd cc
+
+-- nor is another stop one of the sink
+read_no_write : status.ReadFault ≡ status.WriteFault → ⊥
+read_no_write is = absurd cc
+
+refused_no_write : status.RefusedLine ≡ status.WriteFault → ⊥
+refused_no_write is = absurd cc
+
+no_truth : false ≡ true → ⊥
+no_truth is = absurd cc
+
 -- a stop for the sink
 pub stopped_writing : (stop : Stop) (word : Bor (List ℕ)) → play_status (play_stop_of word stop) ≡ status.WriteFault → stop ≡ WriteFault
-stopped_writing ReadFault word is = absurd is
+stopped_writing ReadFault word is = absurd (read_no_write is)
 stopped_writing WriteFault word is = refl
-stopped_writing (Refused line why) word is = absurd is
+stopped_writing (Refused line why) word is = absurd (refused_no_write is)
 
 -- a draft that failed since it was new
 pub rose_failed : {a b : ℕ} {x y : Bool} → x ≡ false → y ≡ true → FailsOnly a b x y → Rose a b
-rose_failed {a} {b} {x} {y} new failed one = pick (one.failed (subst (λ (z : Bool). IsTrue z) (sym failed) tt))
+rose_failed {a} {b} {x} {y} new failed one = pick (one.failed failed)
   where
     pick : IsTrue x ⊎ Rose a b → Rose a b
-    pick (inl t) = absurd (subst (λ (z : Bool). IsTrue z) new t)
+    pick (inl t) = absurd (no_truth (subst (λ (z : Bool). IsTrue z) new t))
     pick (inr r) = r
 
 -- or later
 pub rose_later : {a b d : ℕ} {x y : Bool} → y ≡ false → FailsOnly a b x y → IsTrue y ⊎ Rose b d → Rose a d
-rose_later whole one (inl t) = absurd (subst (λ (z : Bool). IsTrue z) whole t)
+rose_later whole one (inl t) = absurd (no_truth (subst (λ (z : Bool). IsTrue z) whole t))
 rose_later whole one (inr r) = omega (arith, r, one.later)
 
 -- six pieces, two of which are one

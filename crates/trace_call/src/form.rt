@@ -39,8 +39,8 @@ pub enum Form<'a> {
     },
 }
 
-// The words before an option that stands behind them with its number, and the number; where it doesn't stand there all words, and
-// another number. None where the word behind it is no such number.
+// The words before an option that stands behind them with its number, and the number; where it doesn't stand there
+// all words, and another number. None where the word behind it is no such number.
 fn cut_option<'a>(words: &'a [String], option: &str, other: u32) -> Option<(&'a [String], u32)>
     ensures { MatchOption result (cut_option (map string_bytes words.now) option.now other ≡ None)
         (λ cut. cut_option (map string_bytes words.now) option.now other

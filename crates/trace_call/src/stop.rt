@@ -13,7 +13,8 @@ use sig_io::{Sink, put_each};
 pub enum Stop<'a> {
     /// The words are no form.
     Words,
-    /// A word names no value of the program. The name that is nearest to it, in lower case; no byte where the program has no value.
+    /// A word names no value of the program. The name that is nearest to it, in lower case; no byte where the program has
+    /// no value.
     NoName { word: &'a str, nearest: Vec<u8> },
     /// Loading, playing or writing stopped.
     Run(RunStop<'a>),

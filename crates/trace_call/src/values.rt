@@ -169,8 +169,8 @@ fn tell_values<'a, F: Files, O: Sink>(
     }
 }
 
-/// Loads a program at its site, and writes the values that names choose as the seconds of a detector file leave them. All memory is
-/// taken before the first byte is written.
+/// Loads a program at its site, and writes the values that names choose as the seconds of a detector file leave them.
+/// All memory is taken before the first byte is written.
 pub(crate) fn values<'a, F: Files, O: Sink>(
     alloc: Global,
     run: RunNames<'a>,

@@ -1,5 +1,6 @@
 use Rattle.std.proofs.Common.{Err, refl}
 use Rattle.trace_call.specs.declared.stop.Stop.TheVariants.{Words}
+use Rattle.trace_call.proofs.Ends.{words_no_read, words_no_write}
 use Rattle.trace_call.proofs.call.trace.Goals as goal
 
 pub returns-in-None-clause-traced : goal.returns-in-None-clause-traced
@@ -8,6 +9,6 @@ returns-in-None-clause-traced g c = record {
   answer = rw c.in-None.ensures (refl, refl);
   status_is = refl;
   note = c.write_stop.ensures;
-  read_fault = λ is. absurd is;
-  write_fault = λ is. absurd is;
+  read_fault = λ is. absurd (words_no_read is);
+  write_fault = λ is. absurd (words_no_write is);
 }
