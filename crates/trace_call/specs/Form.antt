@@ -37,8 +37,8 @@ has_option words option = nat_le 2 (length words) && bytes_eq (slice_index_or wo
 abbrev pub last_number : List (List ℕ) → Option ℕ
 last_number words = within 1 604800 (number_of (slice_index_or words (length words - 1) []))
 
--- The words before an option that stands behind them with its number, and the number; where it doesn't stand there all words, and
--- another number. None where the word behind it is no such number.
+-- The words before an option that stands behind them with its number, and the number; where it doesn't stand there
+-- all words, and another number. None where the word behind it is no such number.
 abbrev pub cut_option : List (List ℕ) → List ℕ → ℕ → Option Numbered
 cut_option words option other =
     if has_option words option

@@ -53,8 +53,8 @@ values_text asked file has frames =
     let columns = columns_for has.program asked.names in
     header_text has.program columns ++ rows_text asked.first asked.last columns (program_at has.site has.program) frames
 
--- The table of the seconds that were made was written, or only a front of it: of all up to the detector file's end or its first
--- refused line, or of the first ones.
+-- The table of the seconds that were made was written, or only a front of it: of all up to the detector file's end or
+-- its first refused line, or of the first ones.
 pub record WasTold {A : Type 0} (asked : ValuesWords) (file : Contents) (r : Result A PlayStop) (old new : Option (List ℕ)) : Type 0 where
   pub has : Has asked file
   pub frames : List Counts

@@ -91,9 +91,9 @@ fn do_form<'a, F: Files, O: Sink>(
 
 /// Does what the words of the command line after the program's name say, and tells in a note why it stopped where it did.
 ///
-/// - `values PROGRAM PUA TIMES INTERGREENS DETECTORS NAME .. --from N --to N` writes a table of the values that the names choose, all
-///   where there are none, as each second from N to N leaves them. The files are read and judged as by `junction run`, and then the
-///   names. All memory is taken before the first byte is written.
+/// - `values PROGRAM PUA TIMES INTERGREENS DETECTORS NAME .. --from N --to N` writes a table of the values that the names
+///   choose, all where there are none, as each second from N to N leaves them. The files are read and judged as by
+///   `junction run`, and then the names. All memory is taken before the first byte is written.
 /// - `--help` and `--version` write how it is called, and the version.
 pub fn trace<F: Files, O: Sink, N: Sink>(
     alloc: Global,
