@@ -69,11 +69,11 @@ module _ (asked : ValuesWords) (file : Contents) (site : Loaded) (program : Prog
       WasTold {A = A} asked file r old new
   told_of_files columns r old new loads runs valid chosen named is =
       let rows : rows_text asked.first asked.last columns (playing_in site) is.frames
-          ≡ rows_text asked.first asked.last columns (program_at (site_in site) program) is.frames =
+      ≡ rows_text asked.first asked.last columns (program_at (site_in site) program) is.frames =
       same_rows site.code program runs valid asked.first asked.last columns (site_in site) is.frames in
       let all : header_text program columns ++ rows_text asked.first asked.last columns (playing_in site) is.frames
-          ≡ header_text program (columns_for program asked.names)
-          ++ rows_text asked.first asked.last (columns_for program asked.names) (program_at (site_in site) program) is.frames =
+      ≡ header_text program (columns_for program asked.names)
+      ++ rows_text asked.first asked.last (columns_for program asked.names) (program_at (site_in site) program) is.frames =
       ap (λ t. header_text program columns ++ t) rows
       ∙ ap (λ cs. header_text program cs ++ rows_text asked.first asked.last cs (program_at (site_in site) program) is.frames) chosen in
       record {
@@ -109,14 +109,17 @@ module _ (asked : ValuesWords) (file : Contents) (site : Loaded) (program : Prog
   pub none_chosen : (stop : Stop) (now : Option (List ℕ)) → Loads → IsChosen program asked.names (Err stop) →
       IsValues {A = Unit {0}} asked file (Err stop) now now
   none_chosen Words now loads is = is
-  none_chosen (NoName word nearest) now loads is = (record {
-    program = program;
-    site = site_in site;
-    loads = loads;
-    place = is.place;
-    unknown = is.unknown;
-    word_is = is.word_is;
-    nearest_is = is.nearest_is;
-  }, refl)
+  none_chosen (NoName word nearest) now loads is = (
+    record {
+      program = program;
+      site = site_in site;
+      loads = loads;
+      place = is.place;
+      unknown = is.unknown;
+      word_is = is.word_is;
+      nearest_is = is.nearest_is;
+    },
+    refl,
+  )
   none_chosen (Run (Load stop)) now loads is = (wanted stop is, refl)
   none_chosen (Run (Play stop)) now loads is = absurd is

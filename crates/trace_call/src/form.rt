@@ -107,7 +107,15 @@ pub fn form_of(words: &[String]) -> Option<Form<'_>>
 {
     match words {
         [word] => lone_form(word.as_str()),
-        [form, program, plan, times, intergreens, detectors, rest @ ..] => {
+        [
+            form,
+            program,
+            plan,
+            times,
+            intergreens,
+            detectors,
+            rest @ ..,
+        ] => {
             let site = SiteWords {
                 plan: plan.as_str(),
                 times: times.as_str(),

@@ -5,7 +5,9 @@ ghost use Rattle.std.specs.Io.KnownBytes.{append_known};
 ghost use Rattle.sig_io.specs.Outside.{Rose};
 ghost use Rattle.trace_call.specs.Notes.{nearest_text, status_of, stop_note};
 
-use junction_run::{Status, Stop as RunStop, status_of as run_status, write_stop as write_run_stop};
+use junction_run::{
+    Status, Stop as RunStop, status_of as run_status, write_stop as write_run_stop,
+};
 use sig_io::{Sink, put_each};
 
 /// Why a call ends before all was done.

@@ -57,12 +57,7 @@ pub(crate) fn play_stop<'a>(stop: TellStop, word: &'a str) -> PlayStop<'a>
 }
 
 // The stop at a word that names no value.
-fn no_name<'a>(
-    alloc: Global,
-    checked: &Checked,
-    columns: &[Column],
-    word: &'a str,
-) -> Stop<'a>
+fn no_name<'a>(alloc: Global, checked: &Checked, columns: &[Column], word: &'a str) -> Stop<'a>
     ensures { IsNoNameStop (program_of checked.now.tree) columns.now word.now result }
 {
     match nearest_name(alloc, checked, columns, word.as_bytes()) {
@@ -89,7 +84,12 @@ fn chosen<'a>(
     match choose(alloc, checked, columns.as_slice(), names) {
         Ok(chosen) => Ok(chosen),
         Err(NoChoice::Memory) => Err(no_memory()),
-        Err(NoChoice::Unknown(k)) => Err(no_name(alloc, checked, columns.as_slice(), names[k].as_str())),
+        Err(NoChoice::Unknown(k)) => Err(no_name(
+            alloc,
+            checked,
+            columns.as_slice(),
+            names[k].as_str(),
+        )),
     }
 }
 
@@ -163,7 +163,16 @@ fn tell_values<'a, F: Files, O: Sink>(
         Ok(lines) => lines,
         Err(_memory) => return Err(RunStop::Load(LoadStop::Memory)),
     };
-    match write_values(checked, columns, window, &mut controller, &mut lines, word, files, out) {
+    match write_values(
+        checked,
+        columns,
+        window,
+        &mut controller,
+        &mut lines,
+        word,
+        files,
+        out,
+    ) {
         Ok(()) => Ok(()),
         Err(stop) => Err(RunStop::Play(stop)),
     }
@@ -194,7 +203,16 @@ pub(crate) fn values<'a, F: Files, O: Sink>(
         Ok(columns) => columns,
         Err(stop) => return Err(stop),
     };
-    match tell_values(alloc, site, &checked, columns.as_slice(), window, run.detectors, files, out) {
+    match tell_values(
+        alloc,
+        site,
+        &checked,
+        columns.as_slice(),
+        window,
+        run.detectors,
+        files,
+        out,
+    ) {
         Ok(()) => Ok(()),
         Err(stop) => Err(Stop::Run(stop)),
     }

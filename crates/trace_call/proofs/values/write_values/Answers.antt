@@ -17,8 +17,7 @@ returns-then-failed-clause-told g c = λ first stands none.
     let start = g.O.Sink.taken c.args.out.now in
     let header : List ℕ = header_text (program_of c.args.checked.now.tree) c.args.columns.now in
     let cut = is_cut start (g.O.Sink.taken c.put_header.new.out) c.put_header.new.draft header (sym c.failed.ensures ∙ c.if-failed.true)
-    (c.put_header.ensures.text start [] (c.new-draft.ensures.text start)) in
-    (
+    (c.put_header.ensures.text start [] (c.new-draft.ensures.text start)) in (
       [],
       subst (λ (t : List ℕ). (n : ℕ) × IsCut start (g.O.Sink.taken c.put_header.new.out) n t) (sym (append-nil header)) cut,
       λ file e. ((stream_of (file (name_of c.args.lines.now))).frames, refl),
