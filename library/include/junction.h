@@ -1,7 +1,8 @@
 /* junction.h: a proved traffic signal controller in your process.
  *
  * What is proved of the calls stands in crates/junction_c, clause by clause. Before the proved calls stands a file of plain C,
- * library/src/junction.c, which is not proved: it looks at your pointers and lengths, keeps the handle, and takes a note apart.
+ * library/src/junction.c, which is not proved: it looks at your pointers and lengths, keeps the handle and the names of the
+ * variables, and cuts the reason out of a note.
  *
  * What a caller owes, since no test in C can find it:
  *   1. A pointer that isn't null is good for what it points to, and no two arguments of a call overlap.
@@ -20,20 +21,21 @@ extern "C" {
 #endif
 
 /* The version of this interface. It stands here alone: the build reads it from this line. */
-#define JUNCTION_VERSION "0.1.0"
+#define JUNCTION_VERSION "0.2.0"
 
 /* The version of the library that is loaded. Where it isn't JUNCTION_VERSION, make no other call. */
 const char *junction_version(void);
 
-/* What each call answers. 1, 5 and 7 are the exit statuses of `junction run`. */
+/* What each call answers. 1, 5 and 7 are the exit statuses of `junction run` and `junction exec`. */
 enum junction_status {
     JUNCTION_DONE = 0,
     JUNCTION_NO_MEMORY = 1,
     JUNCTION_WRONG_CALL = 2, /* a null pointer, one that isn't aligned, or a length that can't be: nothing was done */
     JUNCTION_NOT_TAKEN = 3,  /* the counts are not taken: nothing has changed */
-    JUNCTION_NOTHING = 4,    /* there is no such group or refused stage command */
+    JUNCTION_NOTHING = 4,    /* there is no such group, refused stage command or variable */
     JUNCTION_REFUSED = 5,    /* a text is refused */
-    JUNCTION_TOO_LONG = 7    /* a text has more bytes than it may have */
+    JUNCTION_TOO_LONG = 7,   /* a text has more bytes than it may have */
+    JUNCTION_NO_NAMES = 8    /* the controller is of a code file, in which variables have no names */
 };
 
 /* A text: its bytes need no end. A null pointer with length 0 is an empty text. */
@@ -42,7 +44,8 @@ struct junction_text {
     size_t length;
 };
 
-/* The texts of a junction: a program in VAP, a plan (PUA file), a table of times and a table of intergreens. */
+/* The texts of a junction: a program in VAP (or a code file, for junction_open_code), a plan (PUA file), a table of times and a
+ * table of intergreens. */
 struct junction_texts {
     struct junction_text program, plan, times, intergreens;
 };
@@ -50,8 +53,9 @@ struct junction_texts {
 /* The text that is refused. */
 enum junction_file { JUNCTION_PROGRAM = 0, JUNCTION_PLAN = 1, JUNCTION_TIMES = 2, JUNCTION_INTERGREENS = 3 };
 
-/* Why texts are refused. `line` counts from 1; 0 is for the text as a whole. `note` is the line that `junction run` writes of
- * files named program, plan, times and intergreens, cut if it is longer, and ended by 0. `reason` is its last part. */
+/* Why texts are refused: the first text that is not as it must be, the first line of it at which it isn't, and why. `line` counts
+ * from 1; 0 is for the text as a whole. `note` is the line that `junction run` or `junction exec` writes of files named program,
+ * plan, times and intergreens, cut if it is longer, and ended by 0. `reason` is its last part. */
 struct junction_refusal {
     enum junction_file file;
     uint32_t line;
@@ -66,6 +70,10 @@ struct junction;
  * JUNCTION_REFUSED or JUNCTION_TOO_LONG the refusal is told, if `refusal` isn't null. The texts are copied. */
 enum junction_status junction_open(struct junction **opened, const struct junction_texts *texts,
                                    struct junction_refusal *refusal);
+
+/* The same of a code file, which `junction compile` writes, in the place of the program. */
+enum junction_status junction_open_code(struct junction **opened, const struct junction_texts *texts,
+                                        struct junction_refusal *refusal);
 
 /* Frees a controller; null is none. */
 void junction_close(struct junction *junction);
@@ -109,6 +117,9 @@ enum junction_status junction_refused_stage(struct junction *junction, size_t pl
 /* Copies the name of a group (from 0), which has at most 32 bytes, as far as it fits, with a 0 behind it where `room` allows;
  * its whole length goes into *length. */
 enum junction_status junction_group_name(struct junction *junction, size_t group, char *name, size_t room, size_t *length);
+
+/* The value of a variable of the program after the last second, by its name in letters of any case. Made for tests. */
+enum junction_status junction_value(struct junction *junction, const char *name, int32_t *value);
 
 #ifdef __cplusplus
 }

@@ -1,13 +1,16 @@
 /* junction.c: the calls of junction.h over the proved ones. Plain C, not proved. It refuses null pointers, pointers that aren't
- * aligned and lengths over PTRDIFF_MAX, keeps the handle in a block of its own, and takes the note of a refusal apart. It can't
- * find a length that is only too long, a controller that was closed or made up, and pointers that overlap. */
+ * aligned and lengths over PTRDIFF_MAX, keeps the handle and the names of the variables in a block of their own, and cuts the reason
+ * out of a note. It can't find a length that is only too long, a controller that was closed or made up, and pointers that overlap. */
 #include "proved.h"
 #include <stdalign.h>
+#include <stdio.h>
 #include <stdlib.h>
 #include <string.h>
 
 struct junction {
     struct proved_handle handle;
+    uint8_t *names; /* of the variables in the order of their numbers, a line feed behind each; null for a code file */
+    size_t named;   /* the length of them all */
 };
 
 const char *junction_version(void) { return JUNCTION_VERSION; }
@@ -27,32 +30,37 @@ static bool take_text(struct junction_text *text) {
 
 static const char *const FILES[4] = {"program", "plan", "times", "intergreens"};
 
-/* The parts of a note: `junction: FILE:LINE: REASON` or `junction: FILE: REASON`. */
-static void tell_refusal(struct junction_refusal *refusal, const uint8_t *note, size_t length) {
-    static const char begin[] = "junction: ";
+/* The parts of a note: `junction: FILE:LINE: REASON`, or `junction: FILE: TooLong`. */
+static void tell_refusal(struct junction_refusal *refusal, uint32_t status, const struct proved_refusal *told, const uint8_t *note) {
     memset(refusal, 0, sizeof *refusal);
-    if (length >= sizeof refusal->note) length = sizeof refusal->note - 1;
+    refusal->file = (enum junction_file)told->file, refusal->line = told->line;
+    size_t length = told->noted < sizeof refusal->note ? told->noted : sizeof refusal->note - 1;
     memcpy(refusal->note, note, length);
-    const char *at = refusal->note + (strncmp(refusal->note, begin, sizeof begin - 1) ? 0 : sizeof begin - 1);
-    for (int file = 0; file < 4; file++) {
-        size_t n = strlen(FILES[file]);
-        if (!strncmp(at, FILES[file], n) && at[n] == ':') {
-            refusal->file = (enum junction_file)file;
-            at += n + 1;
-            break;
-        }
-    }
-    char *end = refusal->note;
-    unsigned long line = *at >= '0' && *at <= '9' ? strtoul(at, &end, 10) : 0;
-    if (end > at && *end == ':') refusal->line = (uint32_t)line, at = end + 1;
-    at += strspn(at, " ");
-    size_t n = strcspn(at, "\n");
-    if (n >= sizeof refusal->reason) n = sizeof refusal->reason - 1;
-    memcpy(refusal->reason, at, n);
+    char head[48], line[16] = "";
+    if (status != JUNCTION_TOO_LONG) snprintf(line, sizeof line, "%u:", (unsigned)told->line);
+    size_t before = (size_t)snprintf(head, sizeof head, "junction: %s:%s ", FILES[told->file], line);
+    const char *reason = refusal->note + (before < length ? before : length);
+    size_t n = strcspn(reason, "\n");
+    memcpy(refusal->reason, reason, n < sizeof refusal->reason ? n : sizeof refusal->reason - 1);
 }
 
-enum junction_status junction_open(struct junction **opened, const struct junction_texts *given,
-                                   struct junction_refusal *refusal) {
+/* the names of a program's variables; false where memory is wanted */
+static bool take_names(struct junction *made, const struct junction_text *program) {
+    /* a name stands in the program, with a byte that is none of it behind it or at its end */
+    for (size_t room = program->length + 1;; room = made->named) {
+        uint8_t *names = realloc(made->names, room);
+        if (!names) return false;
+        made->names = names;
+        if (junction_c_variable_names(program->bytes, program->length, names, room, &made->named)) return false;
+        if (made->named <= room) break;
+    }
+    uint8_t *fitting = realloc(made->names, made->named + 1);
+    if (fitting) made->names = fitting;
+    return true;
+}
+
+static enum junction_status open_by(proved_load *load, struct junction **opened, const struct junction_texts *given,
+                                    struct junction_refusal *refusal) {
     if (!is_place(opened, alignof(struct junction *))) return JUNCTION_WRONG_CALL;
     *opened = NULL;
     if (!is_place(given, alignof(struct junction_texts))) return JUNCTION_WRONG_CALL;
@@ -63,22 +71,34 @@ enum junction_status junction_open(struct junction **opened, const struct juncti
     struct junction *made = calloc(1, sizeof *made);
     if (!made) return JUNCTION_NO_MEMORY;
     uint8_t note[sizeof refusal->note - 1];
-    size_t noted = 0;
-    uint32_t status = junction_c_load(&made->handle, texts.program.bytes, texts.program.length, texts.plan.bytes,
-                                      texts.plan.length, texts.times.bytes, texts.times.length, texts.intergreens.bytes,
-                                      texts.intergreens.length, note, sizeof note, &noted);
+    struct proved_refusal told = {0};
+    uint32_t status = load(&made->handle, texts.program.bytes, texts.program.length, texts.plan.bytes, texts.plan.length,
+                           texts.times.bytes, texts.times.length, texts.intergreens.bytes, texts.intergreens.length, note,
+                           sizeof note, &told);
+    if (status == JUNCTION_DONE && load == junction_c_load && !take_names(made, &texts.program)) status = JUNCTION_NO_MEMORY;
     if (status == JUNCTION_DONE) {
         *opened = made;
         return JUNCTION_DONE;
     }
-    if (refusal && status != JUNCTION_NO_MEMORY) tell_refusal(refusal, note, noted < sizeof note ? noted : sizeof note);
-    free(made);
+    if (refusal && status != JUNCTION_NO_MEMORY) tell_refusal(refusal, status, &told, note);
+    junction_close(made);
     return (enum junction_status)status;
+}
+
+enum junction_status junction_open(struct junction **opened, const struct junction_texts *texts,
+                                   struct junction_refusal *refusal) {
+    return open_by(junction_c_load, opened, texts, refusal);
+}
+
+enum junction_status junction_open_code(struct junction **opened, const struct junction_texts *texts,
+                                        struct junction_refusal *refusal) {
+    return open_by(junction_c_load_code, opened, texts, refusal);
 }
 
 void junction_close(struct junction *junction) {
     if (!is_place(junction, alignof(struct junction))) return;
     junction_c_end(&junction->handle);
+    free(junction->names);
     free(junction);
 }
 
@@ -118,4 +138,26 @@ enum junction_status junction_group_name(struct junction *junction, size_t group
     if (!*length) return JUNCTION_NOTHING;
     if (*length < room) name[*length] = 0;
     return JUNCTION_DONE;
+}
+
+/* whether a name of the list, which is in small letters, is this one */
+static bool is_name(const uint8_t *listed, size_t length, const char *name) {
+    for (size_t i = 0; i < length; i++) {
+        char letter = name[i] >= 'A' && name[i] <= 'Z' ? (char)(name[i] + 'a' - 'A') : name[i];
+        if ((uint8_t)letter != listed[i]) return false;
+    }
+    return name[length] == 0;
+}
+
+enum junction_status junction_value(struct junction *junction, const char *name, int32_t *value) {
+    if (!is_place(junction, alignof(struct junction)) || !name || !is_place(value, alignof(int32_t))) return JUNCTION_WRONG_CALL;
+    if (!junction->names) return JUNCTION_NO_NAMES;
+    size_t number = 0;
+    for (size_t at = 0; at < junction->named; number++) {
+        size_t length = (size_t)((uint8_t *)memchr(junction->names + at, '\n', junction->named - at) - junction->names) - at;
+        if (is_name(junction->names + at, length, name))
+            return (enum junction_status)junction_c_variable_value(&junction->handle, number, value);
+        at += length + 1;
+    }
+    return JUNCTION_NOTHING;
 }

@@ -11,15 +11,27 @@ struct proved_handle {
     bool held;
 };
 
-/* 0, or 1, 5, 7 with the note of `junction run`, whose beginning is copied and whose length is *noted. */
-uint32_t junction_c_load(struct proved_handle *handle, const uint8_t *program, size_t program_length, const uint8_t *plan,
-                         size_t plan_length, const uint8_t *times, size_t times_length, const uint8_t *intergreens,
-                         size_t intergreens_length, uint8_t *note, size_t room, size_t *noted);
+/* How long the note of a refusal is, which text it is of (as enum junction_file), and the line. */
+struct proved_refusal {
+    size_t noted;
+    uint32_t file, line;
+};
+
+/* 0, or 1, or 5, 7 with the note of `junction run` or `junction exec`, whose beginning is copied, and its parts */
+typedef uint32_t proved_load(struct proved_handle *handle, const uint8_t *program, size_t program_length, const uint8_t *plan,
+                             size_t plan_length, const uint8_t *times, size_t times_length, const uint8_t *intergreens,
+                             size_t intergreens_length, uint8_t *note, size_t room, struct proved_refusal *refusal);
+proved_load junction_c_load, junction_c_load_code;
 /* 0: made and told; 3: the counts are not taken; 4: nothing is held */
 uint32_t junction_c_second(struct proved_handle *handle, const struct junction_counts *counts, struct junction_told *told);
 /* 0: told; 4: there is none, or nothing is held */
 uint32_t junction_c_refused_stage(struct proved_handle *handle, size_t place, struct junction_refused_stage *told);
 /* the length of the name, which is copied as far as it fits; 0: there is no such group, or nothing is held */
 size_t junction_c_group_name(struct proved_handle *handle, uint8_t group, uint8_t *name, size_t room);
+/* 0: the names of the variables of a program are copied as far as they fit, with a line feed behind each, and their length is told;
+ * 1: memory was wanted; 5: it is no program */
+uint32_t junction_c_variable_names(const uint8_t *program, size_t program_length, uint8_t *names, size_t room, size_t *length);
+/* 0: the value of the variable of that number is told; 4: there is none, or nothing is held */
+uint32_t junction_c_variable_value(struct proved_handle *handle, size_t number, int32_t *value);
 void junction_c_end(struct proved_handle *handle);
 #endif

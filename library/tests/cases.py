@@ -1,7 +1,8 @@
 #!/usr/bin/env python3
 """cases.py REPOSITORY JUNCTION FOLDER: the logs of the examples and of test programs by the built program JUNCTION, each as
-FOLDER/NAME.log beside FOLDER/NAME.words, the paths of its program, PUA file, times, intergreens and detectors. And junctions of
-hostile texts: FOLDER/hostile.list has for each the status of JUNCTION and the paths of its four texts and of its note."""
+FOLDER/NAME.log beside FOLDER/NAME.words, the paths of its program, PUA file, times, intergreens and detectors, and FOLDER/NAME.code,
+the code of its program. And junctions of hostile texts: FOLDER/hostile.list has for each the command, the status of JUNCTION and the
+paths of its four texts and of its note."""
 import pathlib
 import random
 import re
@@ -76,26 +77,29 @@ def changed(text):
     return text
 
 
-def hostile(repository, junction, folder, sites):
+def hostile(repository, junction, folder, sites, code_of):
     """junctions of which one text is changed, or is one of test_hostile, or far too long"""
     given = texts(repository)
     base = [given["TIMER"], given["TWO_STAGES"], given["TIMES"], given["INTERGREENS"]]
     made = [[*base[:at], text, *base[at + 1 :]] for at, text in hostile_texts(repository)]
+    codes = []
     made += [[*base[:at], base[at] + b" " * more, *base[at + 1 :]] for at in range(4) for more in (1 << 20, 1 << 21)]
     made += [[*base[:at], b"", *base[at + 1 :]] for at in range(4)]
     for site in sites:
         for _ in range(30):
             at = random.randrange(4)
             made.append([changed(text) if i == at else text for i, text in enumerate(site)])
+        codes += [[changed(code), *rest] for code, *rest in [[code_of[site[0]], *site[1:]]] for _ in range(10)]
+    codes.append(base)
     top, lines, names = folder / "hostile", [], ("program", "plan", "times", "intergreens")
-    for number, four in enumerate(made):
+    for number, (command, four) in enumerate([("run", four) for four in made] + [("exec", four) for four in codes]):
         place = top / str(number)
         place.mkdir(parents=True, exist_ok=True)
         for name, text in zip((*names, "detectors"), (*four, b"")):
             (place / name).write_bytes(text)
-        run = subprocess.run([junction, "run", *names, "detectors"], cwd=place, capture_output=True)
+        run = subprocess.run([junction, command, *names, "detectors"], cwd=place, capture_output=True)
         (place / "note").write_bytes(run.stderr)
-        lines.append(" ".join([str(run.returncode), *(str(place / name) for name in (*names, "note"))]))
+        lines.append(" ".join([command, str(run.returncode), *(str(place / name) for name in (*names, "note"))]))
     (folder / "hostile.list").write_text("\n".join(lines) + "\n")
     return len(lines)
 
@@ -131,17 +135,21 @@ def main(repository, junction, folder):
             for word, part in zip(words, parts):
                 word.write_bytes(part)
             cases[f"test_{name.lower()}"] = words
+    code_of = {}
     for name, words in cases.items():
         run = subprocess.run([junction, "run", *words], capture_output=True)
         if run.returncode:
             print(name, "is not run:", run.stderr.decode().strip())
             continue
+        code = subprocess.run([junction, "compile", words[0]], capture_output=True, check=True).stdout
+        (folder / f"{name}.code").write_bytes(code)
+        code_of[pathlib.Path(words[0]).read_bytes()] = code
         (folder / f"{name}.log").write_bytes(run.stdout)
         (folder / f"{name}.words").write_text(" ".join(map(str, words)) + "\n")
     sites = [
         [pathlib.Path(word).read_bytes() for word in words[:4]] for name, words in cases.items() if not name.startswith("test_")
     ]
-    print(len(list(folder.glob("*.log"))), "logs,", hostile(repository, junction, folder, sites), "junctions of hostile texts")
+    print(len(list(folder.glob("*.log"))), "logs,", hostile(repository, junction, folder, sites, code_of), "junctions of hostile texts")
     return 0
 
 

@@ -12,14 +12,15 @@ python3 "$here/tests/cases.py" "$repository" "$junction" "$logs"
 example=$repository/crates/junction/examples/four_arms
 site="$example/four_arms.vap $example/junction.pua $example/times.csv $example/intergreens.csv"
 for words in "$logs"/*.words; do
-    printf '%s: ' "$(basename "$words" .words)"; "$bin/test_junction" $(cat "$words") "${words%.words}.log"
+    printf '%s: ' "$(basename "$words" .words)"; "$bin/test_junction" $(cat "$words") "${words%.words}.log" "${words%.words}.code"
 done
 "$bin/test_calls" $site
 "$bin/test_threads" $site
 "$bin/test_many" $site "$logs/hostile.list"
 if command -v valgrind > /dev/null; then
     sound="valgrind -q --error-exitcode=9 --leak-check=full --show-leak-kinds=all --errors-for-leak-kinds=all"
-    $sound "$bin/test_junction_plain" $(cat "$logs/two_stages_side_road.words") "$logs/two_stages_side_road.log"
+    $sound "$bin/test_junction_plain" $(cat "$logs/two_stages_side_road.words") "$logs/two_stages_side_road.log" \
+        "$logs/two_stages_side_road.code"
     $sound "$bin/test_calls_plain" $site
     $sound "$bin/test_many_plain" $site "$logs/hostile.list" 300
     echo "valgrind finds nothing"

@@ -47,6 +47,43 @@ static void refusals(const struct junction_texts *texts) {
     free(blanks);
 }
 
+/* a variable's value by its name */
+static void values(const struct junction_texts *given) {
+    static const char program[] = "PROGRAM v;\nSeen := Seen + 2;\nother := 7 - Seen;\nPROG_ENDE: .\n";
+    static const char code[] = "VAPCODE 1\nVARS 1\nTIMERS 0\nARRAYS 0\nROUTINES 1\n0\nCODE 1\nret\nEND\n";
+    static const char none[] = "PROGRAM v;\nPROG_ENDE: .\n";
+    struct junction_texts texts = *given;
+    struct junction *junction;
+    struct junction_counts counts = {{2}, {1}}, rears = {{0}, {9}};
+    struct junction_told told;
+    int32_t value = 9;
+    texts.program = (struct junction_text){program, sizeof program - 1};
+    check(!junction_open(&junction, &texts, NULL), "a program with variables");
+    check(!junction_value(junction, "Seen", &value) && value == 0, "a variable before the first second");
+    for (int s = 1; s <= 3; s++) {
+        check(!junction_second(junction, &counts, &told) && !junction_value(junction, "seen", &value) && value == 2 * s &&
+                  !junction_value(junction, "OTHER", &value) && value == 7 - 2 * s,
+              "variables after a second");
+    }
+    check(junction_second(junction, &rears, &told) == JUNCTION_NOT_TAKEN && !junction_value(junction, "seen", &value) && value == 6,
+          "a variable after counts that are not taken");
+    value = 9;
+    static const char *const others[] = {"", "see", "seens", "seen\n", "seen\nother", "front_ends"};
+    for (unsigned i = 0; i < sizeof others / sizeof *others; i++)
+        check(junction_value(junction, others[i], &value) == JUNCTION_NOTHING && value == 9, "a name that isn't there");
+    check(junction_value(NULL, "seen", &value) == JUNCTION_WRONG_CALL && junction_value(junction, NULL, &value) == JUNCTION_WRONG_CALL &&
+              junction_value(junction, "seen", NULL) == JUNCTION_WRONG_CALL,
+          "null for a value");
+    junction_close(junction);
+    texts.program = (struct junction_text){none, sizeof none - 1};
+    check(!junction_open(&junction, &texts, NULL) && junction_value(junction, "seen", &value) == JUNCTION_NOTHING, "no variables");
+    junction_close(junction);
+    texts.program = (struct junction_text){code, sizeof code - 1};
+    check(!junction_open_code(&junction, &texts, NULL) && junction_value(junction, "seen", &value) == JUNCTION_NO_NAMES && value == 9,
+          "a code file has no names");
+    junction_close(junction);
+}
+
 static void wrong_calls(struct junction *junction, char *odd) {
     struct junction_counts counts = {{0}, {0}}, two[2] = {{{0}, {0}}, {{0}, {1}}};
     struct junction_told told, many[2];
@@ -87,6 +124,7 @@ int main(int count, char **words) {
     struct junction_texts texts = read_texts(words + 1);
     wrong_openings(&texts);
     refusals(&texts);
+    values(&texts);
     struct junction *junction;
     char *odd = malloc(1024);
     check(junction_open(&junction, &texts, NULL) == JUNCTION_DONE, "an opening");

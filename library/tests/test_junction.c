@@ -1,4 +1,4 @@
-/* test_junction PROGRAM PUA TIMES INTERGREENS DETECTORS LOG: steps a controller over a detector file, compares with the log of
+/* test_junction PROGRAM PUA TIMES INTERGREENS DETECTORS LOG CODE: steps a controller over a detector file, compares with the log of
  * `junction run` byte for byte, lets each call of malloc, calloc and realloc fail in turn, and tries the edges of what counts
  * are taken. Linked with -Wl,--wrap=malloc,--wrap=calloc,--wrap=realloc. */
 #include "junction_log.h"
@@ -19,22 +19,24 @@ static void first_seconds(struct junction *junction, struct junction_told *told)
     for (int s = 0; s < FIRST; s++) check(!junction_second(junction, &counts, &told[s]), "a second");
 }
 
+typedef enum junction_status opening(struct junction **, const struct junction_texts *, struct junction_refusal *);
+
 /* Each call for memory of an opening fails in turn. Then it answers JUNCTION_NO_MEMORY and tells no refusal; or, where the
  * library went on by itself with less room, it answers as with ample memory. Nothing is lost: the sanitizer would tell. */
-static long fail_in_turn(const struct junction_texts *texts, enum junction_status wanted, long *survived) {
+static long fail_in_turn(opening *open, const struct junction_texts *texts, enum junction_status wanted, long *survived) {
     static struct junction_told right[FIRST], told[FIRST];
     struct junction_refusal right_refusal, refusal, untouched;
     struct junction *junction;
     memset(&untouched, '.', sizeof untouched);
     right_refusal = untouched;
-    check(junction_open(&junction, texts, &right_refusal) == wanted, "the status with ample memory");
+    check(open(&junction, texts, &right_refusal) == wanted, "the status with ample memory");
     if (!wanted) first_seconds(junction, right);
     junction_close(junction);
     *survived = 0;
     for (long n = 1;; n++) {
         refusal = untouched;
         calls = 0, failing = n;
-        enum junction_status status = junction_open(&junction, texts, &refusal);
+        enum junction_status status = open(&junction, texts, &refusal);
         failing = 0;
         if (status == JUNCTION_NO_MEMORY) {
             check(calls >= n && !junction && !memcmp(&refusal, &untouched, sizeof refusal),
@@ -117,8 +119,9 @@ static void names(struct junction *junction) {
 }
 
 int main(int count, char **words) {
-    if (count != 7) return 2;
-    struct junction_texts texts = read_texts(words + 1), refused = texts;
+    if (count != 8) return 2;
+    struct junction_texts texts = read_texts(words + 1), refused = texts, coded = texts;
+    coded.program = read_text(words[7]);
     struct junction_text detectors = read_text(words[5]), log = read_text(words[6]);
     struct junction *junction;
     check(!junction_open(&junction, &texts, NULL), "the opening");
@@ -130,11 +133,18 @@ int main(int count, char **words) {
     edges(junction, seconds, fronts, rears);
     names(junction);
     junction_close(junction);
-    long survived, other_survived, some = fail_in_turn(&texts, JUNCTION_DONE, &survived);
+    check(!junction_open_code(&junction, &coded, NULL), "the opening of a code");
+    out = tmpfile();
+    play(junction, detectors, out, &fronts, &rears);
+    check(is_log(out, log), "the log of the code, byte for byte");
+    fclose(out);
+    junction_close(junction);
+    long survived, other_survived, code_survived, some = fail_in_turn(junction_open, &texts, JUNCTION_DONE, &survived);
+    long codes = fail_in_turn(junction_open_code, &coded, JUNCTION_DONE, &code_survived);
     refused.program = (struct junction_text){"PROGRAM nothing;", 16};
-    long other = fail_in_turn(&refused, JUNCTION_REFUSED, &other_survived);
-    free_texts(texts), free((void *)detectors.bytes), free((void *)log.bytes);
-    printf("%ld seconds; %ld and %ld calls for memory failed in turn, with %ld and %ld of which it went on; %s\n", seconds,
-           some, other, survived, other_survived, wrong ? "WRONG" : "ok");
+    long other = fail_in_turn(junction_open, &refused, JUNCTION_REFUSED, &other_survived);
+    free_texts(texts), free((void *)coded.program.bytes), free((void *)detectors.bytes), free((void *)log.bytes);
+    printf("%ld seconds; %ld, %ld and %ld calls for memory failed in turn, with %ld, %ld and %ld of which it went on; %s\n",
+           seconds, some, codes, other, survived, code_survived, other_survived, wrong ? "WRONG" : "ok");
     return wrong;
 }

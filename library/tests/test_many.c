@@ -1,7 +1,7 @@
 /* test_many PROGRAM PUA TIMES INTERGREENS LIST [HANDLES]: many controllers, one after the other and at once, and hostile texts.
  *
- * LIST is of cases.py: a line for each junction, with a status and the paths of a program, a PUA file, times, intergreens and
- * the note that `junction run` writes of them. */
+ * LIST is of cases.py: a line for each junction, with `run` or `exec`, the status of this command of `junction` and the paths of a
+ * program or a code, a PUA file, times, intergreens and the note that it writes of them. */
 #include "texts.h"
 
 enum { MADE = 10000, AT_ONCE = 100, SECONDS = 200, HELD = 4 };
@@ -51,17 +51,18 @@ static int is_of_note(const struct junction_refusal *refusal, struct junction_te
 }
 
 static long hostile(FILE *list, long *refused) {
-    char path[5][1024], *places[5] = {path[0], path[1], path[2], path[3], path[4]};
+    char command[8], path[5][1024], *places[5] = {path[0], path[1], path[2], path[3], path[4]};
     unsigned status;
     long tried = 0;
     struct junction_counts counts = {{0}, {0}};
     struct junction_told told;
-    while (fscanf(list, "%u %1023s %1023s %1023s %1023s %1023s", &status, path[0], path[1], path[2], path[3], path[4]) == 6) {
+    while (fscanf(list, "%7s %u %1023s %1023s %1023s %1023s %1023s", command, &status, path[0], path[1], path[2], path[3],
+                  path[4]) == 7) {
         struct junction_texts texts = read_texts(places);
         struct junction_text note = read_text(path[4]);
         struct junction_refusal refusal;
         struct junction *junction;
-        unsigned got = junction_open(&junction, &texts, &refusal);
+        unsigned got = (*command == 'e' ? junction_open_code : junction_open)(&junction, &texts, &refusal);
         int right = got == status && (status ? !junction && is_of_note(&refusal, note) : junction && !note.length);
         if (!right)
             printf("WRONG: %s: status %u, wanted %u, note %s", path[0], got, status, got ? refusal.note : "\n"), wrong = 1;

@@ -1,5 +1,5 @@
 #!/usr/bin/env python3
-"""vectors.py FOLDER..: plays each vector of these folders that is a `run` by calls of the Python module. A vector is a
+"""vectors.py FOLDER..: plays each vector of these folders that is a `run` or an `exec` by calls of the Python module. A vector is a
 folder with the files words, status, out and note of a call of `junction`, and those that the words name. What is opened, the
 seconds up to the first that is refused, and the status and note of a refused text must be the same. A detector file is read here
 and not by the library: of one that is refused, the log before it is compared, and where its counts are not taken the call must
@@ -37,7 +37,7 @@ def lines_of(text):
 def open_by(words, texts):
     """a controller; or the status and the note of its refusal, with the words of this call in it"""
     try:
-        return Controller(*texts), None
+        return Controller(*texts, is_code=words[0] == "exec"), None
     except Refused as at:
         named = f"junction: {at.file}:"
         assert at.note.startswith(named) and at.note.endswith(f" {at.reason}\n"), at.note
@@ -67,7 +67,7 @@ def text_of(path):
 def judge(vector):
     """what is wrong with the calls of a vector; None where they are as they must be, and False where the library has no part in it"""
     words = text_of(vector / "words").split("\n")[:-1]
-    if len(words) != 6 or words[0] != "run":
+    if len(words) != 6 or words[0] not in ("run", "exec"):
         return False
     status, note = int(text_of(vector / "status")), text_of(vector / "note")
     paths = [vector / word for word in words[1:]]

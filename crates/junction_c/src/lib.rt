@@ -1,14 +1,20 @@
-//! What another program calls: load a junction, make its seconds, ask for what they told in lists, end it.
+//! What another program calls: load a junction, make its seconds, ask for what they told in lists and for a variable's value, end
+//! it.
 #![tactic(auto)]
 
 ghost use Rattle.std.specs.Prelude.{◌≡◌, None};
+ghost use Rattle.junction_run.specs.Form.{ProgramFile, CodeFile};
 ghost use Rattle.junction_handle.specs.Numbers.{IsPlaying};
 ghost use Rattle.junction_handle.specs.Seconds.{IsSecondMade};
-ghost use Rattle.junction_calls.specs.Loads.{Texts, IsLoaded};
+ghost use Rattle.junction_calls.specs.Loads.{IsLoaded, source_name};
 ghost use Rattle.junction_calls.specs.Named.{IsGroupName, IsStageTold};
+ghost use Rattle.junction_calls.specs.Variables.{AreNamesTold, IsValueTold};
 
-use junction_calls::{RefusedStage, group_name, load_into, refused_stage};
+use junction_calls::{
+    Refusal, RefusedStage, group_name, load_into, refused_stage, variable_names, variable_value,
+};
 use junction_handle::{DetectorCounts, Junction, Told, make_second, take};
+use junction_run::Source;
 use std::alloc::Global;
 
 /// Frees what a handle holds.
@@ -21,7 +27,7 @@ pub extern "C" fn junction_c_end(alloc: Global, handle: &mut Junction)
 
 /// Puts the controller of a site and its program into a handle, whose former one is freed. It answers an exit status of `run`: 0
 /// where the handle holds a controller, before its first second; 1 where memory was wanted; 5 or 7 where a text is refused. Then
-/// the handle holds nothing, and `note` has the beginning of `run`'s note, whose length is `noted`.
+/// the handle holds nothing, `note` has the beginning of `run`'s note, and `refusal` its length, the text and the line.
 #[unsafe(no_mangle)]
 pub extern "C" fn junction_c_load(
     alloc: Global,
@@ -31,21 +37,53 @@ pub extern "C" fn junction_c_load(
     times: &[u8],
     intergreens: &[u8],
     note: &mut [u8],
-    noted: &mut usize,
+    refusal: &mut Refusal,
 ) -> u32
-    ensures loaded { IsLoaded (record { program = program.now; plan = plan.now; times = times.now; intergreens = intergreens.now })
-        result handle.new.value note.old note.new noted.new }
+    ensures loaded { IsLoaded (ProgramFile source_name)
+        (record { program = program.now; plan = plan.now; times = times.now; intergreens = intergreens.now })
+        result handle.new.value note.old note.new refusal.old refusal.new }
     ensures playing { IsPlaying handle.new.value }
 {
     load_into(
         alloc,
+        &Source::Program("program"),
         handle,
         program,
         plan,
         times,
         intergreens,
         note,
-        noted,
+        refusal,
+    )
+}
+
+/// The same of a code file in the place of a program, as `exec` takes it.
+#[unsafe(no_mangle)]
+pub extern "C" fn junction_c_load_code(
+    alloc: Global,
+    handle: &mut Junction,
+    code: &[u8],
+    plan: &[u8],
+    times: &[u8],
+    intergreens: &[u8],
+    note: &mut [u8],
+    refusal: &mut Refusal,
+) -> u32
+    ensures loaded { IsLoaded (CodeFile source_name)
+        (record { program = code.now; plan = plan.now; times = times.now; intergreens = intergreens.now })
+        result handle.new.value note.old note.new refusal.old refusal.new }
+    ensures playing { IsPlaying handle.new.value }
+{
+    load_into(
+        alloc,
+        &Source::Code("program"),
+        handle,
+        code,
+        plan,
+        times,
+        intergreens,
+        note,
+        refusal,
     )
 }
 
@@ -96,4 +134,33 @@ pub extern "C" fn junction_c_group_name(
     ensures name { IsGroupName handle.old.value place result name.old name.new }
 {
     group_name(handle, alloc, place, name)
+}
+
+/// Copies the names of a program's variables in the order of their numbers, each with a line feed behind it, as much as fits, and
+/// tells their whole length. 0: they are copied; 1: memory was wanted; 5: the text is no program, or too long for one.
+#[unsafe(no_mangle)]
+pub extern "C" fn junction_c_variable_names(
+    alloc: Global,
+    program: &[u8],
+    names: &mut [u8],
+    length: &mut usize,
+) -> u32
+    ensures { AreNamesTold program.now names.old names.new length.old length.new result }
+{
+    variable_names(alloc, program, names, length)
+}
+
+/// Tells the value of the variable of that number after the last second. 0: it is told; 4: there is none of that number, or the
+/// handle holds nothing.
+#[unsafe(no_mangle)]
+pub extern "C" fn junction_c_variable_value(
+    alloc: Global,
+    handle: &mut Junction,
+    number: usize,
+    value: &mut i32,
+) -> u32
+    ensures same { handle.new.value ≡ handle.old.value }
+    ensures value { IsValueTold handle.old.value number result value.old value.new }
+{
+    variable_value(handle, alloc, number, value)
 }

@@ -1,20 +1,44 @@
 // The log that calls add up to.
+ghost use Rattle.std.specs.Prelude.{◌≡◌};
+ghost use Rattle.junction_run.specs.Form.{word_of};
+ghost use Rattle.junction_run.specs.FormWords.{source_in};
+ghost use Rattle.junction_calls.specs.Loads.{source_name};
 ghost use Rattle.junction_handle.specs.Numbers.{IsPlaying};
 
 use det_stream::Lines;
-use junction_calls::{RefusedStage, group_name, load_into, refused_stage};
+use junction_calls::{Refusal, RefusedStage, group_name, load_into, refused_stage};
 use junction_handle::{DetectorCounts, Junction, Told, empty, make_second, take};
+use junction_run::Source;
 use sig_io::{Files, read_whole};
 use sig_types::Frame;
 use std::alloc::{AllocError, Global};
 
-/// The texts of a junction.
+/// The texts of a junction: a program or, where `is_code` says so, a code, the PUA file, the times and the intergreens.
 #[derive(Clone, Copy)]
 pub struct Texts<'a> {
+    pub is_code: bool,
     pub program: &'a [u8],
     pub plan: &'a [u8],
     pub times: &'a [u8],
     pub intergreens: &'a [u8],
+}
+
+/// A place for a refusal.
+pub const NO_REFUSAL: Refusal = Refusal {
+    noted: 0,
+    file: 9,
+    line: 0,
+};
+
+/// The name of a program's text, or of a code's.
+pub fn source_of(is_code: bool) -> Source<'static>
+    ensures { word_of (source_in result) ≡ source_name }
+{
+    if is_code {
+        Source::Code("program")
+    } else {
+        Source::Program("program")
+    }
 }
 
 fn rule_name(rule: u8) -> &'static str {
@@ -241,18 +265,19 @@ pub fn told_log<F: Files>(
 ) -> Result<Option<String>, AllocError> {
     let mut handle = empty();
     let mut note = [0u8; 64];
-    let mut noted = 0;
+    let mut refusal = NO_REFUSAL;
     let status = load_into(
         alloc,
+        &source_of(texts.is_code),
         &mut handle,
         texts.program,
         texts.plan,
         texts.times,
         texts.intergreens,
         &mut note,
-        &mut noted,
+        &mut refusal,
     );
-    if status != 0 || noted != 0 {
+    if status != 0 {
         return Ok(None);
     }
     let log = play(alloc, &mut handle, detectors, files);
@@ -282,6 +307,7 @@ pub fn tells_log<F: Files>(
             let times = text_of(alloc, files, times.as_str());
             let intergreens = text_of(alloc, files, intergreens.as_str());
             let texts = Texts {
+                is_code: false,
                 program: &program,
                 plan: &plan,
                 times: &times,

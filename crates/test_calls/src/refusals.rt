@@ -1,5 +1,8 @@
 // What calls answer that do nothing.
-use junction_calls::{RefusedStage, group_name, load_into, refused_stage};
+use crate::logs::{NO_REFUSAL, source_of};
+use junction_calls::{
+    Refusal, RefusedStage, group_name, load_into, refused_stage, variable_names, variable_value,
+};
 use junction_handle::{DetectorCounts, Told, empty, make_second, take};
 use std::alloc::Global;
 use std::test::Fail;
@@ -37,23 +40,24 @@ fn untold() -> Told {
     }
 }
 
-// What loading answers, with the note's place and its length.
-fn loaded(alloc: Global, case: &Case<'_>) -> (u32, [u8; 40], usize) {
+// What loading answers, with the note's place and where the text is refused.
+fn loaded(alloc: Global, is_code: bool, case: &Case<'_>) -> (u32, [u8; 40], Refusal) {
     let mut handle = empty();
     let mut note = [b'.'; 40];
-    let mut noted = 7;
+    let mut refusal = NO_REFUSAL;
     let status = load_into(
         alloc,
+        &source_of(is_code),
         &mut handle,
         case.program,
         case.plan,
         case.times,
         case.intergreens,
         &mut note,
-        &mut noted,
+        &mut refusal,
     );
     let _ended = take(&mut handle, alloc);
-    (status, note, noted)
+    (status, note, refusal)
 }
 
 const NO_PROGRAM: Case<'static> = Case {
@@ -71,19 +75,24 @@ const NO_PLAN: Case<'static> = Case {
 #[test]
 fn refused_texts_are_noted(rt: HostRuntime) -> Result<(), Fail> {
     let alloc = rt.alloc();
-    let (status, note, noted) = loaded(alloc, &NO_PROGRAM);
+    let (status, note, refusal) = loaded(alloc, false, &NO_PROGRAM);
     assert_eq!(rt; status, 5);
-    assert_eq!(rt; noted, 32);
+    assert_eq!(rt; (refusal.noted, refusal.file, refusal.line), (32, 0, 1));
     assert_eq!(rt;
         note.as_slice(),
         b"junction: program:1: Unexpected\n........".as_slice()
     );
-    let (status, _note, noted) = loaded(alloc, &DONE);
-    assert_eq!(rt; status, 0);
-    assert_eq!(rt; noted, 0);
-    let (status, note, _noted) = loaded(alloc, &NO_PLAN);
+    let (status, note, refusal) = loaded(alloc, true, &NO_PROGRAM);
     assert_eq!(rt; status, 5);
-    assert!(rt; note.starts_with(b"junction: plan:"));
+    assert_eq!(rt; (refusal.noted, refusal.file, refusal.line), (28, 0, 1));
+    assert!(rt; note.starts_with(b"junction: program:1: Header\n"));
+    let (status, _note, refusal) = loaded(alloc, false, &DONE);
+    assert_eq!(rt; status, 0);
+    assert_eq!(rt; refusal.file, 9);
+    let (status, note, refusal) = loaded(alloc, false, &NO_PLAN);
+    assert_eq!(rt; status, 5);
+    assert_eq!(rt; (refusal.file, refusal.line), (1, 3));
+    assert!(rt; note.starts_with(b"junction: plan:3: "));
     Ok(())
 }
 
@@ -100,15 +109,17 @@ fn nothing_is_told_of_what_is_not_there(rt: HostRuntime) -> Result<(), Fail> {
     assert_eq!(rt; group_name(&mut handle, alloc, 0, &mut name), 0);
     assert_eq!(rt; refused_stage(&mut handle, alloc, 0, &mut stage), 4);
     let case = TIMER_RUN;
+    let mut refusal = NO_REFUSAL;
     let status = load_into(
         alloc,
+        &source_of(false),
         &mut handle,
         case.program,
         case.plan,
         case.times,
         case.intergreens,
         &mut [],
-        &mut 0,
+        &mut refusal,
     );
     assert_eq!(rt; status, 0);
     assert_eq!(rt; group_name(&mut handle, alloc, 2, &mut name), 0);
@@ -130,5 +141,56 @@ fn nothing_is_told_of_what_is_not_there(rt: HostRuntime) -> Result<(), Fail> {
         None
     );
     assert_eq!(rt; told.second, 77);
+    Ok(())
+}
+
+const COUNTING: &[u8] = b"PROGRAM v;\nSeen := Seen + Front_ends(1);\nother := 7;\nPROG_ENDE: .\n";
+
+#[test]
+fn variables_are_told(rt: HostRuntime) -> Result<(), Fail> {
+    let alloc = rt.alloc();
+    let mut names = [b'.'; 12];
+    let mut length = 0;
+    assert_eq!(rt;
+        variable_names(alloc, b"PROGRAM v;", &mut names, &mut length),
+        5
+    );
+    assert_eq!(rt; length, 0);
+    assert_eq!(rt; variable_names(alloc, COUNTING, &mut names, &mut length), 0);
+    assert_eq!(rt; length, 11);
+    assert_eq!(rt; names.as_slice(), b"seen\nother\n.".as_slice());
+    let case = Case {
+        program: COUNTING,
+        ..TIMER_RUN
+    };
+    let mut handle = empty();
+    let mut refusal = NO_REFUSAL;
+    let mut value = 5;
+    assert_eq!(rt; variable_value(&mut handle, alloc, 0, &mut value), 4);
+    let status = load_into(
+        alloc,
+        &source_of(false),
+        &mut handle,
+        case.program,
+        case.plan,
+        case.times,
+        case.intergreens,
+        &mut [],
+        &mut refusal,
+    );
+    assert_eq!(rt; status, 0);
+    assert_eq!(rt; variable_value(&mut handle, alloc, 2, &mut value), 4);
+    assert_eq!(rt; value, 5);
+    let mut told = untold();
+    let two_fronts = counts(2, 0);
+    assert_eq!(rt;
+        make_second(&mut handle, alloc, &two_fronts, &mut told),
+        Some(true)
+    );
+    assert_eq!(rt; variable_value(&mut handle, alloc, 0, &mut value), 0);
+    assert_eq!(rt; value, 2);
+    assert_eq!(rt; variable_value(&mut handle, alloc, 1, &mut value), 0);
+    assert_eq!(rt; value, 7);
+    let _ended = take(&mut handle, alloc);
     Ok(())
 }

@@ -5,7 +5,7 @@ import pathlib
 import unittest
 
 import vantulig
-from vantulig import Controller, Ended, NotTaken, Record, Refused
+from vantulig import Controller, Ended, NoNames, NotTaken, Record, Refused
 
 EXAMPLES = pathlib.Path(os.environ.get("EXAMPLES", "crates/junction/examples"))
 LOGS = pathlib.Path(os.environ.get("LOGS", "."))
@@ -22,12 +22,13 @@ class Logs(unittest.TestCase):
         tried = 0
         for words in sorted(LOGS.glob("*.words")):
             program, pua, times, intergreens, detectors = words.read_text().split()
-            with self.subTest(words.stem), Controller.open(program, pua, times, intergreens) as c:
-                text = c.header() + "".join(
-                    c.step(counts_of(line)).line() for line in pathlib.Path(detectors).read_text().splitlines()
-                )
-                self.assertEqual(text, words.with_suffix(".log").read_text())
-                tried += 1
+            lines = pathlib.Path(detectors).read_text().splitlines()
+            code = words.with_suffix(".code")
+            for way, source in ((Controller.open, program), (Controller.open_code, code)):
+                with self.subTest(words.stem, way=way.__name__), way(source, pua, times, intergreens) as c:
+                    text = c.header() + "".join(c.step(counts_of(line)).line() for line in lines)
+                    self.assertEqual(text, words.with_suffix(".log").read_text())
+                    tried += 1
         self.assertGreater(tried, 0)
 
 
@@ -129,6 +130,29 @@ class Calls(unittest.TestCase):
         finally:
             vantulig.numpy = kept
 
+    def test_value(self):
+        """a variable after each second; a code file has no names"""
+        program, rest = b"PROGRAM v;\nSeen := Seen + 2;\nPROG_ENDE: .\n", [path.read_bytes() for path in FOUR[1:]]
+        with Controller(program, *rest) as c:
+            self.assertEqual(c.value("Seen"), 0)
+            for seconds in range(1, 4):
+                c.step({1: (2, 1)})
+                self.assertEqual((c.value("seen"), c.value("SEEN")), (2 * seconds, 2 * seconds))
+            self.assertFalse(c.second({1: (0, 9)}))
+            self.assertEqual(c.value("Seen"), 6)
+            for other in ("", "see", "seen ", "seens", "Front_ends"):
+                with self.assertRaises(KeyError):
+                    c.value(other)
+            c.restart()
+            self.assertEqual(c.value("Seen"), 0)
+        with self.assertRaises(Ended):
+            c.value("Seen")
+        code = b"VAPCODE 1\nVARS 1\nTIMERS 0\nARRAYS 0\nROUTINES 1\n0\nCODE 1\nret\nEND\n"
+        with Controller(code, *rest, is_code=True) as c:
+            c.step({})
+            with self.assertRaises(NoNames):
+                c.value("Seen")
+
     def test_two(self):
         with Controller.open(*FOUR) as other:
             for _ in range(20):
@@ -153,6 +177,10 @@ class Calls(unittest.TestCase):
         self.assertEqual((told.status, told.file, told.line, told.reason), (7, "program", None, "TooLong"))
         with self.assertRaises(Refused):
             Controller(b"", *rest)
+        with self.assertRaises(Refused) as at:
+            Controller(FOUR[0].read_bytes(), *rest, is_code=True)
+        told = at.exception
+        self.assertEqual((told.file, told.line, told.reason), ("program", 1, "Header"))
 
 
 if __name__ == "__main__":

@@ -24,6 +24,7 @@ __all__ = [
     "StageRefusal",
     "Refused",
     "NotTaken",
+    "NoNames",
     "Ended",
     "RULES",
     "FAULTS",
@@ -78,7 +79,8 @@ _NO_COUNTS = bytes(ctypes.sizeof(_Counts))
 _STAGES = [f"S{number}" for number in range(256)]
 _new = tuple.__new__
 
-_DONE, _NO_MEMORY, _WRONG_CALL, _NOT_TAKEN = range(4)
+_DONE, _NO_MEMORY, _WRONG_CALL, _NOT_TAKEN, _NOTHING = range(5)
+_NO_NAMES = 8
 _Path = Union[str, "os.PathLike[str]"]
 
 
@@ -100,6 +102,10 @@ class NotTaken(ValueError):
     def __init__(self, text: str, made: Any = None):
         super().__init__(text)
         self.made = made
+
+
+class NoNames(LookupError):
+    """The controller is of a code file, in which variables have no names."""
 
 
 class Ended(ValueError):
@@ -152,7 +158,8 @@ def _library() -> ctypes.PyDLL:
         raise ImportError(f"{path} has version {found}; this module is of version {__version__}")
     handle, size, place = ctypes.c_void_p, ctypes.c_size_t, ctypes.c_void_p
     opens = [ctypes.POINTER(handle), ctypes.POINTER(_Texts), ctypes.POINTER(_Refusal)]
-    lib.junction_open.argtypes = opens
+    lib.junction_open.argtypes = lib.junction_open_code.argtypes = opens
+    lib.junction_value.argtypes = [handle, ctypes.c_char_p, ctypes.POINTER(ctypes.c_int32)]
     lib.junction_close.argtypes, lib.junction_close.restype = [handle], None
     lib.junction_second.argtypes = [handle, place, place]
     lib.junction_seconds.argtypes = [handle, size, place, place, ctypes.POINTER(size)]
@@ -182,15 +189,24 @@ def _array_of(counts: Iterable) -> Any:
     return numpy.ascontiguousarray(counts, numpy.uint32)
 
 
+def _read(*paths: _Path) -> List[bytes]:
+    texts = []
+    for path in paths:
+        with open(path, "rb") as file:
+            texts.append(file.read())
+    return texts
+
+
 class Controller:
-    """A controller of one junction, before its first second. The texts are bytes: a program in VAP, the plan as a PUA file, the
-    table of times and the table of intergreens."""
+    """A controller of one junction, before its first second. The texts are bytes: a program in VAP or, where `is_code` says so, a
+    code file, the plan as a PUA file, the table of times and the table of intergreens."""
 
     names: List[str]
 
-    def __init__(self, program: bytes, plan: bytes, times: bytes, intergreens: bytes):
+    def __init__(self, program: bytes, plan: bytes, times: bytes, intergreens: bytes, *, is_code: bool = False):
         self._handle: Optional[ctypes.c_void_p] = None
         self._lib = _library()
+        self._open = self._lib.junction_open_code if is_code else self._lib.junction_open
         # a function without types of its arguments is called faster; these have their C types already
         self._call = self._lib["junction_second"]
         self._texts = tuple(bytes(text) for text in (program, plan, times, intergreens))
@@ -203,17 +219,18 @@ class Controller:
     @classmethod
     def open(cls, program: _Path, plan: _Path, times: _Path, intergreens: _Path) -> "Controller":
         """A controller of four files, by their paths."""
-        texts = []
-        for path in (program, plan, times, intergreens):
-            with open(path, "rb") as file:
-                texts.append(file.read())
-        return cls(*texts)
+        return cls(*_read(program, plan, times, intergreens))
+
+    @classmethod
+    def open_code(cls, code: _Path, plan: _Path, times: _Path, intergreens: _Path) -> "Controller":
+        """The same of a code file, which `junction compile` writes, in the place of the program."""
+        return cls(*_read(code, plan, times, intergreens), is_code=True)
 
     def restart(self) -> None:
         """Begins anew, before the first second, with the same texts; after `end` too."""
         self.end()
         texts, refusal, opened = _Texts(*[(text, len(text)) for text in self._texts]), _Refusal(), ctypes.c_void_p()
-        status = self._lib.junction_open(opened, texts, refusal)
+        status = self._open(opened, texts, refusal)
         if status == _NO_MEMORY:
             raise MemoryError("a controller")
         if status != _DONE:
@@ -289,6 +306,19 @@ class Controller:
         if self._lib.junction_refused_stage(self._handle, place, refused):
             raise Ended("the controller has ended")
         return StageRefusal(refused.from_stage, refused.to, RULES[refused.rule])
+
+    def value(self, name: str) -> int:
+        """The value of a variable of the program after the last second, by its name in letters of any case. Made for tests. A
+        KeyError where the program has no such variable, and NoNames where the controller is of a code file."""
+        value = ctypes.c_int32()
+        status = self._lib.junction_value(self._handle, name.encode(), value)
+        if status == _NO_NAMES:
+            raise NoNames("a code file has no names of variables")
+        if status == _NOTHING:
+            raise KeyError(name)
+        if status:
+            raise Ended("the controller has ended")
+        return value.value
 
     def step(self, counts: Mapping[int, Tuple[int, int]]) -> Record:
         """Makes a second and tells its record."""

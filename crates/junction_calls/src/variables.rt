@@ -1,0 +1,68 @@
+// The variables of a program.
+ghost use Rattle.std.specs.Prelude.{◌≡◌, IfOk};
+ghost use Rattle.vap_ast.specs.Tree.{program_of};
+ghost use Rattle.junction_calls.specs.Variables.{names_text, AreNamesTold, IsValueTold};
+
+use crate::copy::copy_text;
+use junction_handle::{Junction, keep, take};
+use junction_run::{LoadStop, judge_source};
+use std::alloc::{AllocError, Global};
+use vap_check::Checked;
+
+// The names of the variables of a checked program.
+fn names_of(alloc: Global, checked: &Checked) -> Result<Vec<u8>, AllocError>
+    ensures { IfOk result (λ text. text.items ≡ names_text (program_of checked.now.tree)) }
+{
+    let mut text = Vec::new(alloc);
+    for number in 0..usize::from(checked.variables()) {
+        if let Some(name) = checked.variable_name(number) {
+            text.extend_from_slice(name.bytes())?;
+            text.push(b'\n')?;
+        }
+    }
+    Ok(text)
+}
+
+/// Copies the names of a program's variables, each with a line feed behind it, as much as fits, and tells their whole length. 0: they
+/// are copied; 1: memory was wanted; 5: the text is no program, or too long for one.
+pub fn variable_names(alloc: Global, program: &[u8], names: &mut [u8], length: &mut usize) -> u32
+    ensures { AreNamesTold program.now names.old names.new length.old length.new result }
+{
+    if program.len() > 1048576 {
+        return 5;
+    }
+    let checked = match judge_source(alloc, program, "program") {
+        Ok(checked) => checked,
+        Err(LoadStop::Refused { .. }) => return 5,
+        Err(LoadStop::Memory | LoadStop::ReadFault(_) | LoadStop::TooLong(_)) => return 1,
+    };
+    match names_of(alloc, &checked) {
+        Ok(text) => {
+            *length = copy_text(&text, names);
+            0
+        }
+        Err(_) => 1,
+    }
+}
+
+/// Tells the value of the variable of that number after the last second. 0: it is told; 4: there is none of that number, or the
+/// handle holds nothing.
+pub fn variable_value(handle: &mut Junction, alloc: Global, number: usize, value: &mut i32) -> u32
+    ensures same { handle.new.value ≡ handle.old.value }
+    ensures value { IsValueTold handle.old.value number result value.old value.new }
+{
+    match take(handle, alloc) {
+        None => 4,
+        Some(controller) => {
+            let found = controller.vm().variables().get(number).copied();
+            *handle = keep(controller);
+            match found {
+                Some(found) => {
+                    *value = found;
+                    0
+                }
+                None => 4,
+            }
+        }
+    }
+}
