@@ -44,5 +44,6 @@ pub record HasPage (page : Page) (h : History) : Type 0 where
   pub greens : (g i : ℕ) → g < stands.groups_of page.judge → i < stands.groups_of page.judge →
       together_at page.together.items (64 * g + i) ≡ together (both_green (trace h g) (trace h i) (length h))
 
+-- the page stands for this history
 unfoldable pub IsPageOf : Page → History → Type 0
 IsPageOf page h = HasPage page h

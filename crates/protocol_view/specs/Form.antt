@@ -40,6 +40,7 @@ form_of _ = None
 abbrev pub asked_in : ProtocolForm → Asked
 asked_in form = record { log = form.log.now; site = site_in form.site; style = form.style }
 
+-- the same where the words are a form
 abbrev pub asked_by : Option ProtocolForm → Option Asked
 asked_by None = None
 asked_by (Some form) = Some (asked_in form)
