@@ -106,19 +106,18 @@ fn first_failing_second<L: Ledger>(
 {
     let mut vm = Vm::new(alloc, code)?;
     let mut steps = Steps::<L>::new(blank);
-    for before in 0..6u8 {
-        let Some(second) = seconds.get(usize::from(before)) else {
-            return Ok(None);
-        };
+    let mut number = 0u8;
+    for second in seconds {
+        number = number.saturating_add(1);
         let world = Table {
             detector: second.detector,
             reads: second.reads,
-            given: Command::ClearFronts(DetNo(before + 1)),
+            given: Command::ClearFronts(DetNo(number)),
         };
         vm.begin_second();
         let ended = vm.pass(&world, &mut steps, &mut Unseen);
         if ended != end(second.fault) || vm.commands() != second.commands {
-            return Ok(Some(before + 1));
+            return Ok(Some(number));
         }
     }
     Ok(None)
