@@ -155,6 +155,8 @@ THEOREMS = [
     ("every breach of a history whose past is unknown", "`log_judge::breaches_of`", [("log_judge", "Breaches", ["breaches"])]),
     ("a history of any controller has no breach where it is safe", "`log_judge::laws`",
      [("log_judge", "Laws", ["NoBreachIsSafe", "PartsHaveNone"])]),
+    ("the first second with a breach is the audit's, and the least breach up to it", "`judge_laws::laws`",
+     [("judge_laws", "Laws", ["FirstIsAudits", "LeastIsAudits"])]),
     ("whether the pictures bear out a refused turn, and its numbers", "`log_judge::explain`",
      [("log_judge", "Explained", ["finding_now", "reason_now"]), ("log_judge", "Refused", ["IsBorneOut"])]),
     ("the guard's refusals are borne out, and told so", "`log_judge::laws`",
