@@ -171,6 +171,8 @@ THEOREMS = [
      [("log_site", "Loading", ["site_of"]), ("log_site", "Sites", ["site_of_tables"]), ("log_site", "Stop", ["IsLoading"])]),
     ("the pictures of a part of a log, or its first refused line", "`log_parts::LogPart::next_picture`",
      [("log_parts", "Log", ["IsPart", "first_second"]), ("log_parts", "Answers", ["AnswersNext"])]),
+    ("the records of a part of a log, or its first refused line", "`record_parts::RecordPart::next_record`",
+     [("record_parts", "Log", ["IsPart"]), ("record_parts", "Answers", ["IsOpened", "AnswersNext"])]),
     ("the texts of breaches, and the notes of what can't be judged", "`judge_text`, `judge_notes`",
      [("judge_text", "Rows", ["table_text"]), ("judge_text", "Lines", ["breaches_text"]), ("judge_text", "Sums", ["sums_text"]),
       ("judge_notes", "Notes", ["stop_note"]), ("judge_notes", "Statuses", ["status_of"])]),

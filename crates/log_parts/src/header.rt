@@ -22,7 +22,7 @@ fn after_name<'a>(plan: &Plan, group: GroupNo, text: &'a [u8]) -> Option<&'a [u8
 }
 
 /// Whether the line is the header of a log of this plan.
-pub(crate) fn is_header(plan: &Plan, line: &[u8]) -> bool
+pub fn is_header(plan: &Plan, line: &[u8]) -> bool
     ensures { result ≡ is_header plan.now.names line.now }
 {
     let Some(mut rest) = strip(b"VAPLOG 1", line) else {

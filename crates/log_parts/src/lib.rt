@@ -11,5 +11,7 @@ mod record;
 mod second;
 mod take;
 
+pub use header::is_header;
 pub use log_lines::{LogRefusal, LogWhy};
 pub use part::LogPart;
+pub use second::first_after;

@@ -29,7 +29,7 @@ fn first_told(line: &[u8]) -> u32
 }
 
 /// The first second of a log of which so many lines were read before this one: that of the first record, or the one that was kept.
-pub(crate) fn first_after(lines: u32, first: u32, line: &[u8]) -> u32
+pub fn first_after(lines: u32, first: u32, line: &[u8]) -> u32
     requires { first ≤ 999999999 }
     ensures first { result ≡ (if lines == 1 then first_told line.now else first) }
     ensures at_most { result ≤ 999999999 }

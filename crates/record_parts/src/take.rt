@@ -1,0 +1,69 @@
+// A line taken from a log, before its form is asked for.
+ghost use Rattle.std.specs.Prelude.{◌≡◌, ◌<◌, ◌≤◌, ◌+◌, ◌^◌, true, false, Ok, Err, OnOk};
+ghost use Rattle.std.specs.Option.{ForSome};
+ghost use Rattle.sig_io.specs.Outside.{Rose};
+ghost use Rattle.line_reader.specs.Unread.{bytes_given, longest_of, name_in, unread_bytes};
+ghost use Rattle.record_parts.specs.Taken.{IsTooLong, LineIsTaken};
+
+use line_reader::{LineReader, LineRefusal};
+use log_records::{LogStop, LogWhy};
+use sig_io::Files;
+
+// The most lines of a log: the header, and a record for each second of the longest run.
+const MOST: u32 = 604802;
+
+/// The refusal of the line that follows so many lines.
+pub(crate) fn refused(lines: u32, why: LogWhy) -> LogStop
+    requires { lines ≤ 604802 }
+    ensures { result ≡ LogStop.At (lines + 1) why }
+{
+    LogStop::At {
+        line: lines + 1,
+        why,
+    }
+}
+
+// The reason to refuse a line of more than 262,144 bytes that follows so many lines.
+fn too_long(lines: u32) -> LogWhy
+    requires { lines ≤ 604802 }
+    ensures { IsTooLong lines result }
+{
+    if lines == MOST {
+        LogWhy::TooManySeconds
+    } else {
+        LogWhy::LineTooLong
+    }
+}
+
+/// Takes the line that follows so many lines; false where none is left. It is not too long, and not one too many.
+pub(crate) fn take_line<F: Files>(
+    reader: &mut LineReader,
+    lines: u32,
+    files: &mut F,
+) -> Result<bool, LogStop>
+    requires longest { longest_of reader.old ≡ 262144 }
+    requires lines { lines ≤ 604802 }
+    requires given { bytes_given reader.old < 2 ^ 61 }
+    ensures taken { ForSome (F.told files.old) (λ file.
+        LineIsTaken lines (unread_bytes reader.old (file (name_in reader.old))) reader.new (file (name_in reader.old)) result) }
+    ensures below { result ≡ Ok true → lines < 604802 }
+    ensures no_memory { result ≡ Err LogStop.Memory → ⊥ }
+    ensures given { OnOk result (bytes_given reader.new ≤ bytes_given reader.old + 262145) }
+    ensures none_given { result ≡ Ok false → bytes_given reader.new ≡ bytes_given reader.old }
+    ensures longest { longest_of reader.new ≡ 262144 }
+    ensures name { name_in reader.new ≡ name_in reader.old }
+    ensures contents_stay { F.told files.new ≡ F.told files.old }
+    ensures later { F.faults files.old ≤ F.faults files.new }
+    ensures cause { result ≡ Err LogStop.Fault → Rose (F.faults files.old) (F.faults files.new) }
+{
+    match reader.next_line(files) {
+        Ok(true) => {}
+        Ok(false) => return Ok(false),
+        Err(LineRefusal::Fault) => return Err(LogStop::Fault),
+        Err(LineRefusal::TooLong) => return Err(refused(lines, too_long(lines))),
+    }
+    if lines == MOST {
+        return Err(refused(lines, LogWhy::TooManySeconds));
+    }
+    Ok(true)
+}
