@@ -176,6 +176,8 @@ THEOREMS = [
     ("the texts of breaches, and the notes of what can't be judged", "`judge_text`, `judge_notes`",
      [("judge_text", "Rows", ["table_text"]), ("judge_text", "Lines", ["breaches_text"]), ("judge_text", "Sums", ["sums_text"]),
       ("judge_notes", "Notes", ["stop_note"]), ("judge_notes", "Statuses", ["status_of"])]),
+    ("what was refused in a log, and the text of it", "`refusal_text::Refusals`, `put_refusals`",
+     [("refusal_text", "Refusals", ["refusals_of"]), ("refusal_text", "Kept", ["HasFound"]), ("refusal_text", "Text", ["refusals_text"])]),
     ("the whole contract of `log_report protocol`", "`protocol_view::report_protocol`",
      [("protocol_view", "Call", ["IsReported"])]),
     ("the page of what came in a part of a log", "`log_protocol::Page`, `Sheet::put`",

@@ -1,0 +1,10 @@
+use Rattle.std.proofs.Common.{take}
+use Rattle.std.specs.List.{flat_map}
+use Rattle.sig_io.specs.Draft.{Puts}
+use Rattle.refusal_text.specs.Lines.{line_text}
+use Rattle.refusal_text.proofs.line.put_lines.Given as goal
+
+abbrev pub invariant-loop-refusal : goal.invariant-loop-refusal
+invariant-loop-refusal g l =
+    Puts g.O.Sink.taken g.O.Sink.faults l.fn.draft l.draft l.fn.sink l.sink
+    (flat_map (line_text l.plan.names l.first) (take l.refusal-index l.found))

@@ -1,0 +1,10 @@
+pub mod Refusals
+pub mod Order
+pub mod Words
+pub mod Rows
+pub mod Lines
+pub mod Waits
+pub mod Counted
+pub mod Sums
+pub mod Text
+pub mod Kept
