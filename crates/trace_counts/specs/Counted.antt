@@ -52,3 +52,9 @@ pub record HasCounted (c : Counts) (sights : List Sight) : Type 0 where
   pub begun : AreCounted begins c.begun.items sights
   pub yes : AreCounted answers_yes c.yes.items sights
   pub no : AreCounted answers_no c.no.items sights
+
+-- it counts at so many places
+pub record HasPlaces (c : Counts) (places : ℕ) : Type 0 where
+  pub begun : length c.begun.items ≡ places
+  pub yes : length c.yes.items ≡ places
+  pub no : length c.no.items ≡ places

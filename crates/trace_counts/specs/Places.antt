@@ -3,11 +3,7 @@ use Rattle.std.specs.Prelude.{ℕ, ◌+◌, Bool, false, true, List, [], ◌∷�
 use Rattle.vap_code.specs.declared.Instr.{Instr}
 use Rattle.vap_code.specs.declared.Instr.TheVariants.{Tick, JumpZero}
 use Rattle.vap_code.specs.Valid.{is_call}
-
--- a place of a code, and the line of the text from which it comes
-pub record Mark : Type 0 where
-  pub place : ℕ
-  pub line : ℕ
+use Rattle.trace_counts.specs.declared.places.Mark.{Mark}
 
 -- the statement that begins with an instruction, if one does. The flag tells whether the instruction before calls a subroutine: a
 -- tick behind it spends the unit of the return, and begins no statement.

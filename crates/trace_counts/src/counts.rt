@@ -1,6 +1,7 @@
 // The observer that counts.
-ghost use Rattle.std.specs.Prelude.{◌≡◌, [], List, ℤ, replicate, slice_get, slice_index_or, IfOk};
-ghost use Rattle.trace_counts.specs.Counted.{HasCounted, counted_at, says_no, says_yes, spends};
+ghost use Rattle.std.specs.Prelude.{◌≡◌, ◌<◌, ◌+◌, ◌++◌, ℕ, [], List, ℤ, length, min, replicate, slice_get, slice_index_or, IfOk};
+ghost use Rattle.vap_code.specs.Sights.{Sight};
+ghost use Rattle.trace_counts.specs.Counted.{HasCounted, HasPlaces, counted_at, most_counted, says_no, says_yes, spends};
 
 use std::alloc::{AllocError, Global};
 use vap_code::Instr;
@@ -51,6 +52,24 @@ fn says_no(instr: Instr, top: Option<i32>) -> bool
     matches!(instr, Instr::JumpZero(_)) && value == 0
 }
 
+// No count is left.
+fn clear(counts: &mut Vec<u64>)
+    ensures { counts.new.items ≡ replicate (length counts.old.items) 0 }
+{
+    counts.fill(0);
+}
+
+// Adds the count at each place.
+fn add(totals: &mut Vec<u64>, counts: &[u64])
+    ensures places { length totals.new.items ≡ length totals.old.items }
+    ensures added { (place : ℕ) → place < length totals.old.items → slice_index_or totals.new.items place 0
+        ≡ min most_counted (slice_index_or totals.old.items place 0 + slice_index_or counts.now place 0) }
+{
+    for place in 0..totals.len() {
+        totals[place] = totals[place].saturating_add(at(counts, place));
+    }
+}
+
 // So many counts of 0.
 fn zeros(alloc: Global, places: usize) -> Result<Vec<u64>, AllocError>
     ensures { IfOk result (λ counts. counts.items ≡ replicate places 0) }
@@ -71,13 +90,35 @@ fn at(counts: &[u64], place: usize) -> u64
 impl Counts {
     /// Nothing is counted yet, for a code of so many instructions.
     pub fn new(alloc: Global, places: usize) -> Result<Counts, AllocError>
-        ensures places { IfOk result (λ c. c.begun.items ≡ replicate places 0) }
+        ensures places { IfOk result (λ c. HasPlaces c places) }
         ensures none { IfOk result (λ c. HasCounted c []) }
     {
         let begun = zeros(alloc, places)?;
         let yes = zeros(alloc, places)?;
         let no = zeros(alloc, places)?;
         Ok(Counts { begun, yes, no })
+    }
+
+    /// Nothing is counted any more.
+    pub fn clear(&mut self)
+        ensures places { (places : ℕ) → HasPlaces self.old places → HasPlaces self.new places }
+        ensures none { HasCounted self.new [] }
+    {
+        clear(&mut self.begun);
+        clear(&mut self.yes);
+        clear(&mut self.no);
+    }
+
+    /// What another one counted at the same places is counted too.
+    pub fn add(&mut self, other: &Counts)
+        requires { (places : ℕ) × HasPlaces self.old places × HasPlaces other.now places }
+        ensures places { (places : ℕ) → HasPlaces self.old places → HasPlaces self.new places }
+        ensures added { (sights more : List Sight) → HasCounted self.old sights → HasCounted other.now more →
+            HasCounted self.new (sights ++ more) }
+    {
+        add(&mut self.begun, &other.begun);
+        add(&mut self.yes, &other.yes);
+        add(&mut self.no, &other.no);
     }
 
     /// How often a statement began at a place; 0 outside of the code.

@@ -4,5 +4,7 @@
 #![tactic(auto)]
 
 mod counts;
+mod places;
 
 pub use counts::Counts;
+pub use places::{Mark, statements_in, tests_in};

@@ -1,0 +1,7 @@
+use Rattle.std.proofs.Common.{◌≡◌, ◌++◌, drop}
+use Rattle.trace_counts.specs.Places.{statements_from, statements_in}
+use Rattle.trace_counts.proofs.places.statements_in.Given as goal
+
+abbrev pub invariant-loop-place : goal.invariant-loop-place
+invariant-loop-place l =
+    l.marks.items ++ statements_from l.place l.behind_call (drop l.place l.instrs) ≡ statements_in l.instrs
