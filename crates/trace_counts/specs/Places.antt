@@ -1,9 +1,13 @@
 -- Where in a code statements begin and tests are answered, and the lines of the text from which they come.
-use Rattle.std.specs.Prelude.{ℕ, ◌+◌, Bool, false, true, List, [], ◌∷◌, ◌++◌}
+use Rattle.std.specs.Prelude.{ℕ, ◌+◌, ◌<◌, Bool, false, true, List, [], ◌∷◌, ◌++◌}
 use Rattle.vap_code.specs.declared.Instr.{Instr}
 use Rattle.vap_code.specs.declared.Instr.TheVariants.{Tick, JumpZero}
 use Rattle.vap_code.specs.Valid.{is_call}
 use Rattle.trace_counts.specs.declared.places.Mark.{Mark}
+
+-- a mark is at a place of a code with so many instructions
+abbrev pub IsWithin : ℕ → Mark → Type 0
+IsWithin places m = m.place < places
 
 -- the statement that begins with an instruction, if one does. The flag tells whether the instruction before calls a subroutine: a
 -- tick behind it spends the unit of the return, and begins no statement.

@@ -1,8 +1,8 @@
 // Where in a code statements begin and tests are answered.
-ghost use Rattle.std.specs.Prelude.{◌≡◌, ◌++◌, IfOk};
-ghost use Rattle.std.specs.Option.{option_to_list};
+ghost use Rattle.std.specs.Prelude.{◌≡◌, ◌++◌, ℕ, All, IfOk, length};
+ghost use Rattle.std.specs.Option.{IfSome, option_to_list};
 ghost use Rattle.vap_code.specs.Valid.{is_call};
-ghost use Rattle.trace_counts.specs.Places.{line_after, statement_at, statements_in, test_at, tests_in};
+ghost use Rattle.trace_counts.specs.Places.{IsWithin, line_after, statement_at, statements_in, test_at, tests_in};
 
 use std::alloc::{AllocError, Global};
 use vap_code::Instr;
@@ -23,7 +23,8 @@ fn is_call(instr: Instr) -> bool
 
 // The statement that begins with an instruction, if one does.
 fn statement_at(place: usize, behind_call: bool, instr: Instr) -> Option<Mark>
-    ensures { option_to_list result ≡ statement_at place behind_call instr }
+    ensures mark { option_to_list result ≡ statement_at place behind_call instr }
+    ensures place { IfSome result (λ m. m.place ≡ place) }
 {
     match instr {
         Instr::Tick(line) if !behind_call => Some(Mark { place, line }),
@@ -33,7 +34,8 @@ fn statement_at(place: usize, behind_call: bool, instr: Instr) -> Option<Mark>
 
 // The test that an instruction answers, if it does.
 fn test_at(place: usize, line: u32, instr: Instr) -> Option<Mark>
-    ensures { option_to_list result ≡ test_at place line instr }
+    ensures mark { option_to_list result ≡ test_at place line instr }
+    ensures place { IfSome result (λ m. m.place ≡ place) }
 {
     match instr {
         Instr::JumpZero(_) => Some(Mark { place, line }),
@@ -53,7 +55,9 @@ fn line_after(line: u32, instr: Instr) -> u32
 
 // Adds a mark, if there is one.
 fn add(marks: &mut Vec<Mark>, mark: Option<Mark>) -> Result<(), AllocError>
-    ensures { IfOk result (λ _. marks.new.items ≡ marks.old.items ++ option_to_list mark) }
+    ensures added { IfOk result (λ _. marks.new.items ≡ marks.old.items ++ option_to_list mark) }
+    ensures within { (places : ℕ) → All (IsWithin places) marks.old.items → IfSome mark (IsWithin places) →
+        All (IsWithin places) marks.new.items }
 {
     if let Some(mark) = mark {
         marks.push(mark)?;
@@ -63,7 +67,8 @@ fn add(marks: &mut Vec<Mark>, mark: Option<Mark>) -> Result<(), AllocError>
 
 /// Where the statements of a code begin, in the order in which they stand there.
 pub fn statements_in(alloc: Global, instrs: &[Instr]) -> Result<Vec<Mark>, AllocError>
-    ensures { IfOk result (λ marks. marks.items ≡ statements_in instrs.now) }
+    ensures marks { IfOk result (λ marks. marks.items ≡ statements_in instrs.now) }
+    ensures within { IfOk result (λ marks. All (IsWithin (length instrs.now)) marks.items) }
 {
     let mut marks = Vec::new(alloc);
     let mut behind_call = false;
@@ -77,7 +82,8 @@ pub fn statements_in(alloc: Global, instrs: &[Instr]) -> Result<Vec<Mark>, Alloc
 
 /// Where the tests of a code are answered, in the order in which they stand there.
 pub fn tests_in(alloc: Global, instrs: &[Instr]) -> Result<Vec<Mark>, AllocError>
-    ensures { IfOk result (λ marks. marks.items ≡ tests_in instrs.now) }
+    ensures marks { IfOk result (λ marks. marks.items ≡ tests_in instrs.now) }
+    ensures within { IfOk result (λ marks. All (IsWithin (length instrs.now)) marks.items) }
 {
     let mut marks = Vec::new(alloc);
     let mut line = 0;
