@@ -1,5 +1,5 @@
 // The observer that counts.
-ghost use Rattle.std.specs.Prelude.{◌≡◌, ◌<◌, ◌+◌, ◌++◌, ℕ, [], List, ℤ, length, min, replicate, slice_get, slice_index_or, IfOk};
+ghost use Rattle.std.specs.Prelude.{◌≡◌, ◌<◌, ◌+◌, ◌++◌, ℕ, [], List, ℤ, length, min, replicate, slice_get, slice_index_or, true, IfOk};
 ghost use Rattle.vap_code.specs.Sights.{Sight};
 ghost use Rattle.trace_counts.specs.Counted.{HasCounted, HasPlaces, counted_at, most_counted, says_no, says_yes, spends};
 
@@ -97,6 +97,13 @@ impl Counts {
         let yes = zeros(alloc, places)?;
         let no = zeros(alloc, places)?;
         Ok(Counts { begun, yes, no })
+    }
+
+    /// Whether it counts at so many places.
+    pub fn covers(&self, places: usize) -> bool
+        ensures { result ≡ true → HasPlaces self.now places }
+    {
+        self.begun.len() == places && self.yes.len() == places && self.no.len() == places
     }
 
     /// Nothing is counted any more.

@@ -122,6 +122,7 @@ pub fn tell_all<T: Teller, F: Files, O: Sink>(
         × ForSome (F.told files.old) (λ file. IsPlayed result (stream_of (file (name_of lines.old))) frames) }
     ensures contents_stay { F.told files.new ≡ F.told files.old }
     ensures later { F.faults files.old ≤ F.faults files.new }
+    ensures writes_later { O.faults out.old ≤ O.faults out.new }
     ensures read { result ≡ Err Stop.ReadFault → Rose (F.faults files.old) (F.faults files.new) }
     ensures write { result ≡ Err Stop.WriteFault → IsTrue draft.failed ⊎ Rose (O.faults out.old) (O.faults out.new) }
 {
