@@ -1,20 +1,22 @@
 // Slips in the text of a program.
-use crate::bytes::{begins, is_digit, is_word_byte};
+ghost use Rattle.std.specs.Prelude.{◌≡◌};
+ghost use Rattle.line_slips.specs.ProgramSlips.{assigned_slip, byte_slip, first_slip, is_equal_outside, of_byte, of_read_byte, opened_slip};
+ghost use Rattle.line_slips.specs.ProgramSlips.{or_else, sign_slip, slip_between, token_slip, wanted_slip, word_slip};
+
+use crate::bytes::{begins, is_word_byte, last_byte, trimmed_end};
+use crate::comments::{Reading, after, is_empty_text, is_inside, line_start};
 use crate::slip::{ByteSlip, TokenSlip};
-use crate::words::{Opened, is_empty_text, is_one_of, opened_in, word_after, word_before};
-
-const ELSE_IFS: [&[u8]; 4] = [b"ELSEIF", b"ELSIF", b"ELIF", b"ELSE_IF"];
-
-const END_IFS: [&[u8]; 3] = [b"ENDIF", b"END_IF", b"FI"];
-
-const LOOPS: [&[u8]; 9] = [
-    b"WHILE", b"FOR", b"REPEAT", b"UNTIL", b"LOOP", b"DO", b"SWITCH", b"CASE", b"FOREACH",
-];
-
-const OPERATORS: [&[u8]; 4] = [b"AND", b"OR", b"NOT", b"IF"];
+use crate::tokens::{
+    begins_with_digit, ends_with_decimal, ends_with_end_if, has_ended, has_then, is_else_if,
+    is_end_if, is_loop, is_operator, is_operator_word,
+};
+use crate::words::{Opened, opened_in, word_after, word_before};
+use sig_types::text::same_name;
 
 // What a byte that begins no token is likely to be.
-fn of_byte(b: u8) -> Option<ByteSlip> {
+fn of_byte(b: u8) -> Option<ByteSlip>
+    ensures { result ≡ of_byte b }
+{
     match b {
         b'!' => Some(ByteSlip::NotEqual),
         b'{' | b'}' => Some(ByteSlip::Braces),
@@ -27,100 +29,60 @@ fn of_byte(b: u8) -> Option<ByteSlip> {
     }
 }
 
+// The same of a byte outside comments; None of one in a comment.
+#[tactic(auto, unfolding(crate::specs::ProgramSlips::of_read_byte))]
+fn of_read_byte(at: Reading, b: u8) -> Option<ByteSlip>
+    ensures { result ≡ of_read_byte at b }
+{
+    if is_inside(at) { None } else { of_byte(b) }
+}
+
 /// Of a line with a byte that begins no token: by its first byte outside comments that begins none. A comment may begin in an
 /// earlier line, and one may end in a later one.
-pub fn byte_slip(line: &[u8]) -> Option<ByteSlip> {
-    let mut in_comment = false;
-    let mut found = None;
-    let mut last = 0u8;
+#[tactic(auto, unfolding(crate::specs::ProgramSlips::byte_slip))]
+pub fn byte_slip(line: &[u8]) -> Option<ByteSlip>
+    ensures { result ≡ byte_slip line.now }
+{
+    let mut at = line_start(line);
     for b in line {
-        let begins_comment = !in_comment && last == b'/' && *b == b'*';
-        if in_comment {
-            in_comment = !(last == b'*' && *b == b'/');
-        } else if begins_comment {
-            in_comment = true;
-        } else if last == b'*' && *b == b'/' {
-            found = None;
-        } else if found.is_none() {
-            found = of_byte(*b);
+        if let Some(slip) = of_read_byte(at, *b) {
+            return Some(slip);
         }
-        last = if begins_comment { 0 } else { *b };
+        at = after(at, *b);
     }
-    found
+    None
 }
 
-// Whether one token goes on from this byte to that one.
-fn is_inside(last: u8, b: u8) -> bool {
-    (is_word_byte(last) && is_word_byte(b))
-        || (b == b'=' && (last == b':' || last == b'<' || last == b'>'))
-        || (b == b'>' && last == b'<')
-}
-
-// A text behind the rest of the token that it begins with, where this byte stands before it.
-fn behind_token(last: u8, rest: &[u8]) -> &[u8] {
-    let mut last = last;
-    for i in 0..rest.len() {
-        if !is_inside(last, rest[i]) {
-            let (_, behind) = rest.split_at(i);
-            return behind;
-        }
-        last = rest[i];
-    }
-    &[]
-}
-
-// Whether a text ends with the token that goes on at its beginning, where this byte stands before it.
-fn has_ended(last: u8, rest: &[u8]) -> bool {
-    is_empty_text(behind_token(last, rest))
-}
-
-fn last_byte(text: &[u8]) -> u8 {
-    match text.last() {
-        Some(b) => *b,
-        None => 0,
-    }
-}
-
-// Whether a value is wanted behind a text that ends with this byte and this word.
-fn wants_value(last: u8, word: &[u8]) -> bool {
-    matches!(
-        last,
-        b'=' | b'<' | b'>' | b'+' | b'-' | b'*' | b'/' | b'(' | b'['
-    ) || is_one_of(word, &OPERATORS)
-}
-
-// Whether a text ends with `END IF`.
-fn ends_with_end_if(before: &[u8]) -> bool {
-    let word = word_before(before);
-    let (above, _) = before.split_at(before.len().saturating_sub(word.len()));
-    word.eq_ignore_ascii_case(b"IF")
-        && word_before(above.trim_ascii_end()).eq_ignore_ascii_case(b"END")
-}
-
-// By the words before and at a token, which has this text before it.
-fn of_words(text: &[u8], word: &[u8]) -> Option<TokenSlip> {
+// By the words before a token, which has this text before it, and at it.
+#[tactic(auto, unfolding(crate::specs::ProgramSlips::word_slip))]
+fn word_slip(text: &[u8], word: &[u8]) -> Option<TokenSlip>
+    ensures { result ≡ word_slip text.now word.now }
+{
     let before = word_before(text);
-    if is_one_of(before, &ELSE_IFS) || is_one_of(word, &ELSE_IFS) {
+    if is_else_if(before) || is_else_if(word) {
         Some(TokenSlip::ElseIf)
-    } else if is_one_of(before, &END_IFS) || is_one_of(word, &END_IFS) || ends_with_end_if(text) {
+    } else if is_end_if(before) || is_end_if(word) || ends_with_end_if(text) {
         Some(TokenSlip::EndIf)
-    } else if is_one_of(before, &LOOPS) || is_one_of(word, &LOOPS) {
+    } else if is_loop(before) || is_loop(word) {
         Some(TokenSlip::Loop)
     } else {
         None
     }
 }
 
-// Whether a text ends with a digit and a comma, blanks aside.
-fn ends_with_decimal(before: &[u8]) -> bool {
-    match before {
-        [.., digit, b','] => is_digit(*digit),
-        _ => false,
-    }
+// Whether an `=` stands where no test of an `IF` is open.
+#[tactic(auto, unfolding(crate::specs::ProgramSlips::is_equal_outside))]
+fn is_equal_outside(before: &[u8], rest: &[u8]) -> bool
+    ensures { result ≡ is_equal_outside before.now rest.now }
+{
+    begins(rest, b"=") && !opened_in(before).condition
 }
 
-// By the signs before and at a token.
-fn of_signs(before: &[u8], rest: &[u8]) -> Option<TokenSlip> {
+// By the signs before a token and at it.
+#[tactic(auto, unfolding(crate::specs::ProgramSlips::sign_slip))]
+fn sign_slip(before: &[u8], rest: &[u8]) -> Option<TokenSlip>
+    ensures { result ≡ sign_slip before.now rest.now }
+{
     let last = last_byte(before);
     if begins(rest, b"//") || (last == b'/' && begins(rest, b"/")) {
         Some(TokenSlip::SlashComment)
@@ -128,9 +90,9 @@ fn of_signs(before: &[u8], rest: &[u8]) -> Option<TokenSlip> {
         Some(TokenSlip::DoubleEqual)
     } else if last == b'=' && (begins(rest, b">") || begins(rest, b"<")) {
         Some(TokenSlip::SwappedSigns)
-    } else if begins(rest, b"=") && !opened_in(before).condition {
+    } else if is_equal_outside(before, rest) {
         Some(TokenSlip::EqualForAssign)
-    } else if ends_with_decimal(before) && rest.first().is_some_and(|b| is_digit(*b)) {
+    } else if ends_with_decimal(before) && begins_with_digit(rest) {
         Some(TokenSlip::DecimalComma)
     } else if begins(rest, b"(") && is_word_byte(last) {
         Some(TokenSlip::UnknownCall)
@@ -139,32 +101,12 @@ fn of_signs(before: &[u8], rest: &[u8]) -> Option<TokenSlip> {
     }
 }
 
-// Whether the line that a text begins with has a `THEN`.
-fn has_then(rest: &[u8]) -> bool {
-    for i in 0..rest.len() {
-        let (_, here) = rest.split_at(i);
-        if begins(here, b"THEN") {
-            return true;
-        }
-        if rest[i] == b'\n' {
-            return false;
-        }
-    }
-    false
-}
-
-// By an `=` behind a name that is assigned to, which may be a word of another language.
-fn of_assigned(before: &[u8], rest: &[u8]) -> Option<TokenSlip> {
-    if begins(rest, b"=") && is_word_byte(last_byte(before)) && !opened_in(before).condition {
-        Some(TokenSlip::EqualForAssign)
-    } else {
-        None
-    }
-}
-
-// By the `IF` that is open before a token.
-fn of_opened(opened: Opened, rest: &[u8], word: &[u8]) -> Option<TokenSlip> {
-    if word.eq_ignore_ascii_case(b"PROG_ENDE") && 0 < opened.ifs {
+// By what is open before a token.
+#[tactic(auto, unfolding(crate::specs::ProgramSlips::opened_slip))]
+fn opened_slip(opened: Opened, rest: &[u8], word: &[u8]) -> Option<TokenSlip>
+    ensures { result ≡ opened_slip opened rest.now word.now }
+{
+    if same_name(word, b"PROG_ENDE") && 0 < opened.ifs {
         Some(TokenSlip::EndMissing)
     } else if word.is_empty() || !opened.condition {
         None
@@ -176,23 +118,59 @@ fn of_opened(opened: Opened, rest: &[u8], word: &[u8]) -> Option<TokenSlip> {
 }
 
 // By what is wanted behind the text before a token.
-fn of_wanted(before: &[u8], rest: &[u8], word: &[u8]) -> Option<TokenSlip> {
-    if wants_value(last_byte(before), word_before(before)) {
-        return Some(TokenSlip::ValueMissing);
+#[tactic(auto, unfolding(crate::specs::ProgramSlips::wanted_slip))]
+fn wanted_slip(before: &[u8], rest: &[u8], word: &[u8]) -> Option<TokenSlip>
+    ensures { result ≡ wanted_slip before.now rest.now word.now }
+{
+    if is_operator(last_byte(before)) || is_operator_word(word_before(before)) {
+        Some(TokenSlip::ValueMissing)
+    } else {
+        opened_slip(opened_in(before), rest, word)
     }
-    of_opened(opened_in(before), rest, word)
+}
+
+// By an `=` behind a name that is assigned to, which may be a word of another language.
+#[tactic(auto, unfolding(crate::specs::ProgramSlips::assigned_slip))]
+fn assigned_slip(before: &[u8], rest: &[u8]) -> Option<TokenSlip>
+    ensures { result ≡ assigned_slip before.now rest.now }
+{
+    if is_word_byte(last_byte(before)) && is_equal_outside(before, rest) {
+        Some(TokenSlip::EqualForAssign)
+    } else {
+        None
+    }
 }
 
 // By the signs, and then by what is wanted.
-fn of_signs_and_wants(before: &[u8], rest: &[u8], word: &[u8]) -> Option<TokenSlip> {
-    match of_signs(before, rest) {
+fn sign_or_wanted(before: &[u8], rest: &[u8], word: &[u8]) -> Option<TokenSlip>
+    ensures { result ≡ or_else (sign_slip before.now rest.now) (wanted_slip before.now rest.now word.now) }
+{
+    match sign_slip(before, rest) {
         Some(slip) => Some(slip),
-        None => of_wanted(before, rest, word),
+        None => wanted_slip(before, rest, word),
+    }
+}
+
+// Of a token with this text before it, and this one from it on.
+#[tactic(auto, unfolding(crate::specs::ProgramSlips::slip_between))]
+fn slip_between(before: &[u8], rest: &[u8]) -> Option<TokenSlip>
+    ensures { result ≡ slip_between before.now rest.now }
+{
+    if let Some(slip) = assigned_slip(before, rest) {
+        return Some(slip);
+    }
+    let word = word_after(rest);
+    match word_slip(before, word) {
+        Some(slip) => Some(slip),
+        None => sign_or_wanted(before, rest, word),
     }
 }
 
 /// Of a text with which there is no program from the token at this place on.
-pub fn token_slip(text: &[u8], place: u32) -> Option<TokenSlip> {
+#[tactic(auto, unfolding(crate::specs::ProgramSlips::token_slip))]
+pub fn token_slip(text: &[u8], place: u32) -> Option<TokenSlip>
+    ensures { result ≡ token_slip text.now place }
+{
     let (before, rest) = text.split_at((place as usize).min(text.len()));
     if is_empty_text(text) {
         return Some(TokenSlip::EmptyProgram);
@@ -200,13 +178,5 @@ pub fn token_slip(text: &[u8], place: u32) -> Option<TokenSlip> {
     if has_ended(last_byte(before), rest) {
         return Some(TokenSlip::TextEnds);
     }
-    let before = before.trim_ascii_end();
-    if let Some(slip) = of_assigned(before, rest) {
-        return Some(slip);
-    }
-    let word = word_after(rest);
-    match of_words(before, word) {
-        Some(slip) => Some(slip),
-        None => of_signs_and_wants(before, rest, word),
-    }
+    slip_between(trimmed_end(before), rest)
 }

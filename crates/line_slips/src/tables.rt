@@ -1,8 +1,10 @@
 // Slips in a table.
-ghost use Rattle.std.specs.Prelude.{◌≤◌};
+ghost use Rattle.std.specs.Prelude.{◌≡◌, Some};
+ghost use Rattle.line_slips.specs.TableSlips.{begins_with_number, columns_slip, header_slip, is_off_at, name_slip, names_in, number_slip, times_slip};
 
-use crate::bytes::{begins, is_blank, is_digit};
+use crate::bytes::{begins, has_blank};
 use crate::slip::TableSlip;
+use sig_types::text::{is_digit, number};
 
 /// Which table it is.
 #[derive(Clone, Copy, Debug, PartialEq, Eq)]
@@ -11,94 +13,98 @@ pub enum Table {
     Intergreens,
 }
 
-/// Of a first record that isn't the header of its table.
-pub fn header_slip(table: Table, record: &[u8]) -> Option<TableSlip> {
-    if record.contains(&b';') {
-        return Some(TableSlip::Semicolons);
-    }
-    if record.starts_with(b",") {
-        return Some(TableSlip::Matrix);
-    }
+// Of a first record that isn't the header, by the words that it begins with.
+fn columns_slip(table: Table, row: &[u8]) -> TableSlip
+    ensures { result ≡ columns_slip table row.now }
+{
     match table {
-        Table::Times if begins(record, b"from,to") => Some(TableSlip::PairsAsTimes),
-        Table::Intergreens if begins(record, b"group,") => Some(TableSlip::TimesAsPairs),
-        Table::Times | Table::Intergreens => Some(TableSlip::OtherWords),
+        Table::Times if begins(row, b"from,to") => TableSlip::PairsAsTimes,
+        Table::Intergreens if begins(row, b"group,") => TableSlip::TimesAsPairs,
+        Table::Times | Table::Intergreens => TableSlip::OtherWords,
+    }
+}
+
+/// Of a first record that isn't the header of its table.
+#[tactic(auto, unfolding(crate::specs::TableSlips::header_slip))]
+pub fn header_slip(table: Table, row: &[u8]) -> Option<TableSlip>
+    ensures { result ≡ Some (header_slip table row.now) }
+{
+    if row.contains(&b';') {
+        Some(TableSlip::Semicolons)
+    } else if begins(row, b",") {
+        Some(TableSlip::Matrix)
+    } else {
+        Some(columns_slip(table, row))
     }
 }
 
 /// Of a record with a name that is no group's.
-pub fn name_slip(record: &[u8]) -> Option<TableSlip> {
-    if record.iter().any(|b| is_blank(*b)) {
+pub fn name_slip(row: &[u8]) -> Option<TableSlip>
+    ensures { result ≡ Some (name_slip row.now) }
+{
+    if has_blank(row) {
         Some(TableSlip::BlankInRecord)
     } else {
         Some(TableSlip::NoSuchGroup)
     }
 }
 
-// The number that a field is, from 0 to 999; None for another form.
-fn number_in(field: &[u8]) -> Option<u32> {
-    match field {
-        [a] if is_digit(*a) => Some(digit(*a)),
-        [a, b] if is_digit(*a) && is_digit(*b) && *a != b'0' => Some(10 * digit(*a) + digit(*b)),
-        [a, b, c] if is_digit(*a) && is_digit(*b) && is_digit(*c) && *a != b'0' => {
-            Some(100 * digit(*a) + 10 * digit(*b) + digit(*c))
-        }
-        _ => None,
-    }
-}
-
-fn digit(b: u8) -> u32
-    ensures { result ≤ 9 }
+// Whether a record has a field at this place, from 0, that is no number from the least to the most.
+fn is_off(row: &[u8], place: usize, least: u32, most: u32) -> bool
+    ensures { result ≡ is_off_at row.now place least most }
 {
-    u32::from(b.saturating_sub(b'0').min(9))
-}
-
-fn is_within(field: &[u8], least: u32, most: u32) -> bool {
-    match number_in(field) {
-        Some(number) => least <= number && number <= most,
+    match row.split(|b| *b == b',').nth(place) {
+        Some(field) => number(field, least, most).is_none(),
         None => false,
     }
 }
 
-// Of the field of a record of times that stands at this place, from 0.
-fn times_field(place: usize, field: &[u8]) -> Option<TableSlip> {
-    match place {
-        1 if !is_within(field, 1, 255) => Some(TableSlip::MinimumGreen),
-        2 if !is_within(field, 0, 9) => Some(TableSlip::RedAmber),
-        3 if !is_within(field, 0, 9) => Some(TableSlip::Amber),
-        4 if !is_within(field, 1, 255) => Some(TableSlip::MinimumRed),
-        _ => None,
+// Of a record of times: its first number that has another form or is out of range.
+#[tactic(auto, unfolding(crate::specs::TableSlips::times_slip))]
+fn times_slip(row: &[u8]) -> Option<TableSlip>
+    ensures { result ≡ times_slip row.now }
+{
+    if is_off(row, 1, 1, 255) {
+        Some(TableSlip::MinimumGreen)
+    } else if is_off(row, 2, 0, 9) {
+        Some(TableSlip::RedAmber)
+    } else if is_off(row, 3, 0, 9) {
+        Some(TableSlip::Amber)
+    } else if is_off(row, 4, 1, 255) {
+        Some(TableSlip::MinimumRed)
+    } else {
+        None
     }
 }
 
 /// Of a record with a number that has another form or is out of range.
-pub fn number_slip(table: Table, record: &[u8]) -> Option<TableSlip> {
+pub fn number_slip(table: Table, row: &[u8]) -> Option<TableSlip>
+    ensures { result ≡ number_slip table row.now }
+{
     match table {
         Table::Intergreens => Some(TableSlip::Intergreen),
-        Table::Times => times_slip(record),
+        Table::Times => times_slip(row),
     }
 }
 
-fn times_slip(record: &[u8]) -> Option<TableSlip> {
-    let mut place = 0usize;
-    for field in record.split(|b| *b == b',') {
-        if let Some(slip) = times_field(place, field) {
-            return Some(slip);
-        }
-        place = place.saturating_add(1);
-    }
-    None
+// Whether a text begins with a comma and a digit.
+#[tactic(auto, unfolding(crate::specs::TableSlips::begins_with_number))]
+fn begins_with_number(text: &[u8]) -> bool
+    ensures { result ≡ begins_with_number text.now }
+{
+    2 <= text.len() && text[0] == b',' && is_digit(text[1])
 }
 
 /// The names that a record begins with: what stands before its first number.
-pub fn names_in(record: &[u8]) -> &[u8] {
-    let mut last = 0u8;
-    for i in 0..record.len() {
-        if last == b',' && is_digit(record[i]) {
-            let (names, _) = record.split_at(i.saturating_sub(1));
+#[tactic(auto, unfolding(crate::specs::TableSlips::names_in))]
+pub fn names_in(row: &[u8]) -> &[u8]
+    ensures { result.now ≡ names_in row.now }
+{
+    for i in 0..row.len() {
+        let (names, here) = row.split_at(i);
+        if begins_with_number(here) {
             return names;
         }
-        last = record[i];
     }
-    record
+    row
 }

@@ -1,10 +1,17 @@
-// The words of a program's text around a place.
-ghost use Rattle.std.specs.Prelude.{◌<◌, length};
+// The words of a program's text around a place, and what is open there.
+ghost use Rattle.std.specs.Prelude.{◌≡◌, ◌<◌, ◌≤◌, ◌+◌, length, slice_index};
+ghost use Rattle.line_slips.specs.Words.{note, opened_in, read_byte, word_after, word_before, word_len_before};
+ghost use Rattle.line_slips.specs.Scan.{read_of};
 
 use crate::bytes::is_word_byte;
+use crate::comments::{Reading, after, is_inside};
+use sig_types::text::same_name;
 
 /// The word that a text begins with.
-pub(crate) fn word_after(text: &[u8]) -> &[u8] {
+#[tactic(auto, unfolding(crate::specs::Words::word_after))]
+pub(crate) fn word_after(text: &[u8]) -> &[u8]
+    ensures { result.now ≡ word_after text.now }
+{
     for i in 0..text.len() {
         if !is_word_byte(text[i]) {
             let (word, _) = text.split_at(i);
@@ -14,28 +21,21 @@ pub(crate) fn word_after(text: &[u8]) -> &[u8] {
     text
 }
 
-/// The word that a text ends with.
-pub(crate) fn word_before(text: &[u8]) -> &[u8] {
-    let mut from = text.len();
-    for i in 0..text.len() {
-        let place = text.len() - 1 - i;
-        if !is_word_byte(text[place]) {
-            break;
-        }
-        from = place;
-    }
-    let (_, word) = text.split_at(from.min(text.len()));
-    word
+// How many bytes the word has that a text ends with.
+fn word_len_before(text: &[u8]) -> usize
+    ensures { result ≡ word_len_before text.now }
+{
+    text.iter().rev().take_while(|b| is_word_byte(**b)).count()
 }
 
-/// Whether a word is one of these, whatever the case of its letters.
-pub(crate) fn is_one_of(word: &[u8], words: &[&[u8]]) -> bool {
-    for one in words {
-        if word.eq_ignore_ascii_case(one) {
-            return true;
-        }
-    }
-    false
+/// The word that a text ends with.
+#[tactic(auto, unfolding(crate::specs::Words::word_before))]
+pub(crate) fn word_before(text: &[u8]) -> &[u8]
+    ensures word { result.now ≡ word_before text.now }
+    ensures within { length result.now ≤ length text.now }
+{
+    let (_, word) = text.split_at(text.len().saturating_sub(word_len_before(text)));
+    word
 }
 
 /// What is open at the end of a text: whether an `IF` has no `THEN` yet, and how many have no `END`.
@@ -45,27 +45,30 @@ pub(crate) struct Opened {
     pub(crate) ifs: usize,
 }
 
-// Where a scan of a text stands: in a comment or outside, what is open, and where the word begins that is being read.
+// How far a text is read: where the reader stands, what is open, and where the word begins that is being read.
 #[derive(Clone, Copy)]
 struct Scan {
-    in_comment: bool,
+    at: Reading,
     opened: Opened,
     from: usize,
 }
 
 // Notes a word.
-fn note(opened: Opened, word: &[u8]) -> Opened {
-    if word.eq_ignore_ascii_case(b"IF") {
+#[tactic(auto, unfolding(crate::specs::Words::note))]
+fn note(opened: Opened, word: &[u8]) -> Opened
+    ensures { result ≡ note opened word.now }
+{
+    if same_name(word, b"IF") {
         Opened {
             condition: true,
             ifs: opened.ifs.saturating_add(1),
         }
-    } else if word.eq_ignore_ascii_case(b"THEN") {
+    } else if same_name(word, b"THEN") {
         Opened {
             condition: false,
             ifs: opened.ifs,
         }
-    } else if word.eq_ignore_ascii_case(b"END") {
+    } else if same_name(word, b"END") {
         Opened {
             condition: false,
             ifs: opened.ifs.saturating_sub(1),
@@ -75,10 +78,42 @@ fn note(opened: Opened, word: &[u8]) -> Opened {
     }
 }
 
+// Reads the byte at a place.
+fn step(scan: Scan, text: &[u8], i: usize) -> Scan
+    requires place { i < length text.now }
+    requires begun { scan.from ≤ i }
+    ensures read { read_of result text.now (i + 1) ≡ read_byte (read_of scan text.now i) (slice_index text.now i) }
+    ensures begun { result.from ≤ i + 1 }
+{
+    let at = after(scan.at, text[i]);
+    if is_inside(scan.at) {
+        return Scan {
+            at,
+            opened: scan.opened,
+            from: i + 1,
+        };
+    }
+    if is_word_byte(text[i]) {
+        return Scan {
+            at,
+            opened: scan.opened,
+            from: scan.from,
+        };
+    }
+    Scan {
+        at,
+        opened: note(scan.opened, &text[scan.from..i]),
+        from: i + 1,
+    }
+}
+
 /// What is open at the end of a text. Comments are passed over.
-pub(crate) fn opened_in(text: &[u8]) -> Opened {
+#[tactic(auto, unfolding(crate::specs::Words::opened_in))]
+pub(crate) fn opened_in(text: &[u8]) -> Opened
+    ensures { result ≡ opened_in text.now }
+{
     let mut scan = Scan {
-        in_comment: false,
+        at: Reading::Outside,
         opened: Opened {
             condition: false,
             ifs: 0,
@@ -88,63 +123,5 @@ pub(crate) fn opened_in(text: &[u8]) -> Opened {
     for i in 0..text.len() {
         scan = step(scan, text, i);
     }
-    let (_, last) = text.split_at(scan.from.min(text.len()));
-    if scan.in_comment {
-        scan.opened
-    } else {
-        note(scan.opened, last)
-    }
-}
-
-// Goes over a byte in a comment, with the text before it and from it on. The star that the comment begins with doesn't end it.
-fn step_inside(scan: Scan, before: &[u8], here: &[u8]) -> Scan {
-    let is_behind = scan.from.saturating_add(1) < before.len();
-    if is_behind && here.starts_with(b"/") && before.ends_with(b"*") {
-        Scan {
-            in_comment: false,
-            opened: scan.opened,
-            from: before.len().saturating_add(1),
-        }
-    } else {
-        scan
-    }
-}
-
-// Goes over the byte at a place.
-fn step(scan: Scan, text: &[u8], i: usize) -> Scan
-    requires { i < length text.now }
-{
-    let (before, here) = text.split_at(i);
-    if scan.in_comment {
-        return step_inside(scan, before, here);
-    }
-    if is_word_byte(text[i]) {
-        return scan;
-    }
-    let (_, word) = before.split_at(scan.from.min(before.len()));
-    Scan {
-        in_comment: here.starts_with(b"/*"),
-        opened: note(scan.opened, word),
-        from: i.saturating_add(1),
-    }
-}
-
-/// Whether a text has nothing but white space and comments.
-pub(crate) fn is_empty_text(text: &[u8]) -> bool {
-    let mut in_comment = false;
-    let mut last = b' ';
-    for b in text {
-        if in_comment {
-            in_comment = !(last == b'*' && *b == b'/');
-            last = if in_comment { *b } else { b' ' };
-        } else if last == b'/' && *b == b'*' {
-            in_comment = true;
-            last = b' ';
-        } else if last == b'/' || !(b.is_ascii_whitespace() || *b == b'/') {
-            return false;
-        } else {
-            last = *b;
-        }
-    }
-    in_comment || last != b'/'
+    note(scan.opened, &text[scan.from..])
 }
