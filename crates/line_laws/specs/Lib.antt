@@ -1,0 +1,4 @@
+pub mod Counted
+pub mod Seen
+pub mod SourceLines
+pub mod Spent
