@@ -21,12 +21,12 @@ use Rattle.log_chart.proofs.Rows.{longer, none_yet, one_more}
 use Rattle.log_svg.specs.declared.marks.Refused.{Refused}
 use Rattle.log_view.specs.declared.sums.PlaceSum.{PlaceSum}
 use Rattle.log_view.specs.declared.sums.Sums.{Sums}
-use Rattle.log_view.specs.Adding.{AddsUp, AreSmall, IsPlaceAdded, IsRaised, IsRun, IsRunSummed}
+use Rattle.log_view.specs.Adding.{AddsUp, AreApart, AreSmall, IsPlaceAdded, IsRaised, IsRun, IsRunSummed}
 use Rattle.log_view.specs.Drawn.{IsAtTo}
 use Rattle.log_view.specs.Gathered.{places_of}
-use Rattle.log_view.specs.Summed.{AreApart, AreTallies, HasPlace, IsPlaceSum, fault_items, fault_tallies, refusal_tallies, refused_in, stay_seconds}
+use Rattle.log_view.specs.Summed.{AreInOrder, AreTallies, HasPlace, IsPlaceSum, fault_items, fault_tallies, refusal_tallies, refused_in, stay_seconds}
 use Rattle.log_view.proofs.Drawing.{at_last, at_still, shown_last, shown_still}
-use Rattle.log_view.proofs.Places.{all_behind, apart_added, begins_again, begins_first, closed_sum, few_added, goes_on, has_added, has_new, within_added}
+use Rattle.log_view.proofs.Places.{all_behind, apart_added, begins_again, begins_first, closed_sum, few_added, goes_on, has_added, has_new, order_begins, order_goes_on, within_added}
 use Rattle.log_view.proofs.Showable.{added_most}
 
 -- a second of one second's stay
@@ -66,6 +66,7 @@ run_longer records r x at old new place same apart run (inl raised) =
       ends = sym size;
       some = omega (arith, size);
       sums = goes_on run.closed run.last next old new run.sums apart refl longer_is (subst (λ y. IsRaised old y 0 new) (sym last_at) raised);
+      order = order_goes_on run.closed run.last next old new refl (subst (λ y. IsRaised old y 0 new) (sym last_at) raised) run.order;
       covered = λ i d lt. has_added old new x _ 0 (inl raised) (run.covered i d lt);
       covers = has_added old new x run.last.shown 0 (inl raised) run.covers;
     }
@@ -74,8 +75,8 @@ run_longer records r x at old new place same apart run (inl raised) =
 run_begins : (records : List Record) (r : Record) (x : StagePlace) (stays : List Stay) (old new : List PlaceSum) → x ≡ without_second r.place →
     ((a : ℕ → StagePlace) → IsAtTo a (places_of records) (length records) → AreSpans a 1 (length records + 1) stays) →
     ((d : Stay) → 0 < length stays → (get_or stays (length stays - 1) d).shown ≡ x → ⊥) →
-    All (IsPlaceSum stays) old → All (λ s. HasPlace old s.shown) stays → AreApart old → IsPlaceAdded old x 1 new → IsRun (records ++ r ∷ []) x new
-run_begins records r x stays old new place are other sums covered apart added =
+    All (IsPlaceSum stays) old → All (λ s. HasPlace old s.shown) stays → AreInOrder stays old → AreApart old → IsPlaceAdded old x 1 new → IsRun (records ++ r ∷ []) x new
+run_begins records r x stays old new place are other sums covered order apart added =
     let n = length records + 1 in
     let next : Stay = one_second x n in
     let size = size_more records r in
@@ -93,6 +94,7 @@ run_begins records r x stays old new place are other sums covered apart added =
         | inl raised ↦ begins_again stays next old new sums apart one raised
         | inr first ↦ begins_first stays next old new sums covered one first
       ];
+      order = order_begins stays next old new sums covered order added;
       covered = λ i d lt. has_added old new x _ 1 added (covered i d lt);
       covers = has_new old new x 1 added;
     }
@@ -107,10 +109,10 @@ run_more records r x at seconds old new false place count begins goes apart adde
 run_more records r x at seconds old new true place count begins goes apart added (inl none) =
     let first : length records + 1 ≡ 1 = omega (arith, ap length none.0) in
     run_begins records r x [] old new place (λ a is. rw first (none_yet a 1)) (λ d some. absurd (omega arith))
-    (rw none.1 (λ i d lt. absurd (omega (arith, lt)))) (λ i d lt. absurd (omega (arith, lt))) apart added
+    (rw none.1 (λ i d lt. absurd (omega (arith, lt)))) (λ i d lt. absurd (omega (arith, lt))) (rw none.1 (λ i j d lt below. absurd (omega (arith, below)))) apart added
 run_more records r x at seconds old new true place count begins goes apart added (inr run) =
     run_begins records r x (run.closed ++ run.last ∷ []) old new place run.stays other (λ i d lt. closed_sum run.closed run.last (get_or old i d) (run.sums i d lt))
-    (all_behind (λ s. HasPlace old s.shown) run.closed run.last run.covered run.covers) apart added
+    (all_behind (λ s. HasPlace old s.shown) run.closed run.last run.covered run.covers) run.order apart added
   where
     other : (d : Stay) → 0 < length (run.closed ++ run.last ∷ []) → (get_or (run.closed ++ run.last ∷ []) (length (run.closed ++ run.last ∷ []) - 1) d).shown ≡ x → ⊥
     other d some same =

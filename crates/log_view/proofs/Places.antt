@@ -1,19 +1,20 @@
 -- The sums of stages and interstages, in a second more.
 use Rattle.std.proofs.Common.{◌≡◌, ◌∙◌, ℕ, ◌+◌, ◌<◌, ◌≤◌, List, [], ◌∷◌, ◌++◌, length, get_or, set, refl, sym, ap, arith, inl, inr, subst, length-append}
-use Rattle.std.specs.Prelude.{All}
+use Rattle.std.specs.Prelude.{All, Contains, map}
 use Rattle.std.specs.List.{sum_by}
 use Rattle.std.specs.List.Sorted.{IsPermutation}
 use Rattle.std.proofs.lemmas.Bool.{cases_eq, cases_lt}
-use Rattle.std.proofs.lemmas.List.{get_or-set_other, get_or-set_same, get_or_append_left, get_or_default, length-set}
-use Rattle.std.proofs.lemmas.List.Elements.{All-append}
+use Rattle.std.proofs.lemmas.List.{get_or-map, get_or-set_other, get_or-set_same, get_or_append_left, get_or_default, length-map, length-set, map-append}
+use Rattle.std.proofs.lemmas.List.Elements.{All-append, All-map}
 use Rattle.std.proofs.lemmas.List.Sums.{sum_by-append}
-use Rattle.std.proofs.lemmas.List.Sorted.{IsPermutation-cons, IsPermutation-middle, IsPermutation-refl, IsPermutation-sym, IsPermutation-to_front, IsPermutation-trans}
+use Rattle.std.proofs.lemmas.List.Sorted.{IsPermutation-cons, IsPermutation-middle, IsPermutation-refl, IsPermutation-sym, IsPermutation-to_front, IsPermutation-trans, Contains-permutation}
 use Rattle.std.proofs.Math.Seq.{get_or-append_seam}
 use Rattle.sig_types.specs.declared.numbers.StagePlace.{StagePlace}
 use Rattle.log_chart.specs.Stays.{Stay}
 use Rattle.log_view.specs.declared.sums.PlaceSum.{PlaceSum}
-use Rattle.log_view.specs.Adding.{IsFirst, IsPlaceAdded, IsPlaceTally, IsRaised}
-use Rattle.log_view.specs.Summed.{AreApart, HasPlace, IsPlaceSum, stay_seconds}
+use Rattle.log_view.specs.Adding.{AreApart, IsFirst, IsPlaceAdded, IsPlaceTally, IsRaised}
+use Rattle.log_view.specs.Summed.{AreInOrder, CameBefore, HasPlace, IsPlaceSum, shown_by, stay_seconds}
+use Rattle.log_view.proofs.Tallies.{before_last, before_more}
 
 all_one : {A : Type 0} (P : A → Type 0) (x : A) → P x → All P (x ∷ [])
 all_one P x is = λ i d lt. elim (cases_eq i 0) [
@@ -41,6 +42,7 @@ closed_sum closed last p is = elim is.tally [
     split = to_front closed is.own is.others last is.split;
     at_place = all_cons (λ s. s.shown ≡ p.place) last is.own here.0 is.at_place;
     elsewhere = is.elsewhere;
+    some = is.some;
     times = omega (arith, here.1.0);
     seconds = (let more : sum_by stay_seconds (last ∷ is.own) ≡ 0 + stay_seconds last + sum_by stay_seconds is.own = sum_by-append stay_seconds (last ∷ []) is.own in omega (arith, here.1.1, more));
   }
@@ -51,6 +53,7 @@ closed_sum closed last p is = elim is.tally [
         (IsPermutation-sym (is.own ++ last ∷ is.others) (last ∷ (is.own ++ is.others)) (IsPermutation-middle is.own last is.others));
     at_place = is.at_place;
     elsewhere = all_cons (λ s. s.shown ≡ p.place → ⊥) last is.others other.0 is.elsewhere;
+    some = is.some;
     times = other.1.0;
     seconds = other.1.1;
   }
@@ -123,6 +126,7 @@ longer_tally closed last next p q is here same longer place times seconds = reco
   split = is.split;
   at_place = rw place is.at_place;
   elsewhere = rw place is.elsewhere;
+  some = omega (arith, is.some, times);
   tally = elim is.tally [
     | inl mine ↦ inl (same ∙ here ∙ sym place, (omega (arith, times, mine.1.0), omega (arith, seconds, mine.1.1, longer)))
     | inr other ↦ absurd (other.0 here)
@@ -136,6 +140,7 @@ other_tally closed last next p is apart same = record {
   split = is.split;
   at_place = is.at_place;
   elsewhere = is.elsewhere;
+  some = is.some;
   tally = elim is.tally [
     | inl mine ↦ absurd (apart mine.0)
     | inr other ↦ inr (λ bad. apart (sym same ∙ bad), other.1)
@@ -163,6 +168,7 @@ mine_next stays next p q is here one place times seconds = record {
   split = is.split;
   at_place = rw place is.at_place;
   elsewhere = rw place is.elsewhere;
+  some = omega (arith, times);
   tally = inl (here ∙ sym place, (omega (arith, times, is.times), omega (arith, seconds, is.seconds, one)));
 }
 
@@ -173,6 +179,7 @@ other_next stays next p is apart = record {
   split = is.split;
   at_place = is.at_place;
   elsewhere = is.elsewhere;
+  some = is.some;
   tally = inr (apart, (is.times, is.seconds));
 }
 
@@ -205,6 +212,7 @@ begins_first stays next old new are covered one is =
       split = IsPermutation-refl stays;
       at_place = all_none (λ s. s.shown ≡ next.shown);
       elsewhere = none_there stays next.shown old covered is.other;
+      some = omega arith;
       tally = inl (refl, (omega arith, omega (arith, one)));
     } in
     subst (All (IsPlaceTally stays next)) (sym is.new_is)
@@ -258,3 +266,73 @@ within_added old new x b n (inr is) one within =
 
 pub all_behind : {A : Type 0} (P : A → Type 0) (xs : List A) (x : A) → All P xs → P x → All P (xs ++ x ∷ [])
 all_behind P xs x all is = All-append P xs (x ∷ []) all (all_one P x is)
+
+-- ---- the order of places
+
+-- a place with sums was come to
+came_to : (stays : List Stay) (p : PlaceSum) → IsPlaceSum stays p → Contains (shown_by stays) p.place
+came_to stays p is =
+    let some : 0 < length is.own = omega (arith, is.some, is.times) in
+    let e : Stay = record { shown = p.place; first = record { 0 = 0 }; last = record { 0 = 0 } } in
+    let s = get_or is.own 0 e in
+    let own : Contains (is.own ++ is.others) s = (0, omega (arith, some, length-append is.own is.others), get_or_append_left is.own is.others s 0 some ∙ get_or_default is.own 0 s e some) in
+    let (k, lt, at) = Contains-permutation (is.own ++ is.others) stays s (IsPermutation-sym stays (is.own ++ is.others) is.split) own in (
+      k,
+      omega (arith, lt, length-map stays (λ (x : Stay). x.shown)),
+      get_or-map (λ (x : Stay). x.shown) stays k s p.place lt ∙ ap (λ (x : Stay). x.shown) at ∙ is.at_place 0 e some,
+    )
+
+-- the places of stays, and one more
+shown_more : (stays : List Stay) (next : Stay) → shown_by (stays ++ next ∷ []) ≡ shown_by stays ++ next.shown ∷ []
+shown_more stays next = map-append (λ (s : Stay). s.shown) stays (next ∷ [])
+
+-- sums that are raised keep their places
+place_kept : (old : List PlaceSum) (at : ℕ) (v : PlaceSum) (k : ℕ) (d : PlaceSum) → at < length old → ((e : PlaceSum) → (get_or old at e).place ≡ v.place) →
+    (get_or (set old at v) k d).place ≡ (get_or old k d).place
+place_kept old at v k d inside same = elim (cases_eq k at) [
+  | inl here ↦ rw (here, get_or-set_same old at v d inside) (sym (same d))
+  | inr other ↦ ap (λ p. p.place) (get_or-set_other old at k v d other)
+]
+
+order_raised : (stays : List Stay) (old new : List PlaceSum) (x : StagePlace) (b : ℕ) → IsRaised old x b new → AreInOrder stays old → AreInOrder stays new
+order_raised stays old new x b raised order =
+    let v : PlaceSum = record { place = x; times = raised.before.times + b; seconds = raised.before.seconds + 1 } in
+    let same : (e : PlaceSum) → (get_or old raised.at e).place ≡ x = λ e. ap (λ p. p.place) (raised.is e) ∙ raised.same in
+    subst (AreInOrder stays) (sym raised.new_is)
+    (λ i j d lt below.
+    rw (place_kept old raised.at v i d raised.inside same, place_kept old raised.at v j d raised.inside same)
+    (order i j d lt (omega (arith, below, length-set old raised.at v))))
+
+-- the last stay goes on
+pub order_goes_on : (closed : List Stay) (last next : Stay) (old new : List PlaceSum) → next.shown ≡ last.shown → IsRaised old last.shown 0 new →
+    AreInOrder (closed ++ last ∷ []) old → AreInOrder (closed ++ next ∷ []) new
+order_goes_on closed last next old new same raised order i j d lt below =
+    let shown : shown_by (closed ++ next ∷ []) ≡ shown_by (closed ++ last ∷ []) = shown_more closed next ∙ ap (λ x. shown_by closed ++ x ∷ []) same ∙ sym (shown_more closed last) in
+    rw shown (order_raised (closed ++ last ∷ []) old new last.shown 0 raised order i j d lt below)
+
+-- a stay begins
+order_more : (stays : List Stay) (next : Stay) (places : List PlaceSum) → AreInOrder stays places → AreInOrder (stays ++ next ∷ []) places
+order_more stays next places order i j d lt below =
+    rw (shown_more stays next)
+    (before_more (shown_by stays) (get_or places i d).place (get_or places j d).place next.shown (order i j d lt below))
+
+order_first : (stays : List Stay) (next : Stay) (old new : List PlaceSum) → All (IsPlaceSum stays) old → All (λ s. HasPlace old s.shown) stays → AreInOrder stays old → IsFirst old next.shown new →
+    AreInOrder (stays ++ next ∷ []) new
+order_first stays next old new sums covered order is =
+    let v : PlaceSum = record { place = next.shown; times = 1; seconds = 1 } in
+    subst (AreInOrder (stays ++ next ∷ [])) (sym is.new_is)
+    (λ i j d lt below. elim (cases_lt j (length old)) [
+      | inl inside ↦ rw (get_or_append_left old (v ∷ []) d i (omega (arith, lt, inside)), get_or_append_left old (v ∷ []) d j inside)
+          (order_more stays next old order i j d lt inside)
+      | inr over ↦ (
+          let at : j ≡ length old = omega (arith, over, below, length-append old (v ∷ [])) in
+          let here : get_or (old ++ v ∷ []) j d ≡ v = rw at (get_or-append_seam old v [] d) in
+          rw (here, get_or_append_left old (v ∷ []) d i (omega (arith, lt, at)), shown_more stays next)
+          (before_last (shown_by stays) (get_or old i d).place next.shown (came_to stays (get_or old i d) (sums i d (omega (arith, lt, at))))
+          (All-map (λ (x : StagePlace). x ≡ next.shown → ⊥) (λ (s : Stay). s.shown) stays (none_there stays next.shown old covered is.other))))
+    ])
+
+pub order_begins : (stays : List Stay) (next : Stay) (old new : List PlaceSum) → All (IsPlaceSum stays) old → All (λ s. HasPlace old s.shown) stays → AreInOrder stays old →
+    IsPlaceAdded old next.shown 1 new → AreInOrder (stays ++ next ∷ []) new
+order_begins stays next old new sums covered order (inl raised) = order_more stays next new (order_raised stays old new next.shown 1 raised order)
+order_begins stays next old new sums covered order (inr first) = order_first stays next old new sums covered order first

@@ -31,7 +31,7 @@ use Rattle.log_view.specs.Answers.{IsSumsOf, IsUnsummed}
 use Rattle.log_view.specs.Drawn.{AreSaid}
 use Rattle.log_view.specs.Gathered.{history_of, places_of}
 use Rattle.log_view.specs.Notes.{stop_of}
-use Rattle.log_view.specs.Summed.{HasPlace, IsPlaceSum, IsSummed, IsTextual, fault_items, fault_tallies, refusal_tallies, refused_in}
+use Rattle.log_view.specs.Summed.{AreInOrder, HasPlace, IsPlaceSum, IsSummed, IsTextual, fault_items, fault_tallies, refusal_tallies, refused_in}
 use Rattle.log_view.proofs.Places.{all_behind, closed_sum}
 use Rattle.log_view.proofs.Ranges.{AreFew, IsRanged, ranged}
 use Rattle.log_view.proofs.Reading.{said_more}
@@ -96,13 +96,13 @@ sum_next told name old new s t named names given next said take summed =
 -- the stays of a whole run, none of which lacks its sums
 run_stays : (records : List Record) (at : StagePlace) (places : List PlaceSum) → IsRunSummed records at places →
     (stays : List Stay) × (AreSpans (places_of records) 1 (length records + 1) stays × (All (IsPlaceSum stays) places
-    × All (λ s. HasPlace places s.shown) stays))
+    × (All (λ s. HasPlace places s.shown) stays × AreInOrder stays places)))
 run_stays records at places (inl none) = rw (none.0, none.1)
-    ([], (none_yet (places_of []) 1, ((λ i d lt. absurd (omega (arith, lt))), (λ i d lt. absurd (omega (arith, lt))))))
+    ([], (none_yet (places_of []) 1, ((λ i d lt. absurd (omega (arith, lt))), ((λ i d lt. absurd (omega (arith, lt))), (λ i j d lt below. absurd (omega (arith, below)))))))
 run_stays records at places (inr run) =
     let sums : All (IsPlaceSum (run.closed ++ run.last ∷ [])) places = λ i d lt. closed_sum run.closed run.last (get_or places i d) (run.sums i d lt) in
     let covered = all_behind (λ s. HasPlace places s.shown) run.closed run.last run.covered run.covers in
-    (run.closed ++ run.last ∷ [], (run.stays (places_of records) (λ t le. refl), (sums, covered)))
+    (run.closed ++ run.last ∷ [], (run.stays (places_of records) (λ t le. refl), (sums, (covered, run.order))))
 
 pub summed : (names : List (List ℕ)) (records : List Record) (s : Sums) → AddsUp names records s → IsSummed names records s
 summed names records s is =
@@ -114,8 +114,8 @@ summed names records s is =
       stays = run.0;
       stays_are = run.1.0;
       places = run.1.1.0;
-      covered = run.1.1.1;
-      apart = is.apart;
+      covered = run.1.1.1.0;
+      order = run.1.1.1.1;
       refusals = is.refusals;
       faults = is.faults;
       vehicles = is.vehicles;

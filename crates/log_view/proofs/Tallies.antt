@@ -1,15 +1,15 @@
 -- Tallies, with one item more.
 use Rattle.std.proofs.Common.{◌≡◌, ◌∙◌, ℕ, suc, zero, ◌+◌, ◌<◌, ◌≤◌, List, [], ◌∷◌, ◌++◌, length, get_or, set, take, drop, map, replicate, refl, sym, ap, arith, inl, inr, subst, length-append}
-use Rattle.std.specs.Prelude.{All, OnOk, Result, Ok, Err}
+use Rattle.std.specs.Prelude.{All, Contains, OnOk, Result, Ok, Err}
 use Rattle.std.specs.List.{flat_map}
 use Rattle.std.specs.List.Sorted.{IsPermutation}
 use Rattle.std.proofs.lemmas.Bool.{cases_eq, cases_lt}
 use Rattle.std.proofs.lemmas.Grind.{flat_map-append}
-use Rattle.std.proofs.lemmas.List.{drop-set, get_or-set_other, get_or-map, get_or-set_same, get_or_append_left, get_or_default, length-map, length-replicate, length-set, length-take, map-append, map-set, set-get_or, take-append-drop, take-set}
-use Rattle.std.proofs.lemmas.List.Elements.{All-append, All-map, All-set}
-use Rattle.std.proofs.lemmas.List.Sorted.{IsPermutation-append_left, IsPermutation-cons, IsPermutation-middle, IsPermutation-refl, IsPermutation-sym, IsPermutation-to_front, IsPermutation-trans, All-permutation, length_permutation}
+use Rattle.std.proofs.lemmas.List.{drop-set, get_or-set_other, get_or-map, get_or-set_same, get_or_append_left, get_or_default, length-map, length-replicate, length-set, length-take, append_assoc, map-append, map-set, set-get_or, take-append-drop, take-set}
+use Rattle.std.proofs.lemmas.List.Elements.{All-append, All-map, All-replicate, All-set, Contains-append_left, Contains-append_right, Contains-get_or}
+use Rattle.std.proofs.lemmas.List.Sorted.{IsPermutation-append_left, IsPermutation-cons, IsPermutation-middle, IsPermutation-refl, IsPermutation-sym, IsPermutation-to_front, IsPermutation-trans, All-permutation, Contains-permutation, length_permutation}
 use Rattle.std.proofs.Math.Seq.{get_or-append_seam}
-use Rattle.log_view.specs.Summed.{AreTallies}
+use Rattle.log_view.specs.Summed.{AreTallies, CameBefore}
 
 -- tallies, spelled out
 abbrev spelled : {A : Type 0} → List (A × ℕ) → List A
@@ -36,6 +36,40 @@ first_kept xs i n m j x d inside is = elim (cases_eq j i) [
   | inr other ↦ ap (λ t. t.0) (get_or-set_other xs i j (x, m) d other)
 ]
 
+-- what came before still did, with an item more
+pub before_more : {A : Type 0} (items : List A) (x y z : A) → CameBefore items x y → CameBefore (items ++ z ∷ []) x y
+before_more items x y z is = record {
+  beginning = is.beginning;
+  rest = is.rest ++ z ∷ [];
+  whole = ap (λ l. l ++ z ∷ []) is.whole ∙ append_assoc is.beginning is.rest (z ∷ []);
+  has = is.has;
+  lacks = is.lacks;
+}
+
+-- what came at all came before the first item of its kind
+pub before_last : {A : Type 0} (items : List A) (x y : A) → Contains items x → All (λ z. z ≡ y → ⊥) items → CameBefore (items ++ y ∷ []) x y
+before_last items x y has lacks = record { beginning = items; rest = y ∷ []; whole = refl; has = has; lacks = lacks }
+
+-- an item with a tally is one of those that it spells
+spells : {A : Type 0} (ts : List (A × ℕ)) (i : ℕ) (d : A × ℕ) → All (λ t. 1 ≤ t.1) ts → i < length ts → Contains (spelled ts) (get_or ts i d).0
+spells [] i d some lt = absurd (omega (arith, lt))
+spells (t ∷ ts) zero d some lt =
+    Contains-append_left (replicate t.1 t.0) (spelled ts) t.0 (
+      0,
+      omega (arith, some 0 t (omega arith), length-replicate t.1 t.0),
+      All-replicate (λ y. y ≡ t.0) t.1 t.0 refl 0 t.0 (omega (arith, some 0 t (omega arith), length-replicate t.1 t.0)),
+    )
+spells (t ∷ ts) (suc i) d some lt =
+    Contains-append_right (replicate t.1 t.0) (spelled ts) (get_or ts i d).0
+    (spells ts i d (λ j e below. some (suc j) e (omega (arith, below))) (omega (arith, lt)))
+
+-- what holds of each item with a tally holds of all that are spelled
+all_spelt : {A : Type 0} (P : A → Type 0) (ts : List (A × ℕ)) → All (λ t. P t.0) ts → All P (spelled ts)
+all_spelt P [] all = λ i d lt. absurd (omega (arith, lt))
+all_spelt P (t ∷ ts) all =
+    All-append P (replicate t.1 t.0) (spelled ts) (All-replicate P t.1 t.0 (all 0 t (omega arith)))
+    (all_spelt P ts (λ j e below. all (suc j) e (omega (arith, below))))
+
 raised : {A : Type 0} (items : List A) (old : List (A × ℕ)) (i n : ℕ) (x : A) → AreTallies items old → i < length old → get_or old i (x, n) ≡ (x, n) →
     AreTallies (items ++ x ∷ []) (set old i (x, suc n))
 raised items old i n x are inside is =
@@ -48,8 +82,9 @@ raised items old i n x are inside is =
           (IsPermutation-trans (x ∷ items) (x ∷ (before ++ after)) (before ++ x ∷ after) (IsPermutation-cons x items (before ++ after) whole)
           (IsPermutation-sym (before ++ x ∷ after) (x ∷ (before ++ after)) (IsPermutation-middle before x after))));
       some = All-set (λ t. 1 ≤ t.1) old i (x, suc n) (omega arith) are.some;
-      apart = λ j k d lt below same. are.apart j k d lt (omega (arith, below, length-set old i (x, suc n)))
-          (sym (first_kept old i n (suc n) j x d inside is) ∙ same ∙ first_kept old i n (suc n) k x d inside is);
+      order = λ j k d lt below.
+          rw (first_kept old i n (suc n) j x d inside is, first_kept old i n (suc n) k x d inside is)
+          (before_more items (get_or old j d).0 (get_or old k d).0 x (are.order j k d lt (omega (arith, below, length-set old i (x, suc n)))));
     }
 
 one_of : {A : Type 0} (P : A → Type 0) (x : A) → P x → All P (x ∷ [])
@@ -62,13 +97,16 @@ pub first : {A : Type 0} (items : List A) (old : List (A × ℕ)) (x : A) → Ar
 first items old x are other = record {
   whole = subst (IsPermutation (items ++ x ∷ [])) (sym (flat_map-append (λ t. replicate t.1 t.0) old ((x, 1) ∷ []))) (IsPermutation-append_left (x ∷ []) items (spelled old) are.whole);
   some = All-append (λ t. 1 ≤ t.1) old ((x, 1) ∷ []) are.some (one_of (λ t. 1 ≤ t.1) (x, 1) (omega arith));
-  apart = λ i j d lt below same. elim (cases_lt j (length old)) [
-    | inl inside ↦ are.apart i j d lt inside
-        (ap (λ t. t.0) (sym (get_or_append_left old ((x, 1) ∷ []) d i (omega (arith, lt, inside)))) ∙ same ∙ ap (λ t. t.0) (get_or_append_left old ((x, 1) ∷ []) d j inside))
+  order = λ i j d lt below. elim (cases_lt j (length old)) [
+    | inl inside ↦ rw (get_or_append_left old ((x, 1) ∷ []) d i (omega (arith, lt, inside)), get_or_append_left old ((x, 1) ∷ []) d j inside)
+        (before_more items (get_or old i d).0 (get_or old j d).0 x (are.order i j d lt inside))
     | inr last ↦ (
         let at : j ≡ length old = omega (arith, last, below, length-append old ((x, 1) ∷ [])) in
         let is : get_or (old ++ (x, 1) ∷ []) j d ≡ (x, 1) = rw at (get_or-append_seam old (x, 1) [] d) in
-        absurd (other i d (omega (arith, lt, at)) (ap (λ t. t.0) (sym (get_or_append_left old ((x, 1) ∷ []) d i (omega (arith, lt, at)))) ∙ same ∙ ap (λ t. t.0) is)))
+        rw (is, get_or_append_left old ((x, 1) ∷ []) d i (omega (arith, lt, at)))
+        (before_last items (get_or old i d).0 x
+        (Contains-permutation (spelled old) items (get_or old i d).0 (IsPermutation-sym items (spelled old) are.whole) (spells old i d are.some (omega (arith, lt, at))))
+        (All-permutation (λ z. z ≡ x → ⊥) (spelled old) items (IsPermutation-sym items (spelled old) are.whole) (all_spelt (λ z. z ≡ x → ⊥) old other))))
   ];
 }
 
@@ -140,5 +178,5 @@ pub none_yet : {A : Type 0} → AreTallies {A = A} [] []
 none_yet {A = A} = record {
   whole = IsPermutation-refl {X = A} [];
   some = λ i d lt. absurd (omega (arith, lt));
-  apart = λ i j d lt below same. absurd (omega (arith, below));
+  order = λ i j d lt below. absurd (omega (arith, below));
 }

@@ -14,7 +14,7 @@ use Rattle.log_view.specs.declared.sums.PlaceSum.{PlaceSum}
 use Rattle.log_view.specs.declared.sums.Sums.{Sums}
 use Rattle.log_view.specs.Drawn.{IsAtTo, ShowsTo}
 use Rattle.log_view.specs.Gathered.{history_of, places_of}
-use Rattle.log_view.specs.Summed.{AreApart, AreTallies, HasPlace, fault_items, fault_tallies, refusal_tallies, refused_in, stay_seconds}
+use Rattle.log_view.specs.Summed.{AreInOrder, AreTallies, HasPlace, fault_items, fault_tallies, refusal_tallies, refused_in, stay_seconds}
 
 -- small enough to count one more
 abbrev pub AreSmall : List PlaceSum → Type 0
@@ -38,6 +38,11 @@ pub record IsFirst (old : List PlaceSum) (x : StagePlace) (new : List PlaceSum) 
 abbrev pub IsPlaceAdded : List PlaceSum → StagePlace → ℕ → List PlaceSum → Type 0
 IsPlaceAdded old x begins new = IsRaised old x begins new ⊎ IsFirst old x new
 
+-- no place has sums twice
+abbrev pub AreApart : List PlaceSum → Type 0
+AreApart places =
+    (i j : ℕ) (d : PlaceSum) → i < j → j < length places → (slice_index_or places i d).place ≡ (slice_index_or places j d).place → ⊥
+
 -- the sums of a place, of the stays before the last one and of that
 pub record IsPlaceTally (closed : List Stay) (last : Stay) (p : PlaceSum) : Type 0 where
   pub own : List Stay
@@ -45,6 +50,7 @@ pub record IsPlaceTally (closed : List Stay) (last : Stay) (p : PlaceSum) : Type
   pub split : IsPermutation closed (own ++ others)
   pub at_place : All (λ s. s.shown ≡ p.place) own
   pub elsewhere : All (λ s. s.shown ≡ p.place → ⊥) others
+  pub some : 1 ≤ p.times
   pub tally :
       ((last.shown ≡ p.place) × ((p.times ≡ length own + 1) × (p.seconds ≡ sum_by stay_seconds own + stay_seconds last)))
       ⊎ ((last.shown ≡ p.place → ⊥) × ((p.times ≡ length own) × (p.seconds ≡ sum_by stay_seconds own)))
@@ -59,6 +65,7 @@ pub record IsRun (records : List Record) (at : StagePlace) (places : List PlaceS
   pub ends : last.last.0 ≡ length records
   pub some : 1 ≤ length records
   pub sums : All (IsPlaceTally closed last) places
+  pub order : AreInOrder (closed ++ last ∷ []) places
   pub covered : All (λ s. HasPlace places s.shown) closed
   pub covers : HasPlace places last.shown
 

@@ -1,5 +1,5 @@
 -- What the records of a log add up to.
-use Rattle.std.specs.Prelude.{◌≡◌, ℕ, ◌+◌, ◌-◌, ◌^◌, ◌<◌, ◌≤◌, List, [], ◌∷◌, ◌++◌, length, map, replicate, slice_index_or, sum_by, Option, Some, None, All}
+use Rattle.std.specs.Prelude.{◌≡◌, ℕ, ◌+◌, ◌-◌, ◌^◌, ◌<◌, ◌≤◌, List, [], ◌∷◌, ◌++◌, length, map, replicate, slice_index_or, sum_by, Option, Some, None, All, Contains}
 use Rattle.std.specs.List.{flat_map}
 use Rattle.std.specs.List.Sorted.{IsPermutation}
 use Rattle.sig_types.specs.declared.numbers.StagePlace.{StagePlace}
@@ -20,12 +20,20 @@ use Rattle.log_view.specs.declared.sums.RefusalTally.{RefusalTally}
 use Rattle.log_view.specs.declared.sums.Sums.{Sums}
 use Rattle.log_view.specs.Gathered.{history_of, places_of}
 
--- The tallies count these items: spelled out, they are the items in some order, each has come at least once, and none has two
--- tallies.
+-- an item came before another one: some beginning of the items has the one, and not the other
+pub record CameBefore {A : Type 0} (items : List A) (x y : A) : Type 0 where
+  pub beginning : List A
+  pub rest : List A
+  pub whole : items ≡ beginning ++ rest
+  pub has : Contains beginning x
+  pub lacks : All (λ z. z ≡ y → ⊥) beginning
+
+-- The tallies count these items: spelled out, they are the items in some order, and each item has come at least once. They stand in
+-- the order in which their items came first, so no item has two.
 pub record AreTallies {A : Type 0} (items : List A) (tallies : List (A × ℕ)) : Type 0 where
   pub whole : IsPermutation items (flat_map (λ t. replicate t.1 t.0) tallies)
   pub some : All (λ t. 1 ≤ t.1) tallies
-  pub apart : (i j : ℕ) (d : A × ℕ) → i < j → j < length tallies → (slice_index_or tallies i d).0 ≡ (slice_index_or tallies j d).0 → ⊥
+  pub order : (i j : ℕ) (d : A × ℕ) → i < j → j < length tallies → CameBefore items (slice_index_or tallies i d).0 (slice_index_or tallies j d).0
 
 -- what was refused in a second: the stage commands and then the turns
 abbrev pub refused_in : Record → List Refused
@@ -40,13 +48,14 @@ fault_items (Some fault) = fault ∷ []
 abbrev pub stay_seconds : Stay → ℕ
 stay_seconds s = s.last.0 + 1 - s.first.0
 
--- a stage's or interstage's sums are those of its stays
+-- a stage's or interstage's sums are those of its stays, of which there is one at least
 pub record IsPlaceSum (stays : List Stay) (p : PlaceSum) : Type 0 where
   pub own : List Stay
   pub others : List Stay
   pub split : IsPermutation stays (own ++ others)
   pub at_place : All (λ s. s.shown ≡ p.place) own
   pub elsewhere : All (λ s. s.shown ≡ p.place → ⊥) others
+  pub some : 1 ≤ p.times
   pub times : p.times ≡ length own
   pub seconds : p.seconds ≡ sum_by stay_seconds own
 
@@ -54,10 +63,14 @@ pub record IsPlaceSum (stays : List Stay) (p : PlaceSum) : Type 0 where
 abbrev pub HasPlace : List PlaceSum → StagePlace → Type 0
 HasPlace places x = (i : ℕ) × ((i < length places) × ((d : PlaceSum) → (slice_index_or places i d).place ≡ x))
 
--- no place has sums twice
-abbrev pub AreApart : List PlaceSum → Type 0
-AreApart places =
-    (i j : ℕ) (d : PlaceSum) → i < j → j < length places → (slice_index_or places i d).place ≡ (slice_index_or places j d).place → ⊥
+-- the places of these stays, one after the other
+abbrev pub shown_by : List Stay → List StagePlace
+shown_by stays = map (λ s. s.shown) stays
+
+-- the sums stand in the order in which the stays came first to their places, so no place has two
+abbrev pub AreInOrder : List Stay → List PlaceSum → Type 0
+AreInOrder stays places =
+    (i j : ℕ) (d : PlaceSum) → i < j → j < length places → CameBefore (shown_by stays) (slice_index_or places i d).place (slice_index_or places j d).place
 
 -- the tallies of refusals, as pairs of what is counted and how often it came
 abbrev pub refusal_tallies : List RefusalTally → List (Refused × ℕ)
@@ -77,7 +90,7 @@ pub record IsSummed (names : List (List ℕ)) (records : List Record) (s : Sums)
   pub stays_are : AreSpans (places_of records) 1 (length records + 1) stays
   pub places : All (IsPlaceSum stays) s.places.items
   pub covered : All (λ stay. HasPlace s.places.items stay.shown) stays
-  pub apart : AreApart s.places.items
+  pub order : AreInOrder stays s.places.items
   pub refusals : AreTallies (flat_map refused_in records) (refusal_tallies s.refusals.items)
   pub faults : AreTallies (flat_map (λ r. fault_items r.fault) records) (fault_tallies s.faults.items)
   pub vehicles : (p : ℕ) → p < 64 → slice_index_or s.vehicles p 0 ≡ sum_by (λ r. count_in fronts (p + 1) r.frame) records
