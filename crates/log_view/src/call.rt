@@ -8,6 +8,7 @@ ghost use Rattle.log_svg.specs.Diagram.{IsShowable, diagram_text};
 ghost use Rattle.log_svg.specs.ShownIn.{shown_in};
 ghost use Rattle.log_view.specs.Asked.{IsInOrder, asked_in};
 ghost use Rattle.log_view.specs.Call.{IsAnswered, IsReported, IsWritten, usage_text, version_text};
+ghost use Rattle.log_view.specs.Form.{form_of};
 ghost use Rattle.log_view.specs.Letters.{letters_text};
 ghost use Rattle.log_view.specs.Summed.{IsTextual};
 ghost use Rattle.log_view.specs.SumsText.{sums_text};
@@ -70,6 +71,7 @@ fn end<O: Sink>(draft: Draft, out: &mut O) -> Result<(), Stop>
 // Writes how it is called.
 fn write_usage<O: Sink>(out: &mut O) -> Result<(), Stop>
     ensures written { IsWritten usage_text result (O.taken out.old) (O.taken out.new) }
+    ensures stop { IfErr result (λ stop. stop ≡ Stop.WriteFault) }
     ensures cause { OnErr result (Rose (O.faults out.old) (O.faults out.new)) }
 {
     let mut draft = Draft::new();
@@ -80,6 +82,7 @@ fn write_usage<O: Sink>(out: &mut O) -> Result<(), Stop>
 // Writes the version.
 fn write_version<O: Sink>(out: &mut O) -> Result<(), Stop>
     ensures written { IsWritten version_text result (O.taken out.old) (O.taken out.new) }
+    ensures stop { IfErr result (λ stop. stop ≡ Stop.WriteFault) }
     ensures cause { OnErr result (Rose (O.faults out.old) (O.faults out.new)) }
 {
     let mut draft = Draft::new();
@@ -91,6 +94,7 @@ fn write_version<O: Sink>(out: &mut O) -> Result<(), Stop>
 fn write_diagram<O: Sink>(diagram: &Diagram, out: &mut O) -> Result<(), Stop>
     requires { IsShowable (shown_in diagram.now) }
     ensures written { IsWritten (diagram_text (shown_in diagram.now)) result (O.taken out.old) (O.taken out.new) }
+    ensures stop { IfErr result (λ stop. stop ≡ Stop.WriteFault) }
     ensures cause { OnErr result (Rose (O.faults out.old) (O.faults out.new)) }
 {
     let mut draft = Draft::new();
@@ -102,6 +106,7 @@ fn write_diagram<O: Sink>(diagram: &Diagram, out: &mut O) -> Result<(), Stop>
 fn write_letters<O: Sink>(diagram: &Diagram, out: &mut O) -> Result<(), Stop>
     requires { IsShowable (shown_in diagram.now) }
     ensures written { IsWritten (letters_text (shown_in diagram.now)) result (O.taken out.old) (O.taken out.new) }
+    ensures stop { IfErr result (λ stop. stop ≡ Stop.WriteFault) }
     ensures cause { OnErr result (Rose (O.faults out.old) (O.faults out.new)) }
 {
     let mut draft = Draft::new();
@@ -113,6 +118,7 @@ fn write_letters<O: Sink>(diagram: &Diagram, out: &mut O) -> Result<(), Stop>
 fn write_sums<O: Sink>(sums: &Sums, out: &mut O) -> Result<(), Stop>
     requires { IsTextual sums.now }
     ensures written { IsWritten (sums_text sums.now) result (O.taken out.old) (O.taken out.new) }
+    ensures stop { IfErr result (λ stop. stop ≡ Stop.WriteFault) }
     ensures cause { OnErr result (Rose (O.faults out.old) (O.faults out.new)) }
 {
     let mut draft = Draft::new();
@@ -130,6 +136,7 @@ fn do_form<F: Files, O: Sink>(
     requires { IsInOrder form }
     ensures answered { ForSome (F.told files.old) (λ file.
         IsAnswered (asked_in form.entry) file result (O.taken out.old) (O.taken out.new)) }
+    ensures unwritten { IfErr result (λ stop. (stop ≡ Stop.WriteFault → ⊥) → out.new ≡ out.old) }
     ensures contents_stay { F.told files.new ≡ F.told files.old }
     ensures read { result ≡ Err Stop.ReadFault → Rose (F.faults files.old) (F.faults files.new) }
     ensures write { result ≡ Err Stop.WriteFault → Rose (O.faults out.old) (O.faults out.new) }
@@ -159,7 +166,8 @@ fn do_form<F: Files, O: Sink>(
 /// - `sums LOG` writes what groups, stages, refusals, faults and detectors of a whole log add up to.
 /// - `--help` and `--version` write how it is called, and the version.
 ///
-/// A log is read to its end before the first byte is written. Nothing is written where it is refused, or ends before TO.
+/// A log is read to its end before the first byte is written. Nothing is written where it is refused, or ends before TO. No file is
+/// touched where the words are no form.
 pub fn report<F: Files, O: Sink, N: Sink>(
     alloc: Global,
     words: &[String],
@@ -172,6 +180,8 @@ pub fn report<F: Files, O: Sink, N: Sink>(
         (seen (O.taken out.old) (O.taken out.new) (O.faults out.old) (O.faults out.new))
         (seen (N.taken notes.old) (N.taken notes.new) (N.faults notes.old) (N.faults notes.new))
         result }
+    ensures unread { IfErr (form_of (map string_bytes words.now)) (λ stop. files.new ≡ files.old) }
+    ensures unwritten { (result ≡ Status.Done → ⊥) → (result ≡ Status.WriteFault → ⊥) → out.new ≡ out.old }
     ensures contents_stay { F.told files.new ≡ F.told files.old }
 {
     let form = match form_of(words) {
