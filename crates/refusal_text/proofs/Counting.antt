@@ -1,6 +1,6 @@
 -- Runs of seconds that are counted one after another are those of all of them.
 use Rattle.std.proofs.Common.{◌≡◌, ◌∙◌, ℕ, zero, suc, ◌+◌, ◌-◌, ◌<◌, ◌≤◌, max, Bool, true, false, ◌&&◌, ◌==◌, refl, sym, ap, arith, add-one, inl, inr}
-use Rattle.std.specs.Prelude.{nat_lt, if◌then◌else◌}
+use Rattle.std.specs.Prelude.{if◌then◌else◌}
 use Rattle.std.proofs.lemmas.Bool.{cases_eq, cases_lt, eq-eqb, le-ltb, lt-ltb, ne_eqb}
 use Rattle.refusal_text.specs.declared.wait.Counted.{Counted}
 use Rattle.refusal_text.specs.Waits.{longest_below, runs_below, unbroken}

@@ -1,5 +1,5 @@
 -- What was refused in the records of a log, while they are read one after another.
-use Rattle.std.proofs.Common.{◌≡◌, ◌∙◌, ℕ, suc, ◌+◌, ◌<◌, List, [], ◌∷◌, ◌++◌, Option, Some, length, map, take, get_or, refl, sym, ap, arith, append_assoc}
+use Rattle.std.proofs.Common.{◌≡◌, ◌∙◌, ℕ, suc, ◌+◌, List, [], ◌∷◌, ◌++◌, Some, map, take, get_or, sym, ap, arith, append_assoc}
 use Rattle.std.specs.List.{slice_get}
 use Rattle.std.proofs.lemmas.List.{append-nil, map-append}
 use Rattle.std.proofs.lemmas.Option.{get_or_from_slice_get, slice_get_within}
@@ -7,7 +7,7 @@ use Rattle.std.proofs.Math.Seq.{take-suc}
 use Rattle.sig_types.specs.declared.record.Record.{Record}
 use Rattle.sig_types.specs.declared.refused.TurnRefusal.{TurnRefusal}
 use Rattle.sig_types.specs.Rules.{Rules}
-use Rattle.sig_types.specs.Turns.{History, Picture}
+use Rattle.sig_types.specs.Turns.{History}
 use Rattle.log_judge.specs.declared.find.Terms.{Terms}
 use Rattle.log_judge.specs.declared.why.Asked.{Asked}
 use Rattle.refusal_text.specs.declared.refusal.Refusal.{Refusal}

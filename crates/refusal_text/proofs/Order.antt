@@ -1,10 +1,10 @@
 -- Refusals stay in order.
-use Rattle.std.proofs.Common.{◌≡◌, ◌∙◌, ℕ, ◌+◌, ◌<◌, ◌≤◌, List, [], ◌∷◌, ◌++◌, All, length, get_or, refl, sym, ap, arith, subst, inl, inr, length-append}
+use Rattle.std.proofs.Common.{◌≡◌, ◌∙◌, ℕ, ◌+◌, ◌<◌, ◌≤◌, List, [], ◌∷◌, ◌++◌, length, get_or, ap, arith, inl, inr, length-append}
 use Rattle.std.proofs.Math.Seq.{get_or-append_seam}
 use Rattle.std.proofs.lemmas.Bool.{cases_lt}
 use Rattle.std.proofs.lemmas.List.{get_or_append_left}
 use Rattle.refusal_text.specs.declared.refusal.Refusal.{Refusal}
-use Rattle.refusal_text.specs.Order.{AreInOrder, AreUpTo}
+use Rattle.refusal_text.specs.Order.{AreUpTo}
 use Rattle.refusal_text.specs.Words.{second_of}
 
 -- the seconds of a list with one more

@@ -1,6 +1,6 @@
 -- What is said of a refused turn rests on what is kept of the groups that there are, and so on the history alone.
-use Rattle.std.proofs.Common.{◌≡◌, ◌∙◌, ℕ, zero, suc, ◌+◌, ◌-◌, ◌<◌, ◌≤◌, Bool, true, false, List, [], ◌∷◌, ◌++◌, Option, None, Some, length, get_or, refl, sym, ap, subst, arith, inl, inr, length-append}
-use Rattle.std.specs.Prelude.{◌&&◌, ◌==◌, if◌then◌else◌, is_none, nat_lt}
+use Rattle.std.proofs.Common.{◌≡◌, ◌∙◌, ℕ, zero, suc, ◌+◌, ◌-◌, ◌<◌, Bool, List, [], ◌∷◌, ◌++◌, Option, None, Some, length, get_or, refl, sym, ap, arith, inl, inr, length-append}
+use Rattle.std.specs.Prelude.{◌&&◌, if◌then◌else◌, is_none}
 use Rattle.std.proofs.Math.Seq.{get_or-append_seam}
 use Rattle.std.proofs.lemmas.Bool.{cases_eq, ne_eqb}
 use Rattle.std.proofs.lemmas.List.{get_or_append_left}
@@ -19,12 +19,10 @@ use Rattle.log_judge.specs.declared.why.Finding.{Finding}
 use Rattle.log_judge.specs.declared.why.Finding.TheVariants.{Unknown}
 use Rattle.log_judge.specs.declared.why.Reason.{Reason}
 use Rattle.log_judge.specs.declared.why.Reason.TheVariants as reason
-use Rattle.log_judge.specs.Breaches.{no}
-use Rattle.log_judge.specs.Explained.{both, certainly, end_finding, end_reason_now, ended_now, finding_now, is_at, lacks_now, lowest_on_now, missed_now, most_lacking, most_lacking_now, none_missed, on_from_now, reason_now, red_is_enough, short_now, start_finding, start_reason_now, uncleared_now, unless, where_so}
+use Rattle.log_judge.specs.Explained.{both, end_finding, end_reason_now, ended_now, finding_now, is_at, lacks_now, lowest_on_now, missed_now, most_lacking, most_lacking_now, none_missed, reason_now, red_is_enough, short_now, start_finding, start_reason_now, uncleared_now, unless, where_so}
 use Rattle.log_judge.specs.Found.{last_end_with, past_at}
 use Rattle.log_judge.specs.Refused.{no_turn}
 use Rattle.log_judge.specs.Stands.{past_of}
-use Rattle.refusal_text.specs.declared.refusal.Said.{Said}
 use Rattle.refusal_text.specs.declared.refusal.Said.TheVariants as said
 use Rattle.refusal_text.specs.Refusals.{pasts_of, said_after, said_by, said_of}
 

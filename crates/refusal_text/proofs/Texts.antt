@@ -1,12 +1,12 @@
 -- The text of what was found is that of what was refused in the records.
-use Rattle.std.proofs.Common.{◌≡◌, ◌∙◌, ℕ, Bool, true, false, List, [], ◌∷◌, refl, sym, ap}
+use Rattle.std.proofs.Common.{◌≡◌, ◌∙◌, ℕ, Bool, true, false, List, [], ◌∷◌, refl, ap}
 use Rattle.sig_types.specs.declared.record.Record.{Record}
 use Rattle.sig_types.specs.Rules.{Rules}
 use Rattle.refusal_text.specs.declared.finder.Refusals.{Refusals}
 use Rattle.refusal_text.specs.declared.refusal.Refusal.{Refusal}
 use Rattle.refusal_text.specs.Kept.{HasFound, told_text}
 use Rattle.refusal_text.specs.Lines.{words_text}
-use Rattle.refusal_text.specs.Refusals.{first_known, first_second, refusals_of}
+use Rattle.refusal_text.specs.Refusals.{first_known, refusals_of}
 use Rattle.refusal_text.specs.Rows.{table_text}
 use Rattle.refusal_text.specs.Text.{found_text, refusals_text}
 

@@ -1,10 +1,9 @@
 -- What a finder of refusals stands for.
-use Rattle.std.specs.Prelude.{◌≡◌, ℕ, ◌+◌, ◌≤◌, Bool, List, [], ◌∷◌, ◌++◌, All, length, map, slice_get, Some}
+use Rattle.std.specs.Prelude.{◌≡◌, ℕ, Bool, List, [], ◌∷◌, ◌++◌, length, map}
 use Rattle.sig_types.specs.declared.record.Record.{Record}
 use Rattle.sig_types.specs.Rules.{Rules}
 use Rattle.log_judge.specs.Stands as stands
 use Rattle.refusal_text.specs.declared.finder.Refusals.{Refusals}
-use Rattle.refusal_text.specs.Order.{AreInOrder}
 use Rattle.refusal_text.specs.Refusals.{first_known, known_before, refusals_from, terms_from}
 use Rattle.refusal_text.specs.Text.{found_text}
 

@@ -1,4 +1,4 @@
-use Rattle.std.proofs.Common.{◌≡◌, List, sym, subst}
+use Rattle.std.proofs.Common.{List, sym, subst}
 use Rattle.refusal_text.specs.declared.refusal.Refusal.{Refusal}
 use Rattle.refusal_text.specs.Order.{AreUpTo}
 use Rattle.refusal_text.proofs.Order.{order_more}

@@ -1,4 +1,3 @@
-use Rattle.std.proofs.Common.{refl}
 use Rattle.sig_tables.specs.SiteRules.{rules_of}
 use Rattle.log_judge.specs.Stands.{terms_of}
 use Rattle.refusal_text.specs.Refusals.{turn_of}

@@ -1,7 +1,6 @@
-use Rattle.std.proofs.Common.{◌≡◌, ℕ, ◌+◌, ◌<◌, ◌≤◌, List, length, refl, arith, subst}
+use Rattle.std.proofs.Common.{List, refl, arith, subst}
 use Rattle.std.proofs.lemmas.List.{take_all}
 use Rattle.refusal_text.specs.declared.refusal.Refusal.{Refusal}
-use Rattle.refusal_text.specs.declared.wait.Counted.{Counted}
 use Rattle.refusal_text.specs.Counted.{AreCounted}
 use Rattle.refusal_text.specs.Waits.{after_last, is_refused}
 use Rattle.refusal_text.proofs.Counting.{all_longest, all_runs, counted_none}

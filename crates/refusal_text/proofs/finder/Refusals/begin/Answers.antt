@@ -1,9 +1,9 @@
-use Rattle.std.proofs.Common.{◌≡◌, ◌∙◌, ℕ, List, ◌++◌, refl, sym, ap, subst, arith}
+use Rattle.std.proofs.Common.{◌∙◌, ℕ, List, sym, ap, subst, arith}
 use Rattle.std.proofs.lemmas.List.{append-nil}
 use Rattle.sig_types.specs.Turns.{History}
 use Rattle.log_judge.specs.Stands.{StandsFor, seconds_of}
 use Rattle.refusal_text.specs.declared.refusal.Refusal.{Refusal}
-use Rattle.refusal_text.specs.Kept.{groups_of, records_of}
+use Rattle.refusal_text.specs.Kept.{records_of}
 use Rattle.refusal_text.specs.Order.{AreUpTo}
 use Rattle.refusal_text.specs.Refusals.{known_before}
 use Rattle.refusal_text.proofs.Order.{order_none}

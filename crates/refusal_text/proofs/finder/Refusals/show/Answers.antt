@@ -1,9 +1,9 @@
-use Rattle.std.proofs.Common.{◌≡◌, ◌<◌, ℕ, List, [], ◌∷◌, ◌++◌, length, arith, sym}
+use Rattle.std.proofs.Common.{◌≡◌, ◌<◌, ℕ, List, [], ◌∷◌, ◌++◌, arith}
 use Rattle.sig_types.specs.declared.record.Record.{Record}
 use Rattle.sig_tables.specs.SiteRules.{rules_of}
 use Rattle.sig_types.specs.Rules.{Rules}
 use Rattle.refusal_text.specs.declared.finder.Refusals.{Refusals}
-use Rattle.refusal_text.specs.Kept.{HasFound, IsFresh, IsOn, records_of}
+use Rattle.refusal_text.specs.Kept.{HasFound, IsFresh, IsOn}
 use Rattle.refusal_text.proofs.Ends.{on_ok}
 use Rattle.refusal_text.proofs.finder.Refusals.show.Goals as goal
 

@@ -1,5 +1,4 @@
-use Rattle.std.proofs.Common.{◌≡◌, ◌∙◌, ℕ, ◌+◌, List, [], ◌∷◌, ◌++◌, length, length-append, refl, sym, ap, subst, arith}
-use Rattle.sig_types.specs.declared.record.Record.{Record}
+use Rattle.std.proofs.Common.{◌≡◌, ◌∙◌, ℕ, ◌+◌, List, [], ◌∷◌, ◌++◌, length-append, sym, ap, subst}
 use Rattle.sig_types.specs.Turns.{History}
 use Rattle.sig_tables.specs.SiteRules.{rules_of}
 use Rattle.log_judge.specs.declared.find.Terms.{Terms}
