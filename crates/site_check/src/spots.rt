@@ -3,7 +3,7 @@ ghost use Rattle.std.specs.Prelude.{◌≡◌, ◌∷◌, ℕ, List, filter, len
 ghost use Rattle.std.specs.Option.{option_copied};
 ghost use Rattle.site_check.specs.Spots.{argument_at, argument_in, begins_call, call_word, command_word, is_longer, is_name};
 ghost use Rattle.site_check.specs.Spots.{first_argument, is_open, is_token_of, is_word, meant_argument, reading_word};
-ghost use Rattle.site_check.specs.Spots.{argument_place, first_spot, span_spot, statement_tokens, token_spot, token_value, variable_spot, warned_spot};
+ghost use Rattle.site_check.specs.Spots.{argument_place, first_spot, span_spot, statement_tokens, token_spot, token_value, named_spot, warned_spot};
 ghost use Rattle.vap_lex.specs.declared.token.Token.{Token};
 ghost use Rattle.site_check.specs.Marks.{AreMarksOf};
 ghost use Rattle.site_check.specs.Statements.{lines_of};
@@ -15,7 +15,6 @@ use crate::program::Judged;
 use program_check::{CallKind, Meant, ProgramWarning, Warned, constant_value};
 use pua_lines::Spot;
 use sig_types::{CommandKind, ReadingKind};
-use vap_ast::Name;
 use vap_check::Checked;
 use vap_lex::{Sign, Token, TokenKind};
 
@@ -109,11 +108,11 @@ fn spot_of(text: &[u8], token: &Token) -> Spot
 }
 
 // Where a name stands first in a statement of this line; that line, where it doesn't.
-fn name_spot(text: &[u8], tokens: &[Token], line: u32, name: &Name) -> Spot
+fn name_spot(text: &[u8], tokens: &[Token], line: u32, name: &[u8]) -> Spot
     ensures { result ≡ first_spot text.now line (filter (is_name line name.now) tokens.now) }
 {
     for token in tokens {
-        if is_name(token, line, name.bytes()) {
+        if is_name(token, line, name) {
             return spot_of(text, token);
         }
     }
@@ -261,23 +260,29 @@ fn argument_spot(text: &[u8], checked: &Checked, tokens: &[Token], wanted: Wante
     argument_place(text, wanted.line, meant_argument(checked, tokens, wanted))
 }
 
-// Where the variable of a warning stands.
-fn variable_spot(text: &[u8], tokens: &[Token], line: u32, warning: &ProgramWarning) -> Spot
+// Where the name of a warning stands.
+fn named_spot(text: &[u8], tokens: &[Token], line: u32, warning: &ProgramWarning) -> Spot
     ensures { (all : List Token) (lines : List ℕ) → tokens.now ≡ statement_tokens lines line all →
-        result ≡ variable_spot text.now all lines line warning.now }
+        result ≡ named_spot text.now all lines line warning.now }
 {
     match warning {
-        ProgramWarning::UnassignedVariable(name) => name_spot(text, tokens, line, name),
+        ProgramWarning::Lacking(_, name) => name_spot(text, tokens, line, name.bytes()),
+        ProgramWarning::NoSetCycle(kind) => name_spot(text, tokens, line, reading_word(*kind)),
         ProgramWarning::UnknownGroup(_)
         | ProgramWarning::UnknownStage(_)
         | ProgramWarning::UnknownDetector(_)
         | ProgramWarning::MissingInterstage(_, _)
-        | ProgramWarning::SilentDetector(_) => Spot::line(line),
+        | ProgramWarning::SilentDetector(_)
+        | ProgramWarning::NeverCleared(_, _)
+        | ProgramWarning::UnreadDetector(_)
+        | ProgramWarning::WrongStage(_, _)
+        | ProgramWarning::ConstantCondition
+        | ProgramWarning::NeverTrue => Spot::line(line),
     }
 }
 
 /// Where in the text of a program what a warning of it means stands.
-#[tactic(auto, using(crate::proofs::Spotted::first_spotted, crate::proofs::Spotted::second_spotted, crate::proofs::Spotted::variable_spotted))]
+#[tactic(auto, using(crate::proofs::Spotted::first_spotted, crate::proofs::Spotted::second_spotted, crate::proofs::Spotted::name_spotted, crate::proofs::Spotted::line_spotted))]
 pub(crate) fn warned_spot(text: &[u8], program: &Judged, marks: &Marks, warned: &Warned) -> Spot
     requires { AreMarksOf program.now marks.now }
     ensures { result ≡ warned_spot text.now program.now.tokens (lines_of program.now.checked) program.now.checked.names warned.now }
@@ -285,7 +290,8 @@ pub(crate) fn warned_spot(text: &[u8], program: &Judged, marks: &Marks, warned: 
     let line = warned.line;
     let tokens = marks.statement_tokens(program.tokens.as_slice(), line);
     match warned.meant {
-        Meant::Variable => variable_spot(text, tokens, line, &warned.warning),
+        Meant::Name => named_spot(text, tokens, line, &warned.warning),
+        Meant::Line => Spot::line(line),
         Meant::First(kind, value) => {
             let wanted = Wanted {
                 line,

@@ -2,10 +2,10 @@
 use crate::cases::{Case, PROGRAM, WARNED, found};
 use std::test::Fail;
 
-const OF_PROGRAMS: [Case<'static>; 7] = [
+const OF_PROGRAMS: [Case<'static>; 10] = [
     Case {
-        program: b"PROGRAM p;\nwish := 0;\nIF wihs THEN\n  Interstage(1, 2) END;\nIF Detection(1) AND wihs THEN x := 1 END;\nPROG_ENDE: .\n",
-        text: b"p.vap:3: unassigned-variable: the variable `wihs` is read and never assigned, so it is always 0\n  IF wihs THEN\n     ^^^^\nworst case: 16 s from a wish to what is shown (K2: minimum green of K1 and intergreen from it)\nfiles refused: 0, warnings: 1\n",
+        program: b"PROGRAM p;\nwish := 0;\nIF wihs THEN\n  Interstage(1, 2) END;\nIF Detection(1) AND wihs THEN Interstage(2, 1) END;\nPROG_ENDE: .\n",
+        text: b"p.vap:3: unassigned-variable: the variable `wihs` is read and never assigned, so it is always 0\n  IF wihs THEN\n     ^^^^\np.vap:2: never-read: the variable `wish` is assigned and never read\n  wish := 0;\n  ^^^^\nworst case: 16 s from a wish to what is shown (K2: minimum green of K1 and intergreen from it)\nfiles refused: 0, warnings: 2\n",
         ..WARNED
     },
     Case {
@@ -19,8 +19,8 @@ const OF_PROGRAMS: [Case<'static>; 7] = [
         ..WARNED
     },
     Case {
-        program: b"PROGRAM p;\nIF Detection(1) AND Stage_active(3) THEN Interstage(0, 2) END;\nPROG_ENDE: .\n",
-        text: b"p.vap:2: unknown-stage: the plan has no stage 3; stages go by their places in the PUA file, from 1\n  IF Detection(1) AND Stage_active(3) THEN Interstage(0, 2) END;\n                                   ^\np.vap:2: unknown-stage: the plan has no stage 0; stages go by their places in the PUA file, from 1\n  IF Detection(1) AND Stage_active(3) THEN Interstage(0, 2) END;\n                                                      ^\nworst case: 16 s from a wish to what is shown (K2: minimum green of K1 and intergreen from it)\nfiles refused: 0, warnings: 2\n",
+        program: b"PROGRAM p;\nIF Detection(1) AND Stage_active(3) AND Interstage_active(0, 2) THEN Sg_red(2) END;\nPROG_ENDE: .\n",
+        text: b"p.vap:2: unknown-stage: the plan has no stage 3; stages go by their places in the PUA file, from 1\n  IF Detection(1) AND Stage_active(3) AND Interstage_active(0, 2) THEN Sg_red(2) END;\n                                   ^\np.vap:2: unknown-stage: the plan has no stage 0; stages go by their places in the PUA file, from 1\n  IF Detection(1) AND Stage_active(3) AND Interstage_active(0, 2) THEN Sg_red(2) END;\n                                                            ^\nworst case: 16 s from a wish to what is shown (K2: minimum green of K1 and intergreen from it)\nfiles refused: 0, warnings: 2\n",
         ..WARNED
     },
     Case {
@@ -29,13 +29,29 @@ const OF_PROGRAMS: [Case<'static>; 7] = [
         ..WARNED
     },
     Case {
-        program: b"PROGRAM p;\nIF Detection(1) THEN Interstage(2, 2) END;\nPROG_ENDE: .\n",
-        text: b"p.vap:2: missing-interstage: the plan has no interstage from stage 2 to stage 2\n  IF Detection(1) THEN Interstage(2, 2) END;\n                                  ^\nworst case: 16 s from a wish to what is shown (K2: minimum green of K1 and intergreen from it)\nfiles refused: 0, warnings: 1\n",
+        program: b"PROGRAM p;\nIF Detection(1) AND Interstage_active(2, 2) THEN Sg_red(2) END;\nPROG_ENDE: .\n",
+        text: b"p.vap:2: missing-interstage: the plan has no interstage from stage 2 to stage 2\n  IF Detection(1) AND Interstage_active(2, 2) THEN Sg_red(2) END;\n                                        ^\nworst case: 16 s from a wish to what is shown (K2: minimum green of K1 and intergreen from it)\nfiles refused: 0, warnings: 1\n",
         ..WARNED
     },
     Case {
-        program: b"PROGRAM p;\nIF Detection(1) THEN x := Headway(12) END;\ny := Occupancy(12);\nPROG_ENDE: .\n",
-        text: b"p.vap:2: silent-detector: the program reads detector 12, and the detector file never has it\n  IF Detection(1) THEN x := Headway(12) END;\n                                    ^^\nworst case: 16 s from a wish to what is shown (K2: minimum green of K1 and intergreen from it)\nfiles refused: 0, warnings: 1\n",
+        program: b"PROGRAM p;\nIF Detection(1) AND Headway(12) > 3 THEN Sg_red(2) END;\nIF Occupancy(12) > 3 THEN Sg_red(2) END;\nPROG_ENDE: .\n",
+        text: b"p.vap:2: silent-detector: the program reads detector 12, and the detector file never has it\n  IF Detection(1) AND Headway(12) > 3 THEN Sg_red(2) END;\n                              ^^\nworst case: 16 s from a wish to what is shown (K2: minimum green of K1 and intergreen from it)\nfiles refused: 0, warnings: 1\n",
+        ..WARNED
+    },
+    Case {
+        program: b"PROGRAM p;\nCONST spare = 9,\n  most = 30;\nARRAY greens[1] = [20];\nSUBROUTINE look;\n  seen := 1;\nPROG_ENDE: .\nlate:\nIF Detection(1) AND wait > most THEN Start(run);\n  Stop(wait)\nEND;\nPROG_ENDE: .\n",
+        text: b"p.vap:6: never-read: the variable `seen` is assigned and never read\n    seen := 1;\n    ^^^^\np.vap:9: timer-never-started: the timer `wait` is read and never started, so it is always 0\n  IF Detection(1) AND wait > most THEN Start(run);\n                      ^^^^\np.vap:9: never-read: the timer `run` is started and never read\n  IF Detection(1) AND wait > most THEN Start(run);\n                                             ^^^\np.vap:8: unused-label: the label `late` is never jumped to\n  late:\n  ^^^^\np.vap:2: unused-constant: the constant `spare` is never used\n  CONST spare = 9,\n        ^^^^^\np.vap:4: unused-array: the array `greens` is never read\n  ARRAY greens[1] = [20];\n        ^^^^^^\np.vap:5: unused-subroutine: the subroutine `look` is never called\n  SUBROUTINE look;\n             ^^^^\nworst case: 16 s from a wish to what is shown (K2: minimum green of K1 and intergreen from it)\nfiles refused: 0, warnings: 7\n",
+        ..WARNED
+    },
+    Case {
+        program: b"PROGRAM p;\nIF Tc = 0 AND Front_ends(1) > 0 THEN Sg_red(1) END;\nIF Rear_ends(3) > 9 THEN Clear_front_ends(3) END;\nPROG_ENDE: .\n",
+        detectors: b"1:1:1 2:1:1 3:1:1\n",
+        text: b"p.vap:2: never-cleared: `Front_ends(1)` is read and no command clears it, so after the first vehicle it is above 0 for ever\n  IF Tc = 0 AND Front_ends(1) > 0 THEN Sg_red(1) END;\n                           ^\np.vap:3: never-cleared: `Rear_ends(3)` is read and no command clears it, so after the first vehicle it is above 0 for ever\n  IF Rear_ends(3) > 9 THEN Clear_front_ends(3) END;\n               ^\np.vap:2: no-set-cycle: the cycle is read, and no `Set_cycle` sets it, so it is always 0\n  IF Tc = 0 AND Front_ends(1) > 0 THEN Sg_red(1) END;\n     ^^\nd.txt: unread-detector: the file has detector 2, and the program never reads it, though it reads others\nworst case: 16 s from a wish to what is shown (K2: minimum green of K1 and intergreen from it)\nfiles refused: 0, warnings: 4\n",
+        ..WARNED
+    },
+    Case {
+        program: b"PROGRAM p;\nCONST day = 1, night = 2;\nIF night = day OR Detection(1) AND Headway(1) > 9 AND Headway(1) <= 8 THEN Sg_red(1) END;\nPROG_ENDE: .\n",
+        text: b"p.vap:3: constant-condition: two numbers or constants are compared, so this is always true or always false\n  IF night = day OR Detection(1) AND Headway(1) > 9 AND Headway(1) <= 8 THEN Sg_red(1) END;\n  ^^^^^^^^^^^^^^^^^^^^^^^^^^^^^^^^^^^^^^^^^^^^^^^^^^^^^^^^^^^^^^^^^^^^^^^^^^^^^^^^^^^^^^^^^\np.vap:3: never-true: two conditions that are joined by `AND` never hold at once: the one's bound is above the other's\n  IF night = day OR Detection(1) AND Headway(1) > 9 AND Headway(1) <= 8 THEN Sg_red(1) END;\n  ^^^^^^^^^^^^^^^^^^^^^^^^^^^^^^^^^^^^^^^^^^^^^^^^^^^^^^^^^^^^^^^^^^^^^^^^^^^^^^^^^^^^^^^^^\nworst case: 16 s from a wish to what is shown (K2: minimum green of K1 and intergreen from it)\nfiles refused: 0, warnings: 2\n",
         ..WARNED
     },
 ];
@@ -80,6 +96,9 @@ p.pua:8: stage-without-way: no interstage leads from or to stage 3, so a run nev
 p.pua:4: group-never-green: no stage has K3 green
   K3 3
   ^^
+p.pua:8: same-greens: stage 3 has the same groups green as stage 2
+  S3 K2
+  ^^
 p.pua:4: no-intergreen: no stage has K1 and K3 green together, and the table of intergreens has no pair of them, so nothing keeps both from being green at once
   K3 3
   ^^
@@ -93,7 +112,7 @@ p.pua:17: interstage-not-clean: the interstage from stage 2 to stage 1 is not ca
   $INTERSTAGE2
   ^^^^^^^^^^^^
 worst case: 16 s from a wish to what is shown (K2: minimum green of K1 and intergreen from it)
-files refused: 0, warnings: 7
+files refused: 0, warnings: 8
 ",
     ..WARNED
 };
@@ -148,6 +167,34 @@ files refused: 0, warnings: 4
     ..WARNED
 };
 
+// Times whose red-amber and amber are exchanged, beside a program that commands the one interstage in the wrong stage, and the other never.
+const OF_TIMES: Case<'static> = Case {
+    program: b"PROGRAM p;\nIF Stage_active(1) AND Detection(1) THEN Interstage(2, 1) END;\nPROG_ENDE: .\n",
+    times: b"group,min_green,red_amber,amber\nK1,10,3,1\nK2,8,3,1\n",
+    text: b"t.csv:1: red-amber-above-amber: in each row the red-amber is longer than the amber; are the two columns exchanged?
+  group,min_green,red_amber,amber
+  ^^^^^^^^^^^^^^^^^^^^^^^^^^^^^^^
+p.pua:17: late-red-end: in the interstage from stage 1 to stage 2 the red of K2 ends in second 4, where by red-amber and intergreens second 2 would do
+  K2 4 127
+  ^^
+p.pua:23: late-red-end: in the interstage from stage 2 to stage 1 the red of K1 ends in second 3, where by red-amber and intergreens second 1 would do
+  K1 3 127
+  ^^
+p.vap:2: wrong-stage: this command leads from stage 2, and is given where stage 1 is active, so it is refused
+  IF Stage_active(1) AND Detection(1) THEN Interstage(2, 1) END;
+                                                      ^
+p.pua:5: stage-never-left: no command of the program leads from stage 1, so a run that is in it stays in it
+  S1 K1
+  ^^
+p.pua:7: stage-never-reached: no command of the program leads to stage 2, so a run never comes to it
+  S2 K2
+  ^^
+worst case: 18 s from a wish to what is shown (K2: minimum green of K1 and intergreen from it)
+files refused: 0, warnings: 6
+",
+    ..WARNED
+};
+
 #[test]
 fn programs_are_warned_of(rt: HostRuntime) -> Result<(), Fail> {
     for case in OF_PROGRAMS {
@@ -163,5 +210,6 @@ fn plans_are_warned_of(rt: HostRuntime) -> Result<(), Fail> {
         found(rt.alloc(), &OF_CONFLICTS)?.as_slice(),
         OF_CONFLICTS.text
     );
+    assert_eq!(rt; found(rt.alloc(), &OF_TIMES)?.as_slice(), OF_TIMES.text);
     Ok(())
 }

@@ -1,0 +1,9 @@
+use Rattle.std.proofs.Common.{◌≡◌, ◌++◌, drop}
+use Rattle.vap_ast.specs.Tree.{items_of}
+use Rattle.program_check.specs.Conditions.{items_told}
+use Rattle.program_check.proofs.conditions.+statement_conditions.Given as goal
+
+abbrev pub invariant-warn_of_items-loop-item : goal.invariant-warn_of_items-loop-item
+invariant-warn_of_items-loop-item l =
+    l.warned.items ++ items_told l.checked.names (items_of (drop l.item-index l.items)) ≡ l.fn.warned.items
+    ++ items_told l.checked.names (items_of l.items)
