@@ -58,13 +58,13 @@ _vantulig_log_report()
 {
     local cur=${COMP_WORDS[COMP_CWORD]}
     case $COMP_CWORD in
-        1) COMPREPLY=($(compgen -W "diagram text sums breaches protocol --help --version" -- "$cur")) ;;
+        1) COMPREPLY=($(compgen -W "diagram text sums breaches protocol refusals --help --version" -- "$cur")) ;;
         2) _vantulig_files log ;;
         *)
             local options
             case ${COMP_WORDS[1]} in
                 breaches) options="--amber-tolerance --csv" ;;
-                protocol) options=--csv ;;
+                protocol | refusals) options=--csv ;;
                 *) return ;;
             esac
             case $COMP_CWORD in

@@ -1,11 +1,13 @@
 //! Draws, sums and judges a log: `diagram LOG FROM TO` writes an SVG signal timing diagram of these seconds, `text LOG FROM TO` the
 //! same as characters, `sums LOG` what groups, stages, refusals, faults and detectors add up to, `breaches LOG PUA TIMES INTERGREENS`
-//! what the log of any controller breaks of the rules of a junction, and `protocol LOG PUA TIMES INTERGREENS` what came in it.
+//! what the log of any controller breaks of the rules of a junction, `protocol LOG PUA TIMES INTERGREENS` what came in it, and
+//! `refusals LOG PUA TIMES INTERGREENS` why commands and turns were refused.
 #![tactic(auto)]
 
 use breach_view::report_breaches;
 use log_view::{Status, Stop, exit_status, report, write_stop};
 use protocol_view::report_protocol;
+use refusal_view::report_refusals;
 use sig_io::{DiskFiles, ErrSink, Files, OutSink, Sink};
 use std::alloc::{AllocError, Global};
 use std::env::Args;
@@ -36,6 +38,9 @@ fn answer<F: Files, O: Sink, N: Sink>(
         }
         Some(word) if word.as_str() == "protocol" => {
             judge_notes::exit_status(report_protocol(alloc, words, files, out, notes))
+        }
+        Some(word) if word.as_str() == "refusals" => {
+            judge_notes::exit_status(report_refusals(alloc, words, files, out, notes))
         }
         _ => exit_status(report(alloc, words, files, out, notes)),
     }

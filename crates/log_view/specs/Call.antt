@@ -27,6 +27,7 @@ usage_text =
     ++ codes "log_report sums LOG              what groups, stages, refusals, faults and detectors add up to\n"
     ++ codes "log_report breaches LOG PUA TIMES INTERGREENS [--amber-tolerance N] [--csv]\n                                 each breach of the rules by any controller, in words or as a table\n"
     ++ codes "log_report protocol LOG PUA TIMES INTERGREENS [--csv]\n                                 what came in the log of any controller, beside what the tables say\n"
+    ++ codes "log_report refusals LOG PUA TIMES INTERGREENS [FROM TO] [--csv]\n                                 why each command and each turn was refused, in numbers\n"
     ++ codes "log_report --help | --version    this text; the version\n"
 
 -- which version it is

@@ -50,6 +50,10 @@ fn put_usage<O: Sink>(draft: &mut Draft, sink: &mut O)
     );
     draft.put(
         sink,
+        b"log_report refusals LOG PUA TIMES INTERGREENS [FROM TO] [--csv]\n                                 why each command and each turn was refused, in numbers\n",
+    );
+    draft.put(
+        sink,
         b"log_report --help | --version    this text; the version\n",
     );
 }

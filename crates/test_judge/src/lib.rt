@@ -7,3 +7,5 @@ mod breaches;
 mod calls;
 #[cfg(test)]
 mod protocol;
+#[cfg(test)]
+mod refusals;

@@ -1,0 +1,23 @@
+use Rattle.std.proofs.Common.{◌≡◌, ◌≤◌, ◌-◌, true}
+use Rattle.pua_model.specs.Plan.{groups_in}
+use Rattle.sig_tables.specs.SiteRules.{rules_of}
+use Rattle.record_parts.specs.Answers.{is_live, name_of, names_of, records_given}
+use Rattle.refusal_text.specs.Kept.{groups_of, records_of}
+use Rattle.refusal_view.proofs.Reading.{SoFar}
+use Rattle.refusal_view.proofs.finding.find_refusals.Given as goal
+
+abbrev pub invariant-records : goal.invariant-records
+invariant-records g l = record {
+  so_far : SoFar (g.F.Files.told l.fn.files) l.fn.log l.part (rules_of l.fn.tables.times l.fn.tables.intergreens) l.fn.from l.fn.to l.refusals;
+  told : g.F.Files.told l.files ≡ g.F.Files.told l.fn.files;
+  name : name_of l.part ≡ l.fn.log;
+  names : names_of l.part ≡ l.fn.tables.plan.names;
+  live : is_live l.part ≡ true;
+  groups : groups_of l.refusals ≡ groups_in l.fn.tables.plan;
+  count : records_of l.refusals ≡ records_given l.part;
+  most : records_given l.part ≤ 604801;
+  later : g.F.Files.faults l.fn.files ≤ g.F.Files.faults l.files;
+}
+
+abbrev pub decreases-records : goal.decreases-records
+decreases-records g l = 604802 - records_given l.part

@@ -1,0 +1,3 @@
+pub mod Form
+pub mod Found
+pub mod Call
