@@ -92,12 +92,13 @@ fn do_form<'a, F: Files, O: Sink>(
     }
 }
 
-/// Does what the words `refusals LOG PUA TIMES INTERGREENS [FROM TO] [--csv]` say, and tells in a note why it stopped where it did.
+/// Does what the words `refusals LOG PUA TIMES INTERGREENS [FROM TO] [--csv]` say, and tells in a note why it stopped where it
+/// did.
 ///
-/// It writes why each command and each turn that the log tells as refused was, in numbers: as lines with sums, or as a table with
-/// `--csv`. A log that begins with second 1 began at rest; of another one nothing is known of the time before it. The plan, the
-/// times, the intergreens and the log are read one after the other, each to its end, before the first byte is written; nothing is
-/// written where one is refused.
+/// It writes why each command and each turn that the log tells as refused was, in numbers: as lines with sums, or as a table
+/// with `--csv`. A log that begins with second 1 began at rest; of another one nothing is known of the time before it. The plan,
+/// the times, the intergreens and the log are read one after the other, each to its end, before the first byte is written;
+/// nothing is written where one is refused.
 pub fn report_refusals<F: Files, O: Sink, N: Sink>(
     alloc: Global,
     words: &[String],

@@ -33,8 +33,8 @@ fn stop_of<'a>(stop: LogStop, word: &'a str) -> JudgeStop<'a>
     }
 }
 
-/// What was refused in a log at a site, which is read to its end, and what is told of it: in the seconds from `from` to `to`. What
-/// was before them counts all the same.
+/// What was refused in a log at a site, which is read to its end, and what is told of it: in the seconds from `from` to `to`.
+/// What was before them counts all the same.
 pub fn find_refusals<'a, F: Files>(
     alloc: Global,
     tables: &SiteTables,

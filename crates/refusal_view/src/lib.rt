@@ -1,5 +1,5 @@
-//! The form `refusals` of `log_report`: why each command and each turn of a log was refused, in numbers, by the plan and its tables, as
-//! a table or as lines.
+//! The form `refusals` of `log_report`: why each command and each turn of a log was refused, in numbers, by the plan and its
+//! tables, as a table or as lines.
 #![tactic(auto)]
 
 mod call;

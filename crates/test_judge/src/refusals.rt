@@ -6,7 +6,7 @@ use std::alloc::Global;
 use std::test::Fail;
 use test_texts::sites::INTERGREENS;
 
-// K1 waits for the end that second 0 counts as, and is asked to end too soon; no turn of it could be refused for its minimum red.
+// K1 waits for the end that second 0 counts as, and is asked to end too soon; its minimum red refuses no turn.
 const LOG: &str = "VAPLOG 1 K1 K2\n\
 1|S1|RR|-|K1:Intergreen:K2|-\n\
 2|S1|RR|-|K1:Intergreen:K2|-\n\
