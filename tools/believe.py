@@ -125,7 +125,7 @@ THEOREMS = [
     ("what is found in the files of a junction, as values", "`site_check::examine`",
      [("site_check", "Examined", ["IsExamined"])]),
     ("the text of what is found in the files of a junction", "`site_findings::write_findings`",
-     [("site_findings", "Text", ["IsFindingsText"])]),
+     [("site_findings", "Text", ["findings_text"])]),
     ("the plan's lines are its parts, a near word is one slip, an interstage has one end",
      "`pua_lines::laws`, `plan_check::laws`",
      [("pua_lines", "Laws", ["NearIsOneSlip", "StageLinesNameStages", "GroupLinesNameGroups", "InterstageLinesBeginThem"]),

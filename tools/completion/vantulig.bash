@@ -39,7 +39,7 @@ _vantulig_junction_check()
 {
     local cur=${COMP_WORDS[COMP_CWORD]}
     case $cur in
-        -*) COMPREPLY=($(compgen -W "--help --version" -- "$cur")) ;;
+        -*) COMPREPLY=($(compgen -W "--json --allow --help --version" -- "$cur")) ;;
         *) _vantulig_site "$COMP_CWORD" ;;
     esac
 }

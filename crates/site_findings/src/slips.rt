@@ -1,10 +1,17 @@
 // The sentences of slips: what a mistake is likely to be, and what to do.
+ghost use Rattle.std.specs.Prelude.{◌≡◌};
+ghost use Rattle.std.specs.Option.{option_map};
+ghost use Rattle.site_findings.specs.Put.{prose_in, said_prose};
+ghost use Rattle.site_findings.specs.SlipProse.{byte_slip_prose, entry_slip_prose, plan_slip_prose, table_slip_prose, token_slip_prose};
+ghost use Rattle.site_findings.specs.Slips.{plan_slip, quoted_names, quoted_row, refusal_prose, slip_prose, table_in, table_slip};
+ghost use Rattle.site_findings.specs.Slips.{told_of_byte, told_of_entry, told_of_plan, told_of_record, told_of_token};
+
 use crate::finding::{FileKind, Refusal};
 use crate::sentences::{Sentences, sentences_of};
 use det_stream::StreamWhy;
 use line_slips::{
     ByteSlip, EntrySlip, PlanSlip, Table, TableSlip, TokenSlip, again_slip, byte_slip, entry_slip,
-    header_slip, name_slip, names_in, number_slip, row_slip, section_slip, token_slip,
+    header_slip, name_slip, names_in, number_slip, row_slip, section_slip, token_slip, trimmed,
 };
 use pua_reader::PuaWhy;
 use sig_tables::TableWhy;
@@ -303,7 +310,10 @@ static HEADINGS: Sentences = Sentences {
     cure: b"take it out: the first line is second 1",
 };
 
-fn of_plan(slip: PlanSlip) -> &'static Sentences {
+// The sentences of a slip.
+fn of_plan(slip: PlanSlip) -> &'static Sentences
+    ensures { prose_in result.now ≡ plan_slip_prose slip }
+{
     match slip {
         PlanSlip::ProgramAsPlan => &PROGRAM_AS_PLAN,
         PlanSlip::TableAsPlan => &TABLE_AS_PLAN,
@@ -317,7 +327,10 @@ fn of_plan(slip: PlanSlip) -> &'static Sentences {
     }
 }
 
-fn of_table(slip: TableSlip) -> &'static Sentences {
+// The sentences of a slip.
+fn of_table(slip: TableSlip) -> &'static Sentences
+    ensures { prose_in result.now ≡ table_slip_prose slip }
+{
     match slip {
         TableSlip::Semicolons => &SEMICOLONS,
         TableSlip::Matrix => &MATRIX,
@@ -334,7 +347,10 @@ fn of_table(slip: TableSlip) -> &'static Sentences {
     }
 }
 
-fn of_byte(slip: ByteSlip) -> &'static Sentences {
+// The sentences of a slip.
+fn of_byte(slip: ByteSlip) -> &'static Sentences
+    ensures { prose_in result.now ≡ byte_slip_prose slip }
+{
     match slip {
         ByteSlip::PlanAsProgram => &PLAN_AS_PROGRAM,
         ByteSlip::NotEqual => &NOT_EQUAL,
@@ -346,7 +362,10 @@ fn of_byte(slip: ByteSlip) -> &'static Sentences {
     }
 }
 
-fn of_token(slip: TokenSlip) -> &'static Sentences {
+// The sentences of a slip.
+fn of_token(slip: TokenSlip) -> &'static Sentences
+    ensures { prose_in result.now ≡ token_slip_prose slip }
+{
     match slip {
         TokenSlip::EmptyProgram => &EMPTY_PROGRAM,
         TokenSlip::TextEnds => &TEXT_ENDS,
@@ -366,7 +385,10 @@ fn of_token(slip: TokenSlip) -> &'static Sentences {
     }
 }
 
-fn of_entry(slip: EntrySlip) -> &'static Sentences {
+// The sentences of a slip.
+fn of_entry(slip: EntrySlip) -> &'static Sentences
+    ensures { prose_in result.now ≡ entry_slip_prose slip }
+{
     match slip {
         EntrySlip::TwoBlanks => &TWO_BLANKS,
         EntrySlip::BlankAtEnd => &BLANK_AT_END,
@@ -384,32 +406,36 @@ pub(crate) struct Said<'a> {
 }
 
 // Sentences with nothing quoted before them.
-fn plain<'a>(sentences: &'static Sentences) -> Said<'a> {
+#[tactic(auto, unfolding(crate::specs::Prose::quote_text))]
+fn plain<'a>(sentences: &'static Sentences) -> Said<'a>
+    ensures { said_prose result ≡ prose_in sentences.now }
+{
     Said {
         quoted: &[],
         sentences,
     }
 }
 
-// Of a line of a PUA file: a group's row is quoted.
-fn said_of_plan<'a>(slip: PlanSlip, line: &'a [u8]) -> Said<'a> {
+// What of a line stands before what is told of its slip: a group's row.
+fn quoted_row(slip: PlanSlip, line: &[u8]) -> &[u8]
+    ensures { result.now ≡ quoted_row slip line.now }
+{
     match slip {
-        PlanSlip::OneNumber | PlanSlip::GroupAgain => Said {
-            quoted: line.trim_ascii(),
-            sentences: of_plan(slip),
-        },
+        PlanSlip::OneNumber | PlanSlip::GroupAgain => trimmed(line),
         PlanSlip::ProgramAsPlan
         | PlanSlip::TableAsPlan
         | PlanSlip::CommentSign
         | PlanSlip::DecimalSeconds
         | PlanSlip::SecondKey
         | PlanSlip::RedRow
-        | PlanSlip::LoneStage => plain(of_plan(slip)),
+        | PlanSlip::LoneStage => &[],
     }
 }
 
 // The slip of a line of a PUA file.
-fn plan_slip(why: &PuaWhy, line: &[u8]) -> Option<PlanSlip> {
+fn plan_slip(why: &PuaWhy, line: &[u8]) -> Option<PlanSlip>
+    ensures { result ≡ plan_slip why.now line.now }
+{
     match why {
         PuaWhy::Section => section_slip(line),
         PuaWhy::Row => row_slip(line),
@@ -428,19 +454,21 @@ fn plan_slip(why: &PuaWhy, line: &[u8]) -> Option<PlanSlip> {
     }
 }
 
-// Of a record: names that are no groups' are quoted.
-fn said_of_table<'a>(slip: TableSlip, record: &'a [u8]) -> Said<'a> {
-    if slip == TableSlip::NoSuchGroup {
-        return Said {
-            quoted: names_in(record),
-            sentences: of_table(slip),
-        };
-    }
-    plain(of_table(slip))
+// What is told of the slip of a line of a PUA file.
+fn said_of_plan<'a>(why: &PuaWhy, line: &'a [u8]) -> Option<Said<'a>>
+    ensures { option_map said_prose result ≡ option_map (λ slip. told_of_plan slip line.now) (plan_slip why.now line.now) }
+{
+    let slip = plan_slip(why, line)?;
+    Some(Said {
+        quoted: quoted_row(slip, line),
+        sentences: of_plan(slip),
+    })
 }
 
 // The table that a file is; None for another file.
-fn table_in(file: FileKind) -> Option<Table> {
+fn table_in(file: FileKind) -> Option<Table>
+    ensures { result ≡ table_in file }
+{
     match file {
         FileKind::Times => Some(Table::Times),
         FileKind::Intergreens => Some(Table::Intergreens),
@@ -449,11 +477,13 @@ fn table_in(file: FileKind) -> Option<Table> {
 }
 
 // The slip of a record.
-fn table_slip(why: TableWhy, table: Table, record: &[u8]) -> Option<TableSlip> {
+fn table_slip(why: TableWhy, table: Table, row: &[u8]) -> Option<TableSlip>
+    ensures { result ≡ table_slip why table row.now }
+{
     match why {
-        TableWhy::Header => header_slip(table, record),
-        TableWhy::Number => number_slip(table, record),
-        TableWhy::UnknownName => name_slip(record),
+        TableWhy::Header => header_slip(table, row),
+        TableWhy::Number => number_slip(table, row),
+        TableWhy::UnknownName => name_slip(row),
         TableWhy::Fields
         | TableWhy::Twice
         | TableWhy::Missing(_)
@@ -462,42 +492,88 @@ fn table_slip(why: TableWhy, table: Table, record: &[u8]) -> Option<TableSlip> {
     }
 }
 
-// The sentences of a program's slip; None where nothing is known of it.
-fn of_program(refusal: &Refusal, program: &[u8], line: &[u8]) -> Option<&'static Sentences> {
-    match refusal {
-        Refusal::Lex(LexWhy::Byte) => Some(of_byte(byte_slip(line)?)),
-        Refusal::Parse(ParseWhy::Unexpected(place)) => Some(of_token(token_slip(program, *place)?)),
-        Refusal::Stream(StreamWhy::Entry) => Some(of_entry(entry_slip(line)?)),
-        Refusal::Lex(_)
-        | Refusal::Parse(_)
-        | Refusal::Stream(_)
-        | Refusal::Pua(_)
-        | Refusal::Table(_)
-        | Refusal::Check(_)
-        | Refusal::Mark
-        | Refusal::TooLong => None,
+// What of a record stands before what is told of its slip: names that are no groups'.
+fn quoted_names(slip: TableSlip, row: &[u8]) -> &[u8]
+    ensures { result.now ≡ quoted_names slip row.now }
+{
+    match slip {
+        TableSlip::NoSuchGroup => names_in(row),
+        TableSlip::Semicolons
+        | TableSlip::Matrix
+        | TableSlip::PairsAsTimes
+        | TableSlip::TimesAsPairs
+        | TableSlip::OtherWords
+        | TableSlip::BlankInRecord
+        | TableSlip::MinimumGreen
+        | TableSlip::RedAmber
+        | TableSlip::Amber
+        | TableSlip::MinimumRed
+        | TableSlip::Intergreen => &[],
     }
 }
 
-// What is told of a slip; None where nothing is known of it.
+// What is told of the slip of a record.
+fn said_of_record<'a>(why: TableWhy, file: FileKind, row: &'a [u8]) -> Option<Said<'a>>
+    ensures { option_map said_prose result ≡ told_of_record why row.now (table_in file) }
+{
+    let slip = table_slip(why, table_in(file)?, row)?;
+    Some(Said {
+        quoted: quoted_names(slip, row),
+        sentences: of_table(slip),
+    })
+}
+
+// The sentences of a byte that begins no token.
+fn sentences_of_byte(why: LexWhy, line: &[u8]) -> Option<&'static Sentences>
+    ensures { option_map (λ s. prose_in s.now) result ≡ told_of_byte why line.now }
+{
+    match why {
+        LexWhy::Byte => Some(of_byte(byte_slip(line)?)),
+        LexWhy::OpenComment | LexWhy::Decimal | LexWhy::NumberRange => None,
+    }
+}
+
+// The sentences of a token with which there is no program.
+fn sentences_of_token(why: ParseWhy, text: &[u8]) -> Option<&'static Sentences>
+    ensures { option_map (λ s. prose_in s.now) result ≡ told_of_token why text.now }
+{
+    match why {
+        ParseWhy::Unexpected(place) => Some(of_token(token_slip(text, place)?)),
+        ParseWhy::Frequency | ParseWhy::TooDeep => None,
+    }
+}
+
+// The sentences of an entry that isn't three numbers.
+fn sentences_of_entry(why: StreamWhy, line: &[u8]) -> Option<&'static Sentences>
+    ensures { option_map (λ s. prose_in s.now) result ≡ told_of_entry why line.now }
+{
+    match why {
+        StreamWhy::Entry => Some(of_entry(entry_slip(line)?)),
+        StreamWhy::Order
+        | StreamWhy::Range
+        | StreamWhy::Unknown
+        | StreamWhy::RearsAhead(_)
+        | StreamWhy::LineTooLong
+        | StreamWhy::TooManySeconds => None,
+    }
+}
+
+// What is told of a slip; None where the line shows none.
 fn slip_said<'a>(
     refusal: &Refusal,
     file: FileKind,
     program: &[u8],
     line: &'a [u8],
-) -> Option<Said<'a>> {
+) -> Option<Said<'a>>
+    ensures { option_map said_prose result ≡ slip_prose file refusal.now program.now line.now }
+{
     match refusal {
-        Refusal::Pua(why) => Some(said_of_plan(plan_slip(why, line)?, line)),
-        Refusal::Table(why) => {
-            let slip = table_slip(*why, table_in(file)?, line)?;
-            Some(said_of_table(slip, line))
-        }
-        Refusal::Lex(_)
-        | Refusal::Parse(_)
-        | Refusal::Check(_)
-        | Refusal::Stream(_)
-        | Refusal::Mark
-        | Refusal::TooLong => Some(plain(of_program(refusal, program, line)?)),
+        Refusal::Pua(why) => said_of_plan(why, line),
+        Refusal::Table(why) => said_of_record(*why, file, line),
+        Refusal::Lex(why) => Some(plain(sentences_of_byte(*why, line)?)),
+        Refusal::Parse(why) => Some(plain(sentences_of_token(*why, program)?)),
+        Refusal::Stream(why) => Some(plain(sentences_of_entry(*why, line)?)),
+        Refusal::Check(_) | Refusal::Mark | Refusal::TooLong => None,
     }
 }
 
@@ -507,7 +583,9 @@ pub(crate) fn said_of<'a>(
     file: FileKind,
     program: &[u8],
     line: &'a [u8],
-) -> Said<'a> {
+) -> Said<'a>
+    ensures { said_prose result ≡ refusal_prose file refusal.now program.now line.now }
+{
     match slip_said(refusal, file, program, line) {
         Some(said) => said,
         None => plain(sentences_of(refusal)),

@@ -144,7 +144,8 @@ K3 -127 0\n\
 K1 6 127\n\
 $END\n";
 
-const OF_CONFLICTS: Case<'static> = Case {
+/// Files with a stage in conflict, a pair without an intergreen, a short intergreen and a late end of red.
+pub(crate) const OF_CONFLICTS: Case<'static> = Case {
     program: PROGRAM,
     pua: IN_CONFLICT,
     times: b"group,min_green,red_amber,amber\nK1,10,1,3\nK2,8,1,3\nK3,5,0,0\n",

@@ -1,0 +1,216 @@
+// Findings as lines of JSON, for tools.
+ghost use Rattle.std.specs.Prelude.{◌≡◌, IfOk, OnOk};
+ghost use Rattle.site_findings.specs.Json.{column_of, cure_text, end_of, json_line, json_number, json_place, json_string};
+ghost use Rattle.site_findings.specs.Json.{json_text, json_told, sentence_text, severity_text, word_text};
+ghost use Rattle.site_findings.specs.Put.{Puts};
+ghost use Rattle.site_findings.specs.Sheets.{AreSheetsOf};
+ghost use Rattle.site_findings.specs.Text.{line_at};
+
+use crate::escaped::put_escaped;
+use crate::finding::{Examined, FileKind, Finding, SiteNames, Told};
+use crate::reasons::put_refusal;
+use crate::sentences::unread;
+use crate::slips::said_of;
+use crate::text::{Sheets, Text, file_name, line_at, put_means, sheets_of};
+use crate::warned::{put_warning, warning_name};
+use pua_lines::Spot;
+use std::alloc::{AllocError, Global};
+
+// Puts a text of JSON.
+#[tactic(auto, unfolding(crate::specs::Json::json_string))]
+fn put_json(text: &mut Text, bytes: &[u8]) -> Result<(), AllocError>
+    ensures { OnOk result (Puts text.old text.new (json_string bytes.now)) }
+{
+    text.put(b"\"")?;
+    put_escaped(text, bytes)?;
+    text.put(b"\"")
+}
+
+// Puts a number that counts from 1; null where it isn't known.
+#[tactic(auto, unfolding(crate::specs::Json::json_number))]
+fn put_json_number(text: &mut Text, n: usize) -> Result<(), AllocError>
+    ensures { OnOk result (Puts text.old text.new (json_number n)) }
+{
+    if n == 0 {
+        text.put(b"null")
+    } else {
+        text.put_count(n)
+    }
+}
+
+// The column at which begins what is meant, from 1; 0 where it isn't known.
+#[tactic(auto, unfolding(crate::specs::Json::column_of))]
+fn column_of(spot: Spot) -> usize
+    ensures { result ≡ column_of spot }
+{
+    if spot.from < spot.to {
+        spot.from + 1
+    } else {
+        0
+    }
+}
+
+// The last column of what is meant; 0 where it isn't known.
+#[tactic(auto, unfolding(crate::specs::Json::end_of))]
+fn end_of(spot: Spot) -> usize
+    ensures { result ≡ end_of spot }
+{
+    if spot.from < spot.to { spot.to } else { 0 }
+}
+
+fn severity_text(told: &Told) -> &'static [u8]
+    ensures { result.now ≡ severity_text told.now }
+{
+    match told {
+        Told::Refused(_) | Told::Unread | Told::NotJudged => b"error",
+        Told::Warned(_) => b"warning",
+    }
+}
+
+// Puts the word of what is told, and what it speaks of.
+fn put_word(text: &mut Text, examined: &Examined, told: &Told) -> Result<(), AllocError>
+    ensures { OnOk result (Puts text.old text.new (word_text examined.now told.now)) }
+{
+    match told {
+        Told::Refused(refusal) => put_refusal(text, &examined.plan, refusal),
+        Told::Unread => text.put(b"ReadFault"),
+        Told::NotJudged => text.put(b"not-judged"),
+        Told::Warned(warning) => text.put(warning_name(warning)),
+    }
+}
+
+// Puts what is told of a line, in a sentence.
+#[tactic(auto, unfolding(crate::specs::Prose::quote_text))]
+fn put_sentence(
+    text: &mut Text,
+    examined: &Examined,
+    file: FileKind,
+    told: &Told,
+    line: &[u8],
+) -> Result<(), AllocError>
+    ensures { OnOk result (Puts text.old text.new (sentence_text examined.now file told.now line.now)) }
+{
+    match told {
+        Told::Refused(refusal) => {
+            let said = said_of(refusal, file, &examined.program, line);
+            put_means(text, said.quoted, said.sentences.means)
+        }
+        Told::Unread => text.put(unread().means),
+        Told::NotJudged => text.put(b"not judged, since the PUA file is not accepted"),
+        Told::Warned(warning) => put_warning(text, &examined.plan, warning),
+    }
+}
+
+// What to do; nothing of a warning.
+fn cure_of(examined: &Examined, file: FileKind, told: &Told, line: &[u8]) -> &'static [u8]
+    ensures { result.now ≡ cure_text examined.now file told.now line.now }
+{
+    match told {
+        Told::Refused(refusal) => {
+            said_of(refusal, file, &examined.program, line)
+                .sentences
+                .cure
+        }
+        Told::Unread => unread().cure,
+        Told::NotJudged | Told::Warned(_) => &[],
+    }
+}
+
+// Puts where a finding stands.
+#[tactic(auto, unfolding(crate::specs::Json::json_place))]
+fn put_json_place(text: &mut Text, name: &[u8], spot: Spot) -> Result<(), AllocError>
+    ensures { OnOk result (Puts text.old text.new (json_place name.now spot)) }
+{
+    text.put(b"{\"file\":")?;
+    put_json(text, name)?;
+    text.put(b",\"line\":")?;
+    put_json_number(text, spot.line as usize)?;
+    text.put(b",\"column\":")?;
+    put_json_number(text, column_of(spot))?;
+    text.put(b",\"end\":")?;
+    put_json_number(text, end_of(spot))
+}
+
+// Puts what is told of it.
+#[tactic(auto, unfolding(crate::specs::Json::json_told))]
+fn put_json_told(
+    text: &mut Text,
+    severity: &[u8],
+    word: &[u8],
+    sentence: &[u8],
+    cure: &[u8],
+) -> Result<(), AllocError>
+    ensures { OnOk result (Puts text.old text.new (json_told severity.now word.now sentence.now cure.now)) }
+{
+    text.put(b",\"severity\":\"")?;
+    text.put(severity)?;
+    text.put(b"\",\"word\":")?;
+    put_json(text, word)?;
+    text.put(b",\"sentence\":")?;
+    put_json(text, sentence)?;
+    text.put(b",\"cure\":")?;
+    put_json(text, cure)?;
+    text.put(b"}\n")
+}
+
+// The word of what is told.
+fn word_in(alloc: Global, examined: &Examined, told: &Told) -> Result<Vec<u8>, AllocError>
+    ensures { IfOk result (λ v. v.items ≡ word_text examined.now told.now) }
+{
+    let mut word = Text::new(alloc);
+    put_word(&mut word, examined, told)?;
+    Ok(word.bytes)
+}
+
+// The sentence of what is told.
+fn sentence_in(
+    alloc: Global,
+    examined: &Examined,
+    file: FileKind,
+    told: &Told,
+    line: &[u8],
+) -> Result<Vec<u8>, AllocError>
+    ensures { IfOk result (λ v. v.items ≡ sentence_text examined.now file told.now line.now) }
+{
+    let mut sentence = Text::new(alloc);
+    put_sentence(&mut sentence, examined, file, told, line)?;
+    Ok(sentence.bytes)
+}
+
+// Puts the line of a finding.
+#[tactic(auto, unfolding(crate::specs::Json::json_line))]
+fn put_json_line(
+    alloc: Global,
+    text: &mut Text,
+    sheets: &Sheets<'_>,
+    examined: &Examined,
+    names: &SiteNames<'_>,
+    finding: &Finding,
+) -> Result<(), AllocError>
+    requires { AreSheetsOf examined.now sheets.now }
+    ensures { OnOk result (Puts text.old text.new (json_line names.now examined.now finding.now)) }
+{
+    let Finding { file, spot, told } = finding;
+    let line = line_at(sheets, *file, spot.line);
+    let word = word_in(alloc, examined, told)?;
+    let sentence = sentence_in(alloc, examined, *file, told, line)?;
+    put_json_place(text, file_name(names, *file).as_bytes(), *spot)?;
+    let cure = cure_of(examined, *file, told, line);
+    put_json_told(text, severity_text(told), &word, &sentence, cure)
+}
+
+/// All findings as lines of JSON, an object each.
+pub fn write_json(
+    alloc: Global,
+    examined: &Examined,
+    names: &SiteNames<'_>,
+) -> Result<Vec<u8>, AllocError>
+    ensures { IfOk result (λ v. v.items ≡ json_text names.now examined.now) }
+{
+    let sheets = sheets_of(alloc, examined)?;
+    let mut text = Text::new(alloc);
+    for finding in examined.findings.iter() {
+        put_json_line(alloc, &mut text, &sheets, examined, names, finding)?;
+    }
+    Ok(text.bytes)
+}
