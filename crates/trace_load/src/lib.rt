@@ -3,7 +3,9 @@
 //! `specs/Loaded` says what the files give.
 #![tactic(auto)]
 
+mod begin;
 mod load;
 mod program;
 
+pub use begin::start;
 pub use load::{Loaded, load_program};

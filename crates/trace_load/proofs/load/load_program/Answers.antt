@@ -41,4 +41,5 @@ returns-in-Ok-take_program-clause-loaded g c = λ file e.
       text = taken.1;
       value = taken.2;
       runs = taken.3;
+      code_is = taken.4;
     })

@@ -14,7 +14,7 @@ returns-in-Ok-judge_program-clause-program g c = λ file e.
     let same : c.deref.result.now ≡ file c.args.word.now = c.deref.ensures.value ∙ c.in-Ok.ensures.bytes file e in
     let short = subst (λ (t : List ℕ). length t ≤ 1048576) (sym c.deref.ensures.value) c.in-Ok.ensures.within in
     let is = c.in-Ok-judge_program.ensures.text in
-    (accepted_file c.args.word.now (file c.args.word.now) c.deref.result.now _ _ same short is, c.in-Ok.ensures.bytes file e, is.value, is.runs)
+    (accepted_file c.args.word.now (file c.args.word.now) c.deref.result.now _ _ same short is, c.in-Ok.ensures.bytes file e, is.value, is.runs, is.code_is)
 
 pub returns-clause-program : goal.returns-clause-program
 returns-clause-program g c = λ file e.

@@ -1,0 +1,4 @@
+pub mod Csv
+pub mod Lcov
+pub mod Lines
+pub mod Rows
