@@ -1,0 +1,23 @@
+use Rattle.std.proofs.Common.{List, [], ◌++◌, ◌∷◌, subst, sym}
+use Rattle.sig_io.proofs.Drafts.{nothing}
+use Rattle.vap_code.specs.Sights.{Sight}
+use Rattle.controller.specs.Controls.{code_of, logic_of, site_of}
+use Rattle.controller.specs.Second.{past_of}
+use Rattle.controller.specs.Seen.{sights_in}
+use Rattle.trace_tally.specs.Seconds.{sights_by}
+use Rattle.trace_tally.specs.Tallied.{HasTallied}
+use Rattle.trace_tally.proofs.Tallies.{sights_by-more}
+use Rattle.trace_tally.proofs.tally.TallyTeller.tell.Goals as goal
+
+pub returns-clause-puts : goal.returns-clause-puts
+returns-clause-puts g c = λ past stands. nothing
+
+pub returns-clause-knows : goal.returns-clause-knows
+unfolding code_of logic_of
+returns-clause-knows g c = λ first frames stands t.
+    let code = code_of c.args.controller.now in
+    let site = site_of c.args.controller.now in
+    let past = past_of (logic_of c.args.controller.now) site first frames in
+    subst (λ seconds. HasTallied c.add.new.self code.instrs seconds) (sym (sights_by-more code site first frames c.args.frame.now))
+    (c.add.ensures code.instrs (sights_by code site first frames) (sights_in code site past c.args.frame.now) t
+    (c.second_seen.ensures.seen past stands [] c.clear.ensures.none))
