@@ -46,7 +46,7 @@ pub record Underway (start now : Controller) (row_then row : CodeOf → Site →
   pub site : site_of now ≡ site_of start
   pub steady : row ≡ row_then
   pub stands : (first : Past) → StandsFor start first → StandsFor now (past_of (logic_of start) (site_of start) first frames)
-  pub put : (first : Past) → StandsFor start first →
+  pub put : (first : Past) → StandsFor start first → Knew (code_of start) (site_of start) first [] →
       Put (told_from (row_then (code_of start) (site_of start)) (logic_of start) (site_of start) first frames)
   pub known : (first : Past) → StandsFor start first → Knew (code_of start) (site_of start) first [] → Knows (code_of start) (site_of start) first frames
 
@@ -62,7 +62,7 @@ none_yet start row Knows lines told name Put gave reads nothing = record {
   site = refl;
   steady = refl;
   stands = λ first s. s;
-  put = λ first s. nothing;
+  put = λ first s knew. nothing;
   known = λ first s knows. knows;
 }
 
@@ -79,9 +79,20 @@ sent u goes = record {
   site = u.site;
   steady = u.steady;
   stands = u.stands;
-  put = λ first s. goes _ (u.put first s);
+  put = λ first s knew. goes _ (u.put first s knew);
   known = u.known;
 }
+
+module _ {start now : Controller} {row_then row : CodeOf → Site → Past → Counts → List ℕ} {Knew Knows : CodeOf → Site → Past → List Counts → Type 0}
+    {lines : Lines} {told : Option Contents} {name : List ℕ} {Put : List ℕ → Type 0}
+    (u : Underway start now row_then row Knew Knows lines told name Put) (first : Past) (s : StandsFor start first) where
+  -- the past for which the controller stands now
+  pub here : StandsFor now (past_of (logic_of now) (site_of now) first u.frames)
+  here = subst (λ past. StandsFor now past) (λ j. past_of (sym (logic_is now start u.code) j) (sym u.site j) first u.frames) (u.stands first s)
+
+  -- what is known now
+  pub now_known : Knew (code_of start) (site_of start) first [] → Knows (code_of now) (site_of now) first u.frames
+  now_known knew = subst (λ p. p) (λ j. Knows (sym u.code j) (sym u.site j) first u.frames) (u.known first s knew)
 
 -- the frame that comes can be taken
 pub takes_next : (logic : Logic) (site : Site) (first : Past) (frames : List Counts) (f : Counts) → first.frames ≡ [] → Takes frames f →
@@ -96,7 +107,9 @@ module _ (start now next : Controller) (row_then row row_next : CodeOf → Site 
   pub one_more : (u : Underway start now row_then row Knew Knows lines told name Put) → Gave lines' (u.frames ++ f ∷ []) →
       ForSome told (λ file. Reads lines' (file name) (u.frames ++ f ∷ [])) →
       ((past : Past) → StandsFor now past → StandsFor next (past_after_second (logic_of now) (site_of now) past f)) →
-      ((past : Past) → StandsFor now past → (text : List ℕ) → Put text → Put_next (text ++ row (code_of now) (site_of now) past f)) →
+      ((first : Past) (frames : List Counts) → StandsFor now (past_of (logic_of now) (site_of now) first frames) →
+      Knows (code_of now) (site_of now) first frames → (text : List ℕ) → Put text →
+      Put_next (text ++ row (code_of now) (site_of now) (past_of (logic_of now) (site_of now) first frames) f)) →
       ((first : Past) (frames : List Counts) → StandsFor now (past_of (logic_of now) (site_of now) first frames) →
       Knows (code_of now) (site_of now) first frames → Knows_next (code_of now) (site_of now) first (frames ++ f ∷ [])) →
       row_next ≡ row → code_of next ≡ code_of now → site_of next ≡ site_of now →
@@ -112,19 +125,16 @@ module _ (start now next : Controller) (row_then row row_next : CodeOf → Site 
         let is : past_after_second (logic_of now) (site_of now) (after first) f ≡ past_of (logic_of start) (site_of start) first (u.frames ++ f ∷ [])
         = (λ j. past_after_second (logic j) (u.site j) (after first) f) ∙ sym (past_of-more (logic_of start) (site_of start) first u.frames f) in
         subst (λ past. StandsFor next past) is (stands (after first) (u.stands first s));
-    put = λ first s.
-        let same : row (code_of now) (site_of now) (after first) f ≡ row_then (code_of start) (site_of start) (after first) f
-        = λ j. u.steady j (u.code j) (u.site j) (after first) f in
+    put = λ first s knew.
+        let same : row (code_of now) (site_of now) (past_of (logic_of now) (site_of now) first u.frames) f
+            ≡ row_then (code_of start) (site_of start) (after first) f
+        = λ j. u.steady j (u.code j) (u.site j) (past_of (logic j) (u.site j) first u.frames) f in
         subst Put_next
         (ap (λ text. told_from (row_then (code_of start) (site_of start)) (logic_of start) (site_of start) first u.frames ++ text) same
         ∙ sym (told_from-more (row_then (code_of start) (site_of start)) (logic_of start) (site_of start) first u.frames f))
-        (puts (after first) (u.stands first s) _ (u.put first s));
+        (puts first u.frames (here u first s) (now_known u first s knew) _ (u.put first s knew));
     known = λ first s knew.
-        let here : StandsFor now (past_of (logic_of now) (site_of now) first u.frames)
-        = subst (λ past. StandsFor now past) (λ j. past_of (sym logic j) (sym u.site j) first u.frames) (u.stands first s) in
-        let now_known : Knows (code_of now) (site_of now) first u.frames
-        = subst (λ p. p) (λ j. Knows (sym u.code j) (sym u.site j) first u.frames) (u.known first s knew) in
-        subst (λ p. p) (λ j. Knows_next (u.code j) (u.site j) first (u.frames ++ f ∷ [])) (knows first u.frames here now_known);
+        subst (λ p. p) (λ j. Knows_next (u.code j) (u.site j) first (u.frames ++ f ∷ [])) (knows first u.frames (here u first s) (now_known u first s knew));
   }
     where
       logic : logic_of now ≡ logic_of start

@@ -45,16 +45,17 @@ fn play<T: Teller, F: Files, O: Sink>(
     draft: &mut Draft,
     out: &mut O,
 ) -> Result<(), Stop>
-    requires begun { (first : Past) × StandsFor controller.old first × (first.frames ≡ []) }
+    requires begun { (first : Past) × StandsFor controller.old first × (first.frames ≡ [])
+        × T.knows teller.old (code_of controller.old) (site_of controller.old) first [] }
     requires live { is_live lines.old ≡ true }
     requires none_given { second_of lines.old ≡ 0 }
     requires gave { Gave lines.old [] }
     requires unread { (bytes : List ℕ) → Reads lines.old bytes [] }
-    ensures played { (first : Past) → StandsFor controller.old first → first.frames ≡ [] → (frames : List Counts)
+    ensures played { (first : Past) → StandsFor controller.old first → first.frames ≡ [] →
+        T.knows teller.old (code_of controller.old) (site_of controller.old) first [] → (frames : List Counts)
         × Puts O.taken O.faults draft.old draft.new out.old out.new
         (told_from (T.telling teller.old (code_of controller.old) (site_of controller.old)) (logic_of controller.old) (site_of controller.old) first frames)
-        × (T.knows teller.old (code_of controller.old) (site_of controller.old) first [] →
-        T.knows teller.new (code_of controller.old) (site_of controller.old) first frames)
+        × T.knows teller.new (code_of controller.old) (site_of controller.old) first frames
         × ForSome (F.told files.old) (λ file. IsPlayed result (stream_of (file (name_of lines.old))) frames) }
     ensures stops { IfErr result (λ stop. IsStop draft.new.failed stop) }
     ensures contents_stay { F.told files.new ≡ F.told files.old }
@@ -108,17 +109,18 @@ pub fn tell_all<T: Teller, F: Files, O: Sink>(
     mut draft: Draft,
     out: &mut O,
 ) -> Result<(), Stop>
-    requires begun { (first : Past) × StandsFor controller.old first × (first.frames ≡ []) }
+    requires begun { (first : Past) × StandsFor controller.old first × (first.frames ≡ [])
+        × T.knows teller.old (code_of controller.old) (site_of controller.old) first [] }
     requires live { is_live lines.old ≡ true }
     requires none_given { second_of lines.old ≡ 0 }
     requires gave { Gave lines.old [] }
     requires unread { (bytes : List ℕ) → Reads lines.old bytes [] }
-    ensures told { (first : Past) → StandsFor controller.old first → first.frames ≡ [] → (frames : List Counts)
+    ensures told { (first : Past) → StandsFor controller.old first → first.frames ≡ [] →
+        T.knows teller.old (code_of controller.old) (site_of controller.old) first [] → (frames : List Counts)
         × ((start : Option (List ℕ)) (text : List ℕ) → IsDraft start (O.taken out.old) draft text → IsWritten result
         (text ++ told_from (T.telling teller.old (code_of controller.old) (site_of controller.old)) (logic_of controller.old) (site_of controller.old) first frames)
         start (O.taken out.new))
-        × (T.knows teller.old (code_of controller.old) (site_of controller.old) first [] →
-        T.knows teller.new (code_of controller.old) (site_of controller.old) first frames)
+        × T.knows teller.new (code_of controller.old) (site_of controller.old) first frames
         × ForSome (F.told files.old) (λ file. IsPlayed result (stream_of (file (name_of lines.old))) frames) }
     ensures contents_stay { F.told files.new ≡ F.told files.old }
     ensures later { F.faults files.old ≤ F.faults files.new }

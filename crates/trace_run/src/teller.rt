@@ -30,11 +30,17 @@ pub trait Teller {
         draft: &mut Draft,
         out: &mut O,
     )
-        requires { (past : Past) × StandsFor controller.old past × Takes past.frames frame.now }
+        requires takes { (past : Past) × StandsFor controller.old past × Takes past.frames frame.now }
+        requires known { (first : Past) × (frames : List Counts)
+            × StandsFor controller.old (past_of (logic_of controller.old) (site_of controller.old) first frames)
+            × knows self.old (code_of controller.old) (site_of controller.old) first frames }
         ensures stands { (past : Past) → StandsFor controller.old past →
             StandsFor controller.new (past_after_second (logic_of controller.old) (site_of controller.old) past frame.now) }
-        ensures puts { (past : Past) → StandsFor controller.old past → Puts O.taken O.faults draft.old draft.new out.old out.new
-            (telling self.old (code_of controller.old) (site_of controller.old) past frame.now) }
+        ensures puts { (first : Past) (frames : List Counts) →
+            StandsFor controller.old (past_of (logic_of controller.old) (site_of controller.old) first frames) →
+            knows self.old (code_of controller.old) (site_of controller.old) first frames →
+            Puts O.taken O.faults draft.old draft.new out.old out.new (telling self.old (code_of controller.old) (site_of controller.old)
+            (past_of (logic_of controller.old) (site_of controller.old) first frames) frame.now) }
         ensures knows { (first : Past) (frames : List Counts) →
             StandsFor controller.old (past_of (logic_of controller.old) (site_of controller.old) first frames) →
             knows self.old (code_of controller.old) (site_of controller.old) first frames →

@@ -27,18 +27,21 @@ pub returns-then-failed-clause-write : goal.returns-then-failed-clause-write
 returns-then-failed-clause-write g c = λ is.
     rose_failed c.new-draft.ensures.failed (sym c.failed.ensures ∙ c.if-failed.true) c.put_header.ensures.cause
 
+pub tell_all-requires-clause-begun : goal.tell_all-requires-clause-begun
+tell_all-requires-clause-begun g c = let b = c.requires.begun in (b.0, b.1, b.2, tt)
+
 pub returns-in-Ok-clause-told : goal.returns-in-Ok-clause-told
 returns-in-Ok-clause-told g c = λ first stands none.
     let start = g.O.Sink.taken c.args.out.now in
     let header = header_text (program_of c.args.checked.now.tree) c.args.columns.now in
-    let told = c.in-Ok.ensures.told first stands none in
+    let told = c.in-Ok.ensures.told first stands none tt in
     (told.0, told.1 start header (c.put_header.ensures.text start [] (c.new-draft.ensures.text start)), λ file e. told.3 file e)
 
 pub returns-in-Err-clause-told : goal.returns-in-Err-clause-told
 returns-in-Err-clause-told g c = λ first stands none.
     let start = g.O.Sink.taken c.args.out.now in
     let header = header_text (program_of c.args.checked.now.tree) c.args.columns.now in
-    let told = c.in-Err.ensures.told first stands none in
+    let told = c.in-Err.ensures.told first stands none tt in
     rw c.play_stop.ensures (
       told.0,
       written_stop c.in-Err.stop c.args.word _ start _ (told.1 start header (c.put_header.ensures.text start [] (c.new-draft.ensures.text start))),

@@ -7,7 +7,7 @@ use Rattle.controller.specs.Second.{past_of}
 use Rattle.det_stream.specs.Answers.{Gave, Reads, IsNext, name_of}
 use Rattle.det_stream.proofs.Steps.{reads_front}
 use Rattle.trace_run.proofs.Ends.{none_failed, failed_on}
-use Rattle.trace_run.proofs.Underway.{none_yet, one_more, takes_next}
+use Rattle.trace_run.proofs.Underway.{here, none_yet, now_known, one_more, takes_next}
 use Rattle.trace_run.proofs.play.play.Goals as goal
 
 pub loop-lines-init : goal.loop-lines-init
@@ -22,12 +22,12 @@ loop-lines-init g c = (
 )
 
 pub returns-in-Ok-false-clause-played : goal.returns-in-Ok-false-clause-played
-returns-in-Ok-false-clause-played g c = λ first s none.
+returns-in-Ok-false-clause-played g c = λ first s none knew.
     let i = c.loop-lines.invariant in
     let u = i.0 in (
       u.frames,
-      same_put (append-nil _) (then (u.put first s) c.send_before_wait.ensures),
-      u.known first s,
+      same_put (append-nil _) (then (u.put first s knew) c.send_before_wait.ensures),
+      u.known first s knew,
       λ file e.
           let next = subst (λ n. Reads c.loop-lines.lines (file n) u.frames → IsNext (file n) u.frames c.next_frame.new.self (Ok c.in-Ok-false.field-0)) i.2
           (c.in-Ok-false.ensures.next file (i.1 ∙ e) u.frames) (u.reads file e) in
@@ -36,22 +36,22 @@ returns-in-Ok-false-clause-played g c = λ first s none.
     )
 
 pub returns-in-Err-Fault-clause-played : goal.returns-in-Err-Fault-clause-played
-returns-in-Err-Fault-clause-played g c = λ first s none.
+returns-in-Err-Fault-clause-played g c = λ first s none knew.
     let i = c.loop-lines.invariant in
     let u = i.0 in (
       u.frames,
-      same_put (append-nil _) (then (u.put first s) c.send_before_wait.ensures),
-      u.known first s,
+      same_put (append-nil _) (then (u.put first s knew) c.send_before_wait.ensures),
+      u.known first s knew,
       λ file e. reads_front c.loop-lines.lines (file (name_of c.args.lines.now)) u.frames (u.reads file e),
     )
 
 pub returns-in-Err-At-clause-played : goal.returns-in-Err-At-clause-played
-returns-in-Err-At-clause-played g c = λ first s none.
+returns-in-Err-At-clause-played g c = λ first s none knew.
     let i = c.loop-lines.invariant in
     let u = i.0 in (
       u.frames,
-      same_put (append-nil _) (then (u.put first s) c.send_before_wait.ensures),
-      u.known first s,
+      same_put (append-nil _) (then (u.put first s knew) c.send_before_wait.ensures),
+      u.known first s knew,
       λ file e.
           let next = subst (λ n. Reads c.loop-lines.lines (file n) u.frames → IsNext (file n) u.frames c.next_frame.new.self (Err c.in-Err-At.field-0)) i.2
           (c.in-Err-At.ensures.next file (i.1 ∙ e) u.frames) (u.reads file e) in
@@ -59,8 +59,8 @@ returns-in-Err-At-clause-played g c = λ first s none.
           (last.frames_are, last.refusal_is),
     )
 
-pub tell-requires : goal.tell-requires
-tell-requires g c =
+pub tell-requires-clause-takes : goal.tell-requires-clause-takes
+tell-requires-clause-takes g c =
     let u = c.loop-lines.invariant.0 in
     let first = c.requires.begun.0 in
     let s = c.requires.begun.1 in
@@ -71,13 +71,24 @@ tell-requires g c =
           (subst (λ f. Takes u.frames f) (sym c.frame.ensures) takes),
     )
 
+pub tell-requires-clause-known : goal.tell-requires-clause-known
+tell-requires-clause-known g c =
+    let u = c.loop-lines.invariant.0 in
+    let first = c.requires.begun.0 in
+    let s = c.requires.begun.1 in (
+      first,
+      u.frames,
+      here u first s,
+      now_known u first s c.requires.begun.3,
+    )
+
 pub returns-then-failed-clause-played : goal.returns-then-failed-clause-played
-returns-then-failed-clause-played g c = λ first s none.
+returns-then-failed-clause-played g c = λ first s none knew.
     let i = c.loop-lines.invariant in
     let u = i.0 in (
       u.frames,
-      same_put (append-nil _) (then (u.put first s) c.send_before_wait.ensures),
-      u.known first s,
+      same_put (append-nil _) (then (u.put first s knew) c.send_before_wait.ensures),
+      u.known first s knew,
       λ file e. reads_front c.loop-lines.lines (file (name_of c.args.lines.now)) u.frames (u.reads file e),
     )
 
@@ -87,7 +98,9 @@ loop-lines-preserved g c =
     let u = i.0 in
     let gave = (c.in-Ok-true.ensures.gave (ap Ok c.in-Ok-true.field-0-test) u.frames u.gave).0 in
     let second = c.in-Ok-true.ensures.second (ap Ok c.in-Ok-true.field-0-test) in
-    let told = c.tell.ensures.puts _ (u.stands c.requires.begun.0 c.requires.begun.1) in (
+    let first = c.requires.begun.0 in
+    let s = c.requires.begun.1 in
+    let told = c.tell.ensures.puts first u.frames (here u first s) (now_known u first s c.requires.begun.3) in (
       one_more _ _ _ _ _ _ _ _ _ _ _ _ _ _ _ c.frame.result.now u
           (subst (λ f. Gave c.next_frame.new.self (u.frames ++ f ∷ [])) (sym c.frame.ensures) gave)
           (λ file e.
@@ -96,7 +109,7 @@ loop-lines-preserved g c =
           let read = subst (λ b. IsNext (file (name_of c.args.lines.now)) u.frames c.next_frame.new.self (Ok b)) c.in-Ok-true.field-0-test next in
           subst (λ f. Reads c.next_frame.new.self (file (name_of c.args.lines.now)) (u.frames ++ f ∷ [])) (sym c.frame.ensures) read)
           c.tell.ensures.stands
-          (λ past h text puts. then (same_put (append-nil _) (then puts c.send_before_wait.ensures)) (c.tell.ensures.puts past h))
+          (λ first frames h knows text puts. then (same_put (append-nil _) (then puts c.send_before_wait.ensures)) (c.tell.ensures.puts first frames h knows))
           c.tell.ensures.knows c.tell.ensures.steady c.tell.ensures.code c.tell.ensures.site,
       c.next_frame.ensures.contents_stay ∙ i.1,
       c.next_frame.ensures.name ∙ i.2,

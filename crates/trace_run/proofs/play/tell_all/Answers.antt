@@ -3,8 +3,8 @@ use Rattle.det_stream.specs.Stream.{stream_of}
 use Rattle.trace_run.proofs.play.tell_all.Goals as goal
 
 pub returns-clause-told : goal.returns-clause-told
-returns-clause-told g c = λ first s none.
-    let played = c.play-end.ensures.played first s none in (
+returns-clause-told g c = λ first s none knew.
+    let played = c.play-end.ensures.played first s none knew in (
       played.0,
       λ start text is. c.finish.ensures.written start _ (played.1.text start text is),
       played.2,
