@@ -1,0 +1,7 @@
+mod Began
+mod Kept
+mod Looked
+mod Orders
+pub mod Seconds
+mod Seen
+mod Told

@@ -1,0 +1,5 @@
+pub mod Ended
+pub mod Known
+pub mod Laws
+pub mod Lines
+pub mod Rows
