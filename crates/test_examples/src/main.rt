@@ -1,9 +1,10 @@
 //! Runs the examples: several calls one after another, over the files of the system.
 //!
 //! The words of a call end at `--` or at the end of all. A call whose first word is `check` is one of `junction_check`, with the
-//! words behind it, one whose first word is `report` is one of `log_report`, one whose first word is `calls` compares the log that
-//! the library's calls add up to with the file that its last word names, and any other one is one of `junction`. It stops at the
-//! first call that doesn't do all, or finds something in the files, with its exit status.
+//! words behind it, one whose first word is `report` is one of `log_report`, one whose first word is `trace` is one of
+//! `junction_trace`, one whose first word is `calls` compares the log that the library's calls add up to with the file that its
+//! last word names, and any other one is one of `junction`. It stops at the first call that doesn't do all, or finds something in
+//! the files, with its exit status.
 #![tactic(auto)]
 
 use junction_run::{Status, exit_status, junction};
@@ -14,6 +15,7 @@ use std::alloc::Global;
 use std::env;
 use std::process::ExitCode;
 use test_calls::logs::tells_log;
+use trace_call::trace;
 
 // The exit status of a call.
 fn call<F: Files, O: Sink, N: Sink>(
@@ -29,6 +31,9 @@ fn call<F: Files, O: Sink, N: Sink>(
         }
         [first, asked @ ..] if first.as_str() == "report" => {
             log_view::exit_status(report(alloc, asked, files, out, notes))
+        }
+        [first, asked @ ..] if first.as_str() == "trace" => {
+            exit_status(trace(alloc, asked, files, out, notes))
         }
         [first, names @ ..] if first.as_str() == "calls" => match tells_log(alloc, names, files) {
             Ok(true) => exit_status(Status::Done),

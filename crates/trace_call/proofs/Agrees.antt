@@ -41,6 +41,21 @@ rows_agree first last columns Fits a b site past (f ∷ fs) keeps agree fits =
     next-fits same = subst (λ e. Fits (store_after (begun past.store) e)) same
         (keeps.goes_on (world_in site.plan past (past.frames ++ f ∷ [])) (begun past.store) (keeps.begins past.store fits))
 
+-- and the same is told, whatever is told of a past and a frame
+told_agrees : (row : Past → Counts → List ℕ) (Fits : Store → Type 0) (a b : Logic) (site : Site) (past : Past) (fs : List Counts) →
+    KeepsFit Fits a → AgreeOn Fits a b → Fits past.store → told_from row a site past fs ≡ told_from row b site past fs
+unfolding past_after
+told_agrees row Fits a b site past [] keeps agree fits = refl
+told_agrees row Fits a b site past (f ∷ fs) keeps agree fits =
+    let w = world_in site.plan past (past.frames ++ f ∷ []) in
+    let same : pass_of a site past f ≡ pass_of b site past f = agree w (begun past.store) (keeps.begins past.store fits) in
+    ap (λ e. row past f ++ told_from row a site (past_after site past f e) fs) same
+    ∙ ap (λ rows. row past f ++ rows) (told_agrees row Fits a b site (past_after_second b site past f) fs keeps agree (next-fits same))
+  where
+    next-fits : pass_of a site past f ≡ pass_of b site past f → Fits (past_after_second b site past f).store
+    next-fits same = subst (λ e. Fits (store_after (begun past.store) e)) same
+        (keeps.goes_on (world_in site.plan past (past.frames ++ f ∷ [])) (begun past.store) (keeps.begins past.store fits))
+
 map-map : {A B C : Type 0} (f : B → C) (g : A → B) (xs : List A) → map f (map g xs) ≡ map (λ x. f (g x)) xs
 map-map f g [] = refl
 map-map f g (x ∷ xs) = ap (λ l. f (g x) ∷ l) (map-map f g xs)
@@ -113,3 +128,11 @@ module _ (code : CodeOf) (program : Program) (runs : Runs code program) where
       ap (λ store. told_from (row_of first last columns (machine code) site) (machine code) site (opening site store) frames) first_is
       ∙ rows_agree first last columns (Fits program) (machine code) (logic_of program) site (opening site (store_of program)) frames
       (keeps valid) runs.same first_fits
+
+  -- the same is told of the code's run and of the program's
+  pub same_told : Valid code → (row : Past → Counts → List ℕ) (site : Site) (frames : List Counts) →
+      told_from row (machine code) site (opening site (first_store code)) frames
+      ≡ told_from row (logic_of program) site (opening site (store_of program)) frames
+  same_told valid row site frames =
+      ap (λ store. told_from row (machine code) site (opening site store) frames) first_is
+      ∙ told_agrees row (Fits program) (machine code) (logic_of program) site (opening site (store_of program)) frames (keeps valid) runs.same first_fits

@@ -1,3 +1,4 @@
 pub mod Agrees
+pub mod Ended
 pub mod Ends
 pub mod Told

@@ -12,7 +12,8 @@ use Rattle.junction_run.specs.declared.stop.Stop.TheVariants.{Play}
 use Rattle.junction_run.specs.Stop.{StopsWith}
 use Rattle.trace_call.specs.declared.stop.Stop.{Stop}
 use Rattle.trace_call.specs.declared.stop.Stop.TheVariants.{Words, Run}
-use Rattle.trace_call.specs.Form.{Asked, Help, Version, Values, form_of}
+use Rattle.trace_call.specs.Form.{Asked, Help, HowEnded, Version, Values, form_of}
+use Rattle.trace_call.specs.HowEnded.{IsHowEnded}
 use Rattle.trace_call.specs.Notes.{status_of, stop_note}
 use Rattle.trace_call.specs.Values.{IsValues}
 
@@ -21,6 +22,8 @@ unfoldable pub usage_text : List ℕ
 usage_text =
     codes "junction_trace values PROGRAM PUA TIMES INTERGREENS DETECTORS [NAME ..] [--from N] [--to N]\n"
     ++ codes "    a table of the program's variables, timers and cells after each second, as CSV\n"
+    ++ codes "junction_trace how-ended PROGRAM PUA TIMES INTERGREENS DETECTORS [--csv]\n"
+    ++ codes "    for each end of a stage the line of the command that ended it, in words or as CSV\n"
     ++ codes "junction_trace --help | --version\n    this text; the version\n"
 
 -- which version it is
@@ -37,6 +40,7 @@ abbrev pub IsDone : {A : Type 0} → Asked → Contents → Result A Stop → Op
 IsDone Help file r old new = IsWritten usage_text r old new
 IsDone Version file r old new = IsWritten version_text r old new
 IsDone (Values asked) file r old new = IsValues asked file r old new
+IsDone (HowEnded asked) file r old new = IsHowEnded asked file r old new
 
 -- how a call ends that gives this
 abbrev pub status_by : Result (Unit {0}) Stop → Status

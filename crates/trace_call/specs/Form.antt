@@ -1,5 +1,5 @@
 -- The words of a call.
-use Rattle.std.specs.Prelude.{ℕ, ◌+◌, ◌-◌, nat_le, Bool, ◌&&◌, List, [], ◌∷◌, codes, length, take, Option, None, Some, if◌then◌else◌, slice_index_or}
+use Rattle.std.specs.Prelude.{ℕ, ◌+◌, ◌-◌, nat_le, Bool, false, true, ◌&&◌, List, [], ◌∷◌, codes, length, take, Option, None, Some, if◌then◌else◌, slice_index_or}
 use Rattle.std.specs.Option.{option_map}
 use Rattle.std.specs.Str.{bytes_eq}
 use Rattle.sig_types.specs.Text.{number_of, within}
@@ -18,11 +18,17 @@ pub record ValuesWords : Type 0 where
   pub first : ℕ
   pub last : ℕ
 
+-- the ends of stages, in a table or in words
+pub record EndsWords : Type 0 where
+  pub run : RunWords
+  pub csv : Bool
+
 -- what the words ask for
 pub data Asked : Type 0 where
   Help : Asked
   Version : Asked
   Values : (asked : ValuesWords) → Asked
+  HowEnded : (asked : EndsWords) → Asked
 
 -- words, and a number
 pub record Numbered : Type 0 where
@@ -59,6 +65,12 @@ values_to run (Some cut) = values_from run cut.number (cut_option cut.words (cod
 abbrev pub values_form : RunWords → List (List ℕ) → Option Asked
 values_form run words = values_to run (cut_option words (codes "--to") 604800)
 
+-- --csv, or no word
+abbrev pub ends_form : RunWords → List (List ℕ) → Option Asked
+ends_form run [] = Some (HowEnded (record { run = run; csv = false }))
+ends_form run (word ∷ []) = if bytes_eq word (codes "--csv") then Some (HowEnded (record { run = run; csv = true })) else None
+ends_form run _ = None
+
 -- --help and --version
 abbrev pub lone_form : List ℕ → Option Asked
 lone_form word =
@@ -67,7 +79,9 @@ lone_form word =
 
 -- FORM and the names of files, and the words behind them
 abbrev pub run_form : (form : List ℕ) → RunWords → List (List ℕ) → Option Asked
-run_form form run words = if bytes_eq form (codes "values") then values_form run words else None
+run_form form run words =
+    if bytes_eq form (codes "values") then values_form run words
+    else (if bytes_eq form (codes "how-ended") then ends_form run words else None)
 
 -- what the words after the program's name ask for; None where they are no form
 abbrev pub form_of : List (List ℕ) → Option Asked

@@ -11,6 +11,7 @@ ghost use Rattle.trace_call.specs.FormWords.{asked_in};
 ghost use Rattle.trace_call.specs.Notes.{status_of};
 
 use crate::form::{Form, form_of};
+use crate::how_ended::how_ended;
 use crate::stop::{Stop, status_of, write_stop};
 use crate::values::values;
 use junction_run::{PlayStop, Status, Stop as RunStop};
@@ -29,6 +30,14 @@ fn put_usage<O: Sink>(draft: &mut Draft, sink: &mut O)
     draft.put(
         sink,
         b"    a table of the program's variables, timers and cells after each second, as CSV\n",
+    );
+    draft.put(
+        sink,
+        b"junction_trace how-ended PROGRAM PUA TIMES INTERGREENS DETECTORS [--csv]\n",
+    );
+    draft.put(
+        sink,
+        b"    for each end of a stage the line of the command that ended it, in words or as CSV\n",
     );
     draft.put(
         sink,
@@ -86,6 +95,7 @@ fn do_form<'a, F: Files, O: Sink>(
         Form::Help => write_usage(out),
         Form::Version => write_version(out),
         Form::Values { run, names, window } => values(alloc, run, names, window, files, out),
+        Form::HowEnded { run, csv } => how_ended(alloc, run, csv, files, out),
     }
 }
 
@@ -94,6 +104,8 @@ fn do_form<'a, F: Files, O: Sink>(
 /// - `values PROGRAM PUA TIMES INTERGREENS DETECTORS NAME .. --from N --to N` writes a table of the values that the names
 ///   choose, all where there are none, as each second from N to N leaves them. The files are read and judged as by
 ///   `junction run`, and then the names. All memory is taken before the first byte is written.
+/// - `how-ended PROGRAM PUA TIMES INTERGREENS DETECTORS --csv` writes for each end of a stage in the run the line of the command
+///   that ended it, in words where `--csv` is left out.
 /// - `--help` and `--version` write how it is called, and the version.
 pub fn trace<F: Files, O: Sink, N: Sink>(
     alloc: Global,

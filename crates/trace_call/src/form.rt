@@ -1,6 +1,6 @@
 // The words of a call.
 ghost use Rattle.std.specs.Prelude.{◌≡◌, None, Some, MatchOption, map, string_bytes};
-ghost use Rattle.trace_call.specs.Form.{cut_option, form_of, lone_form, run_form, values_form};
+ghost use Rattle.trace_call.specs.Form.{cut_option, ends_form, form_of, lone_form, run_form, values_form};
 ghost use Rattle.trace_call.specs.FormWords.{asked_in, run_named};
 
 use junction_run::SiteWords;
@@ -37,6 +37,8 @@ pub enum Form<'a> {
         names: &'a [String],
         window: Window,
     },
+    /// The ends of stages, in a table or in words.
+    HowEnded { run: RunNames<'a>, csv: bool },
 }
 
 // The words before an option that stands behind them with its number, and the number; where it doesn't stand there
@@ -75,6 +77,24 @@ fn values_form<'a>(run: RunNames<'a>, words: &'a [String]) -> Option<Form<'a>>
     Some(Form::Values { run, names, window })
 }
 
+// --csv, or no word
+fn ends_form<'a>(run: RunNames<'a>, words: &'a [String]) -> Option<Form<'a>>
+    ensures { MatchOption result (ends_form (run_named run.entry) (map string_bytes words.now) ≡ None)
+        (λ form. ends_form (run_named run.entry) (map string_bytes words.now) ≡ Some (asked_in form)) }
+{
+    match words {
+        [] => Some(Form::HowEnded { run, csv: false }),
+        [word] => {
+            if word.as_str() == "--csv" {
+                Some(Form::HowEnded { run, csv: true })
+            } else {
+                None
+            }
+        }
+        _ => None,
+    }
+}
+
 // --help and --version
 fn lone_form(word: &str) -> Option<Form<'_>>
     ensures { MatchOption result (lone_form word.now ≡ None) (λ form. lone_form word.now ≡ Some (asked_in form)) }
@@ -95,6 +115,8 @@ fn run_form<'a>(form: &str, run: RunNames<'a>, words: &'a [String]) -> Option<Fo
 {
     if form == "values" {
         values_form(run, words)
+    } else if form == "how-ended" {
+        ends_form(run, words)
     } else {
         None
     }

@@ -3,6 +3,7 @@
 
 mod call;
 mod form;
+mod how_ended;
 mod stop;
 mod values;
 
