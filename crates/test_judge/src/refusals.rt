@@ -40,7 +40,8 @@ const PART: &str = "VAPLOG 1 K1 K2\n\
 61|-|GR|-|K1:MinGreen|-\n\
 62|-|GR|-|K1:MinGreen K2:Conflict:K1|-\n";
 
-const PART_TABLE: &str = "second,group,asked,rule,other,borne_out,since,seconds,needed,earliest,by\n\
+const PART_TABLE: &str =
+    "second,group,asked,rule,other,borne_out,since,seconds,needed,earliest,by\n\
 61,K1,end,MinGreen,,unknown,,,,,\n\
 62,K1,end,MinGreen,,unknown,,,,,\n\
 62,K2,start,Conflict,K1,yes,61,1,,,\n";

@@ -38,7 +38,10 @@ pub enum Form<'a> {
         window: Window,
     },
     /// The ends of stages, in a table or in words.
-    HowEnded { run: RunNames<'a>, csv: bool },
+    HowEnded {
+        run: RunNames<'a>,
+        csv: bool,
+    },
 }
 
 // The words before an option that stands behind them with its number, and the number; where it doesn't stand there

@@ -85,14 +85,7 @@ pub(crate) fn how_ended<'a, F: Files, O: Sink>(
         Ok(started) => started,
         Err(_memory) => return Err(no_memory()),
     };
-    match write_ends(
-        csv,
-        &mut controller,
-        &mut lines,
-        run.detectors,
-        files,
-        out,
-    ) {
+    match write_ends(csv, &mut controller, &mut lines, run.detectors, files, out) {
         Ok(()) => Ok(()),
         Err(stop) => Err(Stop::Run(RunStop::Play(stop))),
     }

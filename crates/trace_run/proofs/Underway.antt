@@ -127,7 +127,7 @@ module _ (start now next : Controller) (row_then row row_next : CodeOf → Site 
         subst (λ past. StandsFor next past) is (stands (after first) (u.stands first s));
     put = λ first s knew.
         let same : row (code_of now) (site_of now) (past_of (logic_of now) (site_of now) first u.frames) f
-            ≡ row_then (code_of start) (site_of start) (after first) f
+        ≡ row_then (code_of start) (site_of start) (after first) f
         = λ j. u.steady j (u.code j) (u.site j) (past_of (logic j) (u.site j) first u.frames) f in
         subst Put_next
         (ap (λ text. told_from (row_then (code_of start) (site_of start)) (logic_of start) (site_of start) first u.frames ++ text) same

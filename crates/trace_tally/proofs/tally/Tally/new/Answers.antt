@@ -15,8 +15,14 @@ returns c = λ whole.
       within = subst (λ rs. All (IsRowWithin places) rs) (sym c.in_ok-rows.ensures.rows) c.in_ok-rows.ensures.within;
       has_places = c.in_ok-all.ensures.places;
       counted = c.in_ok-all.ensures.none;
-      long = omega (arith, length-map rows row_in, ap (λ (xs : List ℕ). length xs) c.in_ok-seconds.ensures, length-replicate {A = ℕ} c.len.result 0, c.len.ensures,
-          c.in_ok-rows.rows.ok.0);
+      long = omega (
+        arith,
+        length-map rows row_in,
+        ap (λ (xs : List ℕ). length xs) c.in_ok-seconds.ensures,
+        length-replicate {A = ℕ} c.len.result 0,
+        c.len.ensures,
+        c.in_ok-rows.rows.ok.0,
+      );
       with_statement = λ r below.
           let none : 0 ≡ seconds_with [] (row_at (map row_in rows) r).statements = omega arith in
           ap (λ (xs : List ℕ). get_or xs r 0) c.in_ok-seconds.ensures
