@@ -10,7 +10,7 @@ use Rattle.trace_tally.proofs.Tallies.{sights_by-more}
 use Rattle.trace_tally.proofs.tally.TallyTeller.tell.Goals as goal
 
 pub returns-clause-puts : goal.returns-clause-puts
-returns-clause-puts g c = λ past stands. nothing
+returns-clause-puts g c = λ first frames stands known. nothing
 
 pub returns-clause-knows : goal.returns-clause-knows
 unfolding code_of logic_of
