@@ -106,19 +106,23 @@ fn first_failing_second<L: Ledger>(
 {
     let mut vm = Vm::new(alloc, code)?;
     let mut steps = Steps::<L>::new(blank);
-    let mut number = 0u8;
-    for second in seconds {
-        number = number.saturating_add(1);
+    for before in 0..6u8 {
+        let Some(second) = seconds.get(usize::from(before)) else {
+            return Ok(None);
+        };
         let world = Table {
             detector: second.detector,
             reads: second.reads,
-            given: Command::ClearFronts(DetNo(number)),
+            given: Command::ClearFronts(DetNo(before + 1)),
         };
         vm.begin_second();
         let ended = vm.pass(&world, &mut steps, &mut Unseen);
         if ended != end(second.fault) || vm.commands() != second.commands {
-            return Ok(Some(number));
+            return Ok(Some(before + 1));
         }
+    }
+    if seconds.len() > 6 {
+        return Err(Fail::new("more than six seconds"));
     }
     Ok(None)
 }
