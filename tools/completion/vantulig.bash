@@ -48,12 +48,13 @@ _vantulig_junction_trace()
 {
     local cur=${COMP_WORDS[COMP_CWORD]}
     case $COMP_CWORD in
-        1) COMPREPLY=($(compgen -W "values how-ended --help --version" -- "$cur")) ;;
+        1) COMPREPLY=($(compgen -W "values how-ended lines --help --version" -- "$cur")) ;;
         [2-6]) _vantulig_site "$((COMP_CWORD - 1))" ;;
         *)
             case ${COMP_WORDS[1]} in
                 values) COMPREPLY=($(compgen -W "--from --to" -- "$cur")) ;;
                 how-ended) COMPREPLY=($(compgen -W "--csv" -- "$cur")) ;;
+                lines) COMPREPLY=($(compgen -W "--csv --lcov" -- "$cur")) ;;
             esac
             ;;
     esac

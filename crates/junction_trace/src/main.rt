@@ -1,4 +1,4 @@
-//! Tells what a program does inside: `values` in each second of a run.
+//! Tells what a program does inside: its `values` in each second of a run, `how-ended` each stage, and which of its `lines` ran.
 #![tactic(auto)]
 
 use junction_run::{LoadStop, Status, Stop as RunStop, exit_status};

@@ -1,5 +1,5 @@
 -- How telling ends.
-use Rattle.std.proofs.Common.{◌≡◌, ◌++◌, [], ℕ, Bool, true, false, List, Option, Result, Ok, Err, inl, inr, ◌⊎◌, refl, subst, arith, append_assoc, Bor}
+use Rattle.std.proofs.Common.{◌≡◌, ◌++◌, [], ℕ, Bool, true, false, List, Option, Err, inl, inr, ◌⊎◌, refl, subst, arith, append_assoc, Bor}
 use Rattle.std.proofs.lemmas.List.{append-nil}
 use Rattle.std.specs.Prelude.{IsTrue}
 use Rattle.sig_io.specs.Draft.{FailsOnly}
@@ -9,7 +9,6 @@ use Rattle.det_stream.specs.Stream.{Stream}
 use Rattle.junction_run.specs.Played as run
 use Rattle.junction_run.specs.Stop.{play_status}
 use Rattle.junction_run.specs.declared.status.Status.TheVariants as status
-use Rattle.junction_run.specs.declared.stop.PlayStop.{PlayStop}
 use Rattle.trace_run.specs.Told as told
 use Rattle.trace_run.specs.declared.play.Stop.{Stop}
 use Rattle.trace_run.specs.declared.play.Stop.TheVariants.{ReadFault, WriteFault, Refused}
@@ -37,10 +36,10 @@ pub words_no_write : status.Words ≡ status.WriteFault → ⊥
 words_no_write is = absurd cc
 
 -- nor is another stop one of the sink
-read_no_write : status.ReadFault ≡ status.WriteFault → ⊥
+pub read_no_write : status.ReadFault ≡ status.WriteFault → ⊥
 read_no_write is = absurd cc
 
-refused_no_write : status.RefusedLine ≡ status.WriteFault → ⊥
+pub refused_no_write : status.RefusedLine ≡ status.WriteFault → ⊥
 refused_no_write is = absurd cc
 
 no_truth : false ≡ true → ⊥

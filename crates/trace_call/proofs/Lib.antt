@@ -1,4 +1,5 @@
 pub mod Agrees
+pub mod Counted
 pub mod Ended
 pub mod Ends
 pub mod Told

@@ -1,5 +1,5 @@
 -- What was told, of what the parts of telling answer.
-use Rattle.std.proofs.Common.{◌≡◌, ◌∙◌, ◌++◌, ℕ, List, Option, Result, Ok, Err, Vec, Global, ap, sym, subst, refl}
+use Rattle.std.proofs.Common.{◌≡◌, ◌∙◌, ◌++◌, ℕ, List, Option, Result, Ok, Err, ap, sym, subst, refl}
 use Rattle.sig_io.specs.Outside.{Contents}
 use Rattle.sig_types.specs.Counts.{Counts}
 use Rattle.vap_ast.specs.Syntax.{Program}
@@ -30,7 +30,7 @@ use Rattle.trace_call.specs.declared.stop.Stop.TheVariants.{Words, NoName, Run}
 use Rattle.trace_call.specs.Chosen.{IsChosen}
 use Rattle.trace_call.specs.Form.{ValuesWords}
 use Rattle.trace_call.specs.ToldAt.{IsToldAt, WasToldAt}
-use Rattle.trace_call.specs.Values.{AllNamed, Has, IsValues, WasTold, columns_for, row_of, rows_text, values_text}
+use Rattle.trace_call.specs.Values.{AllNamed, IsValues, WasTold, columns_for, row_of, rows_text}
 use Rattle.trace_call.proofs.Agrees.{same_rows}
 
 -- the rows of a controller that was made of a code at a site

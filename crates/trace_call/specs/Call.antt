@@ -2,20 +2,19 @@
 use Rattle.std.specs.Prelude.{◌≡◌, ◌++◌, ℕ, List, codes, Option, None, Some, Result, Ok, Err}
 use Rattle.std.specs.Option.{ForSome}
 use Rattle.std.specs.Io.KnownBytes.{append_known}
-use Rattle.sig_io.specs.Draft.{IsCut}
 use Rattle.sig_io.specs.Outside.{Contents, Rose}
 use Rattle.sig_io.specs.Seen.{Seen}
 use Rattle.junction_run.specs.declared.status.Status.{Status}
 use Rattle.junction_run.specs.declared.status.Status.TheVariants.{Done, ReadFault, WriteFault}
-use Rattle.junction_run.specs.declared.stop.PlayStop.TheVariants as play
-use Rattle.junction_run.specs.declared.stop.Stop.TheVariants.{Play}
 use Rattle.junction_run.specs.Stop.{StopsWith}
 use Rattle.trace_call.specs.declared.stop.Stop.{Stop}
-use Rattle.trace_call.specs.declared.stop.Stop.TheVariants.{Words, Run}
-use Rattle.trace_call.specs.Form.{Asked, Help, HowEnded, Version, Values, form_of}
+use Rattle.trace_call.specs.declared.stop.Stop.TheVariants.{Words}
+use Rattle.trace_call.specs.Form.{Asked, Help, HowEnded, Lines, Version, Values, form_of}
 use Rattle.trace_call.specs.HowEnded.{IsHowEnded}
+use Rattle.trace_call.specs.Lines.{IsLines}
 use Rattle.trace_call.specs.Notes.{status_of, stop_note}
 use Rattle.trace_call.specs.Values.{IsValues}
+use Rattle.trace_call.specs.Written.{IsWritten}
 
 -- how it is called
 unfoldable pub usage_text : List ℕ
@@ -24,16 +23,13 @@ usage_text =
     ++ codes "    a table of the program's variables, timers and cells after each second, as CSV\n"
     ++ codes "junction_trace how-ended PROGRAM PUA TIMES INTERGREENS DETECTORS [--csv]\n"
     ++ codes "    for each end of a stage the line of the command that ended it, in words or as CSV\n"
+    ++ codes "junction_trace lines PROGRAM PUA TIMES INTERGREENS DETECTORS --csv | --lcov\n"
+    ++ codes "    how often its lines ran, and how their tests were answered, as CSV or for lcov\n"
     ++ codes "junction_trace --help | --version\n    this text; the version\n"
 
 -- which version it is
 abbrev pub version_text : List ℕ
 version_text = codes "junction_trace 0.1.0\n"
-
--- a text was written, or only its first bytes, where the sink failed
-abbrev pub IsWritten : {A : Type 0} → List ℕ → Result A Stop → Option (List ℕ) → Option (List ℕ) → Type 0
-IsWritten text (Ok x) old new = new ≡ append_known old text
-IsWritten text (Err stop) old new = (stop ≡ Run (Play play.WriteFault)) × ((n : ℕ) × IsCut old new n text)
 
 -- what is asked for was done so, over files that tell this
 abbrev pub IsDone : {A : Type 0} → Asked → Contents → Result A Stop → Option (List ℕ) → Option (List ℕ) → Type 0
@@ -41,6 +37,7 @@ IsDone Help file r old new = IsWritten usage_text r old new
 IsDone Version file r old new = IsWritten version_text r old new
 IsDone (Values asked) file r old new = IsValues asked file r old new
 IsDone (HowEnded asked) file r old new = IsHowEnded asked file r old new
+IsDone (Lines asked) file r old new = IsLines asked file r old new
 
 -- how a call ends that gives this
 abbrev pub status_by : Result (Unit {0}) Stop → Status

@@ -1,9 +1,11 @@
 -- The words of a call.
-use Rattle.std.specs.Prelude.{ℕ, ◌+◌, ◌-◌, nat_le, Bool, false, true, ◌&&◌, List, [], ◌∷◌, codes, length, take, Option, None, Some, if◌then◌else◌, slice_index_or}
+use Rattle.std.specs.Prelude.{ℕ, ◌-◌, nat_le, Bool, false, true, ◌&&◌, List, [], ◌∷◌, codes, length, take, Option, None, Some, if◌then◌else◌, slice_index_or}
 use Rattle.std.specs.Option.{option_map}
 use Rattle.std.specs.Str.{bytes_eq}
 use Rattle.sig_types.specs.Text.{number_of, within}
 use Rattle.junction_run.specs.Form.{SiteWords}
+use Rattle.trace_call.specs.declared.form.Style.{Style}
+use Rattle.trace_call.specs.declared.form.Style.TheVariants.{Csv, Lcov}
 
 -- the names of the files of a run
 pub record RunWords : Type 0 where
@@ -23,12 +25,18 @@ pub record EndsWords : Type 0 where
   pub run : RunWords
   pub csv : Bool
 
+-- the counts of the lines, in this style
+pub record LinesWords : Type 0 where
+  pub run : RunWords
+  pub style : Style
+
 -- what the words ask for
 pub data Asked : Type 0 where
   Help : Asked
   Version : Asked
   Values : (asked : ValuesWords) → Asked
   HowEnded : (asked : EndsWords) → Asked
+  Lines : (asked : LinesWords) → Asked
 
 -- words, and a number
 pub record Numbered : Type 0 where
@@ -71,6 +79,21 @@ ends_form run [] = Some (HowEnded (record { run = run; csv = false }))
 ends_form run (word ∷ []) = if bytes_eq word (codes "--csv") then Some (HowEnded (record { run = run; csv = true })) else None
 ends_form run _ = None
 
+-- the style that a word names
+abbrev pub style_of : List ℕ → Option Style
+style_of word =
+    if bytes_eq word (codes "--csv") then Some Csv else (if bytes_eq word (codes "--lcov") then Some Lcov else None)
+
+-- the counts of the lines in this style, if there is one
+abbrev pub lines_in : RunWords → Option Style → Option Asked
+lines_in run None = None
+lines_in run (Some style) = Some (Lines (record { run = run; style = style }))
+
+-- --csv or --lcov
+abbrev pub lines_form : RunWords → List (List ℕ) → Option Asked
+lines_form run (word ∷ []) = lines_in run (style_of word)
+lines_form run _ = None
+
 -- --help and --version
 abbrev pub lone_form : List ℕ → Option Asked
 lone_form word =
@@ -81,7 +104,8 @@ lone_form word =
 abbrev pub run_form : (form : List ℕ) → RunWords → List (List ℕ) → Option Asked
 run_form form run words =
     if bytes_eq form (codes "values") then values_form run words
-    else (if bytes_eq form (codes "how-ended") then ends_form run words else None)
+    else (if bytes_eq form (codes "how-ended") then ends_form run words
+    else (if bytes_eq form (codes "lines") then lines_form run words else None))
 
 -- what the words after the program's name ask for; None where they are no form
 abbrev pub form_of : List (List ℕ) → Option Asked

@@ -3,6 +3,8 @@ pub mod Chosen
 pub mod Form
 pub mod FormWords
 pub mod HowEnded
+pub mod Lines
 pub mod Notes
 pub mod ToldAt
 pub mod Values
+pub mod Written

@@ -1,20 +1,23 @@
 // The top call.
-ghost use Rattle.std.specs.Prelude.{◌≡◌, ◌≤◌, ℕ, List, Option, OnErr, IsTrue, ◌⊎◌, map, string_bytes};
+ghost use Rattle.std.specs.Prelude.{◌≡◌, OnErr, map, string_bytes};
 ghost use Rattle.std.specs.Option.{ForSome};
-ghost use Rattle.sig_io.specs.Draft.{IsDraft, Puts};
+ghost use Rattle.sig_io.specs.Draft.{Puts};
 ghost use Rattle.sig_io.specs.Outside.{Rose};
 ghost use Rattle.sig_io.specs.Seen.{seen};
 ghost use Rattle.junction_run.specs.Stop.{StopsWith};
 ghost use Rattle.junction_run.specs.declared.status.Status.TheVariants as status;
-ghost use Rattle.trace_call.specs.Call.{IsDone, IsTraced, IsWritten, usage_text, version_text};
+ghost use Rattle.trace_call.specs.Call.{IsDone, IsTraced, usage_text, version_text};
 ghost use Rattle.trace_call.specs.FormWords.{asked_in};
 ghost use Rattle.trace_call.specs.Notes.{status_of};
+ghost use Rattle.trace_call.specs.Written.{IsWritten};
 
+use crate::end::end;
 use crate::form::{Form, form_of};
 use crate::how_ended::how_ended;
+use crate::lines::lines;
 use crate::stop::{Stop, status_of, write_stop};
 use crate::values::values;
-use junction_run::{PlayStop, Status, Stop as RunStop};
+use junction_run::Status;
 use sig_io::{Draft, Files, Sink};
 use std::alloc::Global;
 
@@ -41,21 +44,16 @@ fn put_usage<O: Sink>(draft: &mut Draft, sink: &mut O)
     );
     draft.put(
         sink,
+        b"junction_trace lines PROGRAM PUA TIMES INTERGREENS DETECTORS --csv | --lcov\n",
+    );
+    draft.put(
+        sink,
+        b"    how often its lines ran, and how their tests were answered, as CSV or for lcov\n",
+    );
+    draft.put(
+        sink,
         b"junction_trace --help | --version\n    this text; the version\n",
     );
-}
-
-// Gives a sink the rest of a text.
-fn end<'a, O: Sink>(draft: Draft, out: &mut O) -> Result<(), Stop<'a>>
-    ensures written { (start : Option (List ℕ)) (text : List ℕ) → IsDraft start (O.taken out.old) draft text →
-        IsWritten text result start (O.taken out.new) }
-    ensures cause { OnErr result (IsTrue draft.failed ⊎ Rose (O.faults out.old) (O.faults out.new)) }
-    ensures later { O.faults out.old ≤ O.faults out.new }
-{
-    match draft.finish(out) {
-        Ok(()) => Ok(()),
-        Err(_fault) => Err(Stop::Run(RunStop::Play(PlayStop::WriteFault))),
-    }
 }
 
 // Writes how it is called.
@@ -96,6 +94,7 @@ fn do_form<'a, F: Files, O: Sink>(
         Form::Version => write_version(out),
         Form::Values { run, names, window } => values(alloc, run, names, window, files, out),
         Form::HowEnded { run, csv } => how_ended(alloc, run, csv, files, out),
+        Form::Lines { run, style } => lines(alloc, run, style, files, out),
     }
 }
 
@@ -106,6 +105,8 @@ fn do_form<'a, F: Files, O: Sink>(
 ///   `junction run`, and then the names. All memory is taken before the first byte is written.
 /// - `how-ended PROGRAM PUA TIMES INTERGREENS DETECTORS --csv` writes for each end of a stage in the run the line of the command
 ///   that ended it, in words where `--csv` is left out.
+/// - `lines PROGRAM PUA TIMES INTERGREENS DETECTORS --csv` writes how often the statements of each line of the program began
+///   and how its tests were answered, once all seconds are made; `--lcov` writes it as a tracefile of LCOV.
 /// - `--help` and `--version` write how it is called, and the version.
 pub fn trace<F: Files, O: Sink, N: Sink>(
     alloc: Global,

@@ -1,6 +1,6 @@
 // The words of a call.
 ghost use Rattle.std.specs.Prelude.{◌≡◌, None, Some, MatchOption, map, string_bytes};
-ghost use Rattle.trace_call.specs.Form.{cut_option, ends_form, form_of, lone_form, run_form, values_form};
+ghost use Rattle.trace_call.specs.Form.{cut_option, ends_form, form_of, lines_form, lone_form, run_form, style_of, values_form};
 ghost use Rattle.trace_call.specs.FormWords.{asked_in, run_named};
 
 use junction_run::SiteWords;
@@ -24,6 +24,15 @@ pub struct Window {
     pub to: u32,
 }
 
+/// How counts of lines are written.
+#[derive(Clone, Copy, Debug, PartialEq, Eq)]
+pub enum Style {
+    /// As CSV.
+    Csv,
+    /// As a tracefile of LCOV.
+    Lcov,
+}
+
 /// What the words ask for.
 #[derive(Clone, Copy)]
 pub enum Form<'a> {
@@ -41,6 +50,11 @@ pub enum Form<'a> {
     HowEnded {
         run: RunNames<'a>,
         csv: bool,
+    },
+    /// The counts of the lines, in this style.
+    Lines {
+        run: RunNames<'a>,
+        style: Style,
     },
 }
 
@@ -63,6 +77,19 @@ fn cut_option<'a>(words: &'a [String], option: &str, other: u32) -> Option<(&'a 
     };
     let (front, _) = words.split_at(at);
     Some((front, value))
+}
+
+// The style that a word names.
+fn style_of(word: &str) -> Option<Style>
+    ensures { result ≡ style_of word.now }
+{
+    if word == "--csv" {
+        Some(Style::Csv)
+    } else if word == "--lcov" {
+        Some(Style::Lcov)
+    } else {
+        None
+    }
 }
 
 // NAME .. --from N --to N
@@ -98,6 +125,18 @@ fn ends_form<'a>(run: RunNames<'a>, words: &'a [String]) -> Option<Form<'a>>
     }
 }
 
+// --csv or --lcov
+fn lines_form<'a>(run: RunNames<'a>, words: &'a [String]) -> Option<Form<'a>>
+    ensures { MatchOption result (lines_form (run_named run.entry) (map string_bytes words.now) ≡ None)
+        (λ form. lines_form (run_named run.entry) (map string_bytes words.now) ≡ Some (asked_in form)) }
+{
+    let [word] = words else {
+        return None;
+    };
+    let style = style_of(word.as_str())?;
+    Some(Form::Lines { run, style })
+}
+
 // --help and --version
 fn lone_form(word: &str) -> Option<Form<'_>>
     ensures { MatchOption result (lone_form word.now ≡ None) (λ form. lone_form word.now ≡ Some (asked_in form)) }
@@ -120,6 +159,8 @@ fn run_form<'a>(form: &str, run: RunNames<'a>, words: &'a [String]) -> Option<Fo
         values_form(run, words)
     } else if form == "how-ended" {
         ends_form(run, words)
+    } else if form == "lines" {
+        lines_form(run, words)
     } else {
         None
     }

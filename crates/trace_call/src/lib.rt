@@ -2,8 +2,10 @@
 #![tactic(auto)]
 
 mod call;
+mod end;
 mod form;
 mod how_ended;
+mod lines;
 mod stop;
 mod values;
 

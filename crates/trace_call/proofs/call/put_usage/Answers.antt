@@ -4,4 +4,6 @@ use Rattle.trace_call.proofs.call.put_usage.Goals as goal
 
 pub returns : goal.returns
 unfolding usage_text
-returns g c = then (then (then (then c.put.ensures c.put-2.ensures) c.put-3.ensures) c.put-4.ensures) c.put-5.ensures
+returns g c =
+    then (then (then (then (then (then c.put.ensures c.put-2.ensures) c.put-3.ensures) c.put-4.ensures) c.put-5.ensures) c.put-6.ensures)
+    c.put-7.ensures
