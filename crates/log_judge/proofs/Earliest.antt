@@ -1,20 +1,20 @@
 -- What a rule refuses where no further turn is wished.
-use Rattle.std.proofs.Common.{◌≡◌, ◌∙◌, ℕ, zero, suc, ◌+◌, ◌-◌, ◌<◌, ◌≤◌, Bool, true, false, not, ◌&&◌, Option, Some, is_some, nat_lt, [], ◌∷◌, length, get_or, refl, arith, sym, ap, inl, inr}
-use Rattle.std.proofs.lemmas.Bool.{cases_lt, and_from, ltb-false, le-ltb}
+use Rattle.std.proofs.Common.{◌≡◌, ◌∙◌, ℕ, zero, suc, ◌+◌, ◌-◌, ◌<◌, ◌≤◌, Bool, true, false, not, ◌&&◌, Option, Some, is_some, nat_lt, ◌==◌, if◌then◌else◌, [], ◌∷◌, length, get_or, refl, arith, sym, ap, inl, inr}
+use Rattle.std.proofs.lemmas.Bool.{cases_lt, and_from, eqb-true, eqb-false, ltb-false, lt-ltb, le-ltb}
 use Rattle.std.proofs.Math.ListN.{length-append}
 use Rattle.std.proofs.Math.Seq.{get_or-append_seam}
 use Rattle.sig_types.specs.declared.aspect.Aspect.{Aspect}
 use Rattle.sig_types.specs.declared.aspect.Aspect.TheVariants.{Red, RedAmber, Green, Amber}
-use Rattle.sig_types.specs.Turns.{History, trace, is_green, turns_green_at, turns_red_at, ends_at}
+use Rattle.sig_types.specs.Turns.{History, trace, is_green, is_red, starts_at, turns_green_at, turns_red_at, ends_at}
 use Rattle.sig_types.specs.Words.{last_below}
 use Rattle.sig_types.specs.Rules.{Rules}
 use Rattle.sig_types.proofs.LastBelow.{IsLast, last_below-at, last_below-some, last_below-never}
 use Rattle.sig_guard.specs.Step.{natural, shows_by_nature, natural_picture}
 use Rattle.sig_guard.proofs.SecondMore.{is_close}
-use Rattle.sig_guard.proofs.Agree.{AgreeBelow, turns_green_at-agree, turns_red_at-agree, ends_at-agree}
+use Rattle.sig_guard.proofs.Agree.{AgreeBelow, starts_at-agree, turns_green_at-agree, turns_red_at-agree, ends_at-agree}
 use Rattle.sig_guard.proofs.Pictures.{trace-append_old, trace-append_new, natural_below-shown}
 use Rattle.sig_guard.proofs.StepKept.{natural_picture-size}
-use Rattle.log_judge.specs.Refused.{still, HasSize, EarliestEnd, EarliestStart, EarliestCleared}
+use Rattle.log_judge.specs.Refused.{still, HasSize, EarliestAfterAmber, EarliestAfterRedAmber, EarliestEnd, EarliestStart, EarliestCleared}
 
 -- the history goes on
 still-length : (r : Rules) (h : History) (k : ℕ) → length (still r h k) ≡ length h + k
@@ -191,3 +191,179 @@ earliest_cleared r h g i b z k sized lt between last =
     ap (λ (o : Option ℕ). is_close o (r.red_amber g) (suc (length (still r h k) - 1)) (trace (still r h (suc k)) i)) between
     ∙ ap (λ (t : ℕ). is_close (Some z) (r.red_amber g) t (trace (still r h (suc k)) i)) (after_last r h k sized.0)
     ∙ cleared r h i b z (r.red_amber g) k sized lt last
+
+-- ---- red_amber
+
+by_red_amber : (b c : Bool) (x : Aspect) → x ≡ RedAmber → natural b c x ≡ (if b then Green else RedAmber)
+by_red_amber b c Red h = absurd (cc)
+by_red_amber b c RedAmber h = refl
+by_red_amber b c Green h = absurd (cc)
+by_red_amber b c Amber h = absurd (cc)
+
+-- it is over just when its time has passed
+red_amber_over : (b : Bool) (a m : ℕ) → (a == m) ≡ b → m ≤ a → (if b then Green else RedAmber) ≡ (if nat_lt (m + 1) (a + 1) then RedAmber else Green)
+red_amber_over true a m same le = let is : a ≡ m = eqb-true a m same in rw (le-ltb (m + 1) (a + 1) (omega (arith, is))) refl
+red_amber_over false a m other le = elim (cases_lt m a) [
+  | inl lt ↦ rw (lt-ltb (m + 1) (a + 1) (omega (arith, lt))) refl
+  | inr ge ↦ absurd (eqb-false a m other (omega (arith, le, ge)))
+]
+
+red_amber_before : (c : Bool) → is_red (if c then RedAmber else Green) ≡ false
+red_amber_before true = refl
+red_amber_before false = refl
+
+no_turn_red_amber : (a : ℕ → Aspect) (t : ℕ) → 1 ≤ t → is_red (a (t - 1)) ≡ false → starts_at a t ≡ false
+no_turn_red_amber a zero some is = absurd (omega (arith, some))
+no_turn_red_amber a (suc t) some is =
+    let at : suc t - 1 ≡ t = omega arith in
+    let here : is_red (a t) ≡ false = ap (λ (x : ℕ). is_red (a x)) (sym at) ∙ is in
+    rw here refl
+
+-- the red-amber since s of a history that goes on
+record Going_red_amber (r : Rules) (h : History) (g s k : ℕ) : Type 0 where
+  turn : last_below (starts_at (trace (still r h k) g)) (length h + k) ≡ Some s
+  shows : trace (still r h k) g (length h + k - 1) ≡ (if nat_lt (length h + k) (s + r.red_amber g + 1) then RedAmber else Green)
+
+going_red_amber : (r : Rules) (h : History) (g s k : ℕ) → HasSize r.count h → g < r.count → trace h g (length h - 1) ≡ RedAmber →
+    last_below (starts_at (trace h g)) (length h) ≡ Some s → length h ≤ s + r.red_amber g → Going_red_amber r h g s k
+going_red_amber r h g s zero sized lt shown last long =
+    let at : length h + 0 ≡ length h = omega arith in
+    record {
+      turn = rw at last;
+      shows = rw (at, lt-ltb (length h) (s + r.red_amber g + 1) (omega (arith, long))) shown;
+    }
+going_red_amber r h g s (suc k) sized lt shown last long =
+    let before = going_red_amber r h g s k sized lt shown last long in
+    let n = still-length r h k in
+    let m = length h + k in
+    let due = s + r.red_amber g in
+    let here : suc (length (still r h k) - 1) ≡ m = after_last r h k sized.0 in
+    let last_at : length (still r h k) - 1 ≡ m - 1 = omega (arith, n) in
+    let next = trace-append_old (still r h k) (natural_picture r (still r h k)) g (length (still r h k)) refl in
+    let is : IsLast (starts_at (trace (still r h k) g)) m s = last_below-some (starts_at (trace (still r h k) g)) m s before.turn in
+    let agree : (j : ℕ) → j < m → starts_at (trace (still r h k) g) j ≡ starts_at (trace (still r h (suc k)) g) j
+    = λ j below. starts_at-agree (length (still r h k)) (trace (still r h k) g) (trace (still r h (suc k)) g) next j (omega (arith, below, n)) in
+    let kept : trace (still r h (suc k)) g (m - 1) ≡ (if nat_lt m (due + 1) then RedAmber else Green)
+    = sym (next.at (m - 1) (omega (arith, n, sized.0))) ∙ before.shows in
+    let up : length h + suc k ≡ m + 1 = omega arith in
+    let now : length h + suc k - 1 ≡ m = omega arith in
+    let was : trace (still r h k) g (length (still r h k) - 1) ≡ (if nat_lt m (due + 1) then RedAmber else Green)
+    = ap (λ (t : ℕ). trace (still r h k) g t) last_at ∙ before.shows in
+    record {
+      turn = rw up (last_below-at (starts_at (trace (still r h (suc k)) g)) (m + 1) s (sym (agree s is.below) ∙ is.here) (omega (arith, is.below))
+          (λ j lo hi. elim (cases_lt j m) [
+            | inl old ↦ sym (agree j old) ∙ is.after j lo old
+            | inr new ↦ (
+                let at : j ≡ m = omega (arith, new, hi) in
+                rw at (no_turn_red_amber (trace (still r h (suc k)) g) m (omega (arith, sized.0))
+                (ap is_red kept ∙ red_amber_before (nat_lt m (due + 1)))))
+          ]));
+      shows = rw (now, up) (still-new r h g k sized lt ∙ elim (cases_lt m (due + 1)) [
+        | inl early ↦ (
+            let red : trace (still r h k) g (length (still r h k) - 1) ≡ RedAmber = was ∙ rw (lt-ltb m (due + 1) early) refl in
+            by_red_amber _ _ (trace (still r h k) g (length (still r h k) - 1)) red
+            ∙ rw (here, before.turn) (red_amber_over (due == m) due m refl (omega (arith, early))))
+        | inr late ↦ (
+            let done : trace (still r h k) g (length (still r h k) - 1) ≡ Green = was ∙ rw (le-ltb m (due + 1) late) refl in
+            stays_green _ _ (trace (still r h k) g (length (still r h k) - 1)) done
+            ∙ rw (le-ltb (m + 1) (due + 1) (omega (arith, late))) refl)
+      ]);
+    }
+
+not_red_amber : (c : Bool) → not (is_green (if c then RedAmber else Green)) ≡ c
+not_red_amber true = refl
+not_red_amber false = refl
+
+pub earliest_after_red_amber : EarliestAfterRedAmber
+earliest_after_red_amber r h g s k sized lt shown last long =
+    let going = going_red_amber r h g s k sized lt shown last long in
+    let at : length (still r h k) - 1 ≡ length h + k - 1 = omega (arith, still-length r h k) in
+    rw (at, going.shows) (not_red_amber (nat_lt (length h + k) (s + r.red_amber g + 1)))
+
+-- ---- amber
+
+by_amber : (b c : Bool) (x : Aspect) → x ≡ Amber → natural b c x ≡ (if c then Red else Amber)
+by_amber b c Red h = absurd (cc)
+by_amber b c RedAmber h = absurd (cc)
+by_amber b c Green h = absurd (cc)
+by_amber b c Amber h = refl
+
+-- it is over just when its time has passed
+amber_over : (b : Bool) (a m : ℕ) → (a == m) ≡ b → m ≤ a → (if b then Red else Amber) ≡ (if nat_lt (m + 1) (a + 1) then Amber else Red)
+amber_over true a m same le = let is : a ≡ m = eqb-true a m same in rw (le-ltb (m + 1) (a + 1) (omega (arith, is))) refl
+amber_over false a m other le = elim (cases_lt m a) [
+  | inl lt ↦ rw (lt-ltb (m + 1) (a + 1) (omega (arith, lt))) refl
+  | inr ge ↦ absurd (eqb-false a m other (omega (arith, le, ge)))
+]
+
+amber_before : (c : Bool) → is_green (if c then Amber else Red) ≡ false
+amber_before true = refl
+amber_before false = refl
+
+no_turn_amber : (a : ℕ → Aspect) (t : ℕ) → 1 ≤ t → is_green (a (t - 1)) ≡ false → ends_at a t ≡ false
+no_turn_amber a zero some is = absurd (omega (arith, some))
+no_turn_amber a (suc t) some is =
+    let at : suc t - 1 ≡ t = omega arith in
+    let here : is_green (a t) ≡ false = ap (λ (x : ℕ). is_green (a x)) (sym at) ∙ is in
+    rw here refl
+
+-- the amber since s of a history that goes on
+record Going_amber (r : Rules) (h : History) (g s k : ℕ) : Type 0 where
+  turn : last_below (ends_at (trace (still r h k) g)) (length h + k) ≡ Some s
+  shows : trace (still r h k) g (length h + k - 1) ≡ (if nat_lt (length h + k) (s + r.amber g + 1) then Amber else Red)
+
+going_amber : (r : Rules) (h : History) (g s k : ℕ) → HasSize r.count h → g < r.count → trace h g (length h - 1) ≡ Amber →
+    last_below (ends_at (trace h g)) (length h) ≡ Some s → length h ≤ s + r.amber g → Going_amber r h g s k
+going_amber r h g s zero sized lt shown last long =
+    let at : length h + 0 ≡ length h = omega arith in
+    record {
+      turn = rw at last;
+      shows = rw (at, lt-ltb (length h) (s + r.amber g + 1) (omega (arith, long))) shown;
+    }
+going_amber r h g s (suc k) sized lt shown last long =
+    let before = going_amber r h g s k sized lt shown last long in
+    let n = still-length r h k in
+    let m = length h + k in
+    let due = s + r.amber g in
+    let here : suc (length (still r h k) - 1) ≡ m = after_last r h k sized.0 in
+    let last_at : length (still r h k) - 1 ≡ m - 1 = omega (arith, n) in
+    let next = trace-append_old (still r h k) (natural_picture r (still r h k)) g (length (still r h k)) refl in
+    let is : IsLast (ends_at (trace (still r h k) g)) m s = last_below-some (ends_at (trace (still r h k) g)) m s before.turn in
+    let agree : (j : ℕ) → j < m → ends_at (trace (still r h k) g) j ≡ ends_at (trace (still r h (suc k)) g) j
+    = λ j below. ends_at-agree (length (still r h k)) (trace (still r h k) g) (trace (still r h (suc k)) g) next j (omega (arith, below, n)) in
+    let kept : trace (still r h (suc k)) g (m - 1) ≡ (if nat_lt m (due + 1) then Amber else Red)
+    = sym (next.at (m - 1) (omega (arith, n, sized.0))) ∙ before.shows in
+    let up : length h + suc k ≡ m + 1 = omega arith in
+    let now : length h + suc k - 1 ≡ m = omega arith in
+    let was : trace (still r h k) g (length (still r h k) - 1) ≡ (if nat_lt m (due + 1) then Amber else Red)
+    = ap (λ (t : ℕ). trace (still r h k) g t) last_at ∙ before.shows in
+    record {
+      turn = rw up (last_below-at (ends_at (trace (still r h (suc k)) g)) (m + 1) s (sym (agree s is.below) ∙ is.here) (omega (arith, is.below))
+          (λ j lo hi. elim (cases_lt j m) [
+            | inl old ↦ sym (agree j old) ∙ is.after j lo old
+            | inr new ↦ (
+                let at : j ≡ m = omega (arith, new, hi) in
+                rw at (no_turn_amber (trace (still r h (suc k)) g) m (omega (arith, sized.0))
+                (ap is_green kept ∙ amber_before (nat_lt m (due + 1)))))
+          ]));
+      shows = rw (now, up) (still-new r h g k sized lt ∙ elim (cases_lt m (due + 1)) [
+        | inl early ↦ (
+            let red : trace (still r h k) g (length (still r h k) - 1) ≡ Amber = was ∙ rw (lt-ltb m (due + 1) early) refl in
+            by_amber _ _ (trace (still r h k) g (length (still r h k) - 1)) red
+            ∙ rw (here, before.turn) (amber_over (due == m) due m refl (omega (arith, early))))
+        | inr late ↦ (
+            let done : trace (still r h k) g (length (still r h k) - 1) ≡ Red = was ∙ rw (le-ltb m (due + 1) late) refl in
+            stays_red _ _ (trace (still r h k) g (length (still r h k) - 1)) done
+            ∙ rw (le-ltb (m + 1) (due + 1) (omega (arith, late))) refl)
+      ]);
+    }
+
+not_amber : (c : Bool) → not (is_red (if c then Amber else Red)) ≡ c
+not_amber true = refl
+not_amber false = refl
+
+pub earliest_after_amber : EarliestAfterAmber
+earliest_after_amber r h g e k sized lt shown last long =
+    let going = going_amber r h g e k sized lt shown last long in
+    let at : length (still r h k) - 1 ≡ length h + k - 1 = omega (arith, still-length r h k) in
+    rw (at, going.shows) (not_amber (nat_lt (length h + k) (e + r.amber g + 1)))

@@ -1,9 +1,9 @@
 -- What a log tells of why a turn was refused, and when the rule no longer refuses it.
 use Rattle.std.specs.Prelude.{◌≡◌, ℕ, zero, suc, ◌+◌, ◌<◌, ◌≤◌, Bool, true, ◌&&◌, List, [], ◌∷◌, ◌++◌, length, slice_index_or, Some, IsSomeAnd, All, if◌then◌else◌, nat_lt, nat_le, not, ◌||◌}
 use Rattle.sig_types.specs.declared.aspect.Aspect.{Aspect}
-use Rattle.sig_types.specs.declared.aspect.Aspect.TheVariants.{Red, Green}
+use Rattle.sig_types.specs.declared.aspect.Aspect.TheVariants.{Red, RedAmber, Green, Amber}
 use Rattle.sig_types.specs.declared.refused.TurnRefusal.{TurnRefusal}
-use Rattle.sig_types.specs.Turns.{Picture, History, shown, trace, is_red, is_on, turns_green_at, turns_red_at, ends_at}
+use Rattle.sig_types.specs.Turns.{Picture, History, shown, trace, is_green, is_red, is_on, starts_at, turns_green_at, turns_red_at, ends_at}
 use Rattle.sig_types.specs.Words.{last_below, tabulate}
 use Rattle.sig_types.specs.Rules.{Rules}
 use Rattle.pua_model.specs.Plan.{group_number}
@@ -64,3 +64,18 @@ EarliestCleared =
     (r : Rules) (h : History) (g i b z k : ℕ) → HasSize r.count h → i < r.count → r.between i g ≡ Some z →
     last_below (ends_at (trace h i)) (length h) ≡ Some b →
     is_uncleared r (still r h k) (natural_picture r (still r h k)) g i ≡ nat_lt (length h + k + r.red_amber g) (b + z)
+
+-- A red-amber since s: without further turns the sequence stands in the way of an end in each second up to that in which the group
+-- turns green, and not behind it.
+abbrev pub EarliestAfterRedAmber : Type 0
+EarliestAfterRedAmber =
+    (r : Rules) (h : History) (g s k : ℕ) → HasSize r.count h → g < r.count → trace h g (last h) ≡ RedAmber →
+    last_below (starts_at (trace h g)) (length h) ≡ Some s → length h ≤ s + r.red_amber g →
+    not (is_green (trace (still r h k) g (last (still r h k)))) ≡ nat_lt (length h + k) (s + r.red_amber g + 1)
+
+-- so of a start after an amber since e
+abbrev pub EarliestAfterAmber : Type 0
+EarliestAfterAmber =
+    (r : Rules) (h : History) (g e k : ℕ) → HasSize r.count h → g < r.count → trace h g (last h) ≡ Amber →
+    last_below (ends_at (trace h g)) (length h) ≡ Some e → length h ≤ e + r.amber g →
+    not (is_red (trace (still r h k) g (last (still r h k)))) ≡ nat_lt (length h + k) (e + r.amber g + 1)

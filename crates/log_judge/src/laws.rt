@@ -1,6 +1,6 @@
 //! What follows from the definition of breaches, for every history: each law is a function whose contract states it.
 ghost use Rattle.log_judge.specs.Laws.{NoBreachIsSafe, PartsHaveNone, RefusalsAreExplained, FreeIsFreeFrom};
-ghost use Rattle.log_judge.specs.Refused.{RefusalsAreBorneOut, EarliestEnd, EarliestStart, EarliestCleared};
+ghost use Rattle.log_judge.specs.Refused.{RefusalsAreBorneOut, EarliestAfterAmber, EarliestAfterRedAmber, EarliestEnd, EarliestStart, EarliestCleared};
 ghost use Rattle.log_judge.specs.Earliest.{EarliestFree};
 
 /// A history from an all-red second 0 on has no breach exactly where it is safe.
@@ -46,4 +46,11 @@ pub fn refusals_are_explained()
 /// The second that is told as the first free one of a refused start is the one before which some intergreen stands in the way.
 pub fn free_is_free_from()
     ensures { FreeIsFreeFrom }
+{}
+
+/// Without further turns the sequence stands in the way of an end, or a start, up to the second in which red-amber, or amber, is
+/// over, and not behind it.
+pub fn earliest_in_sequence()
+    ensures of_ends { EarliestAfterRedAmber }
+    ensures of_starts { EarliestAfterAmber }
 {}
