@@ -153,7 +153,7 @@ impl Counts {
 impl Observer for Counts {
     ghost use Rattle.trace_counts.specs.Counted.{HasCounted};
 
-    ghost saw = { HasCounted };
+    ghost saw = { λ first counts sights. HasCounted counts sights };
 
     fn look(&mut self, instr: Instr, head: &Head, machine: &Machine) {
         let sight = Sight::of(instr, head, machine);

@@ -92,7 +92,7 @@ impl FirstLines {
 impl Observer for FirstLines {
     ghost use Rattle.trace_ends.specs.Lines.{HasNoted};
 
-    ghost saw = { HasNoted };
+    ghost saw = { λ first lines sights. HasNoted lines sights };
 
     fn look(&mut self, instr: Instr, head: &Head, machine: &Machine) {
         let sight = Sight::of(instr, head, machine);

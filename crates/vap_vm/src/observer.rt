@@ -12,14 +12,14 @@ pub trait Observer {
     ghost use Rattle.vap_code.specs.Sights.{Sight};
     ghost use Rattle.vap_vm.specs.View.{state_of};
 
-    /// What an observer is that has seen these, one after the other.
-    ghost saw: { Self → List Sight → Type 0 };
+    /// What an observer that began as the first is now, as the second, when it has seen these, one after the other.
+    ghost saw: { Self → Self → List Sight → Type 0 };
 
     // These are three arguments and no struct of them: such a struct would cost a run that nobody sees some four in a hundred.
     /// Sees one more: an instruction, and the machine before it, whose head stands so. `Sight::of` tells what they are.
     fn look(&mut self, instr: Instr, head: &Head, machine: &Machine)
-        ensures { (past : List Sight) → saw self.old past →
-            saw self.new (past ++ record { instr = instr; state = state_of head.now machine.now } ∷ []) };
+        ensures { (begun : Self) (past : List Sight) → saw begun self.old past →
+            saw begun self.new (past ++ record { instr = instr; state = state_of head.now machine.now } ∷ []) };
 }
 
 /// Nobody looks on.
@@ -27,7 +27,7 @@ pub trait Observer {
 pub struct Unseen;
 
 impl Observer for Unseen {
-    ghost saw = { λ _ _. Unit {0} };
+    ghost saw = { λ _ _ _. Unit {0} };
 
     #[inline(always)]
     fn look(&mut self, _instr: Instr, _head: &Head, _machine: &Machine) {}

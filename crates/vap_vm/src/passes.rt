@@ -99,8 +99,8 @@ impl Vm {
             result self.new.store }
         ensures counted { (w : WorldOf) → W.means world.now w → steps.new ≡
             steps.old + machine_steps self.old.code w (without_commands self.old.store) }
-        ensures seen { (w : WorldOf) → W.means world.now w → (past : List Sight) → O.saw observer.old past →
-            O.saw observer.new (past ++ machine_sights self.old.code w (without_commands self.old.store)) }
+        ensures seen { (w : WorldOf) → W.means world.now w → (begun : O) (past : List Sight) → O.saw begun observer.old past →
+            O.saw begun observer.new (past ++ machine_sights self.old.code w (without_commands self.old.store)) }
         ensures bounded { steps.new ≤ steps.old + 10241024 }
         ensures given { All (W.allows world.now) self.new.store.commands }
         ensures few { length self.new.store.commands ≤ 10000 }

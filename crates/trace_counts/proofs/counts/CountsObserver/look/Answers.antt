@@ -6,7 +6,7 @@ use Rattle.trace_counts.proofs.Counting.{counted-more}
 use Rattle.trace_counts.proofs.counts.CountsObserver.look.Goals as goal
 
 pub returns : goal.returns
-returns c = λ past h.
+returns c = λ first past h.
     let s : Sight = record { instr = c.args.instr; state = state_of c.args.head.now c.args.machine.now } in
     let at : c.place-place.result ≡ s.state.place = c.place-place.ensures ∙ ap (λ s. s.state.place) c.of-sight.ensures in
     let units = c.units.ensures ∙ ap (λ s. s.state.units) c.of-sight.ensures in

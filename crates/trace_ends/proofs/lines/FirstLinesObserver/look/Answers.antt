@@ -6,7 +6,7 @@ use Rattle.trace_ends.proofs.Looked.{noted, passed}
 use Rattle.trace_ends.proofs.lines.FirstLinesObserver.look.Goals as goal
 
 pub returns-in-Some : goal.returns-in-Some
-returns-in-Some c = λ past h a b from to.
+returns-in-Some c = λ first past h a b from to.
     let s : Sight = record { instr = c.args.instr; state = state_of c.args.head.now c.args.machine.now } in
     let is : c.commanded.result ≡ commanded s.instr s.state.operands =
     c.commanded.ensures.pair c.of-sight.result.state.operands c.operand.ensures c.operand-2.ensures ∙ ap (λ (s : Sight). commanded c.args.instr s.state.operands) c.of-sight.ensures in
@@ -14,7 +14,7 @@ returns-in-Some c = λ past h a b from to.
     noted a b past s (Some c.in-Some.stages) _ _ c.line.result (sym c.in-Some.is ∙ is) at (c.note.ensures a b from to) (h a b from to)
 
 pub returns-in-None : goal.returns-in-None
-returns-in-None c = λ past h a b from to.
+returns-in-None c = λ first past h a b from to.
     let s : Sight = record { instr = c.args.instr; state = state_of c.args.head.now c.args.machine.now } in
     let is : c.commanded.result ≡ commanded s.instr s.state.operands =
     c.commanded.ensures.pair c.of-sight.result.state.operands c.operand.ensures c.operand-2.ensures ∙ ap (λ (s : Sight). commanded c.args.instr s.state.operands) c.of-sight.ensures in

@@ -81,7 +81,7 @@ returns-in-Some-clause-puts g c = λ first frames stands knows.
     let since : c.since-since.result.0 ≡ since_at (site_of ctl).plan past.orders (next_second past) =
     (c.since-since.ensures c.plan.result.now past.orders (length past.frames + 1) (c.step.ensures past.orders (length past.frames) stand)).0
     ∙ (λ j. since_at (here j) past.orders (sym b.number j)) in
-    let seen = c.second_seen.ensures.seen past stands [] c.new-lines.ensures in
+    let seen = c.second_seen.ensures.seen past stands c.new-lines.result [] c.new-lines.ensures in
     let line : c.line.result ≡ e.given.line = c.line.ensures e.given.line
     (seen c.in-Some.stages.0.0 c.in-Some.stages.1.0 (number_is (site_of ctl).plan c.in-Some.stages.0.0 b.plan_is e.from_stage)
     (number_is (site_of ctl).plan c.in-Some.stages.1.0 b.plan_is e.to_stage) ∙ e.line) in

@@ -20,4 +20,4 @@ returns-clause-knows g c = λ first frames stands t.
     let past = past_of (logic_of c.args.controller.now) site first frames in
     subst (λ seconds. HasTallied c.add.new.self code.instrs seconds) (sym (sights_by-more code site first frames c.args.frame.now))
     (c.add.ensures code.instrs (sights_by code site first frames) (sights_in code site past c.args.frame.now) t
-    (c.second_seen.ensures.seen past stands [] c.clear.ensures.none))
+    (c.second_seen.ensures.seen past stands c.clear.new.self [] c.clear.ensures.none))

@@ -200,10 +200,10 @@ returns-in-End-clause-seen g c =
     (c.begin-head.ensures.place ∙ c.last_start.ensures ∙ ap last_start same_starts) c.begin-head.ensures.line
     (c.begin-head.ensures.units ∙ c.unit_limit.ensures.same) c.begin-head.ensures.operands c.begin-head.ensures.return_places
     c.begin-head.ensures.commands c.begin-head.ensures.slots in
-    λ w m past h. subst (λ (k : Kept). g.O.Observer.saw c.run.new.observer (past ++ machine_sights k.code w (start_of k))) c.self.view_is
-    (subst (λ x. g.O.Observer.saw c.run.new.observer (past ++ x))
+    λ w m first past h. subst (λ (k : Kept). g.O.Observer.saw first c.run.new.observer (past ++ machine_sights k.code w (start_of k))) c.self.view_is
+    (subst (λ x. g.O.Observer.saw first c.run.new.observer (past ++ x))
     (sights_is kept instrs starts same_instrs same_starts (state_of c.begin-head.result c.begin-head.new.self) begun w)
-    (c.run.ensures.seen w m past h))
+    (c.run.ensures.seen w m first past h))
 
 pub returns-in-Fault-clause-seen : goal.returns-in-Fault-clause-seen
 returns-in-Fault-clause-seen g c =
@@ -217,7 +217,7 @@ returns-in-Fault-clause-seen g c =
     (c.begin-head.ensures.place ∙ c.last_start.ensures ∙ ap last_start same_starts) c.begin-head.ensures.line
     (c.begin-head.ensures.units ∙ c.unit_limit.ensures.same) c.begin-head.ensures.operands c.begin-head.ensures.return_places
     c.begin-head.ensures.commands c.begin-head.ensures.slots in
-    λ w m past h. subst (λ (k : Kept). g.O.Observer.saw c.run.new.observer (past ++ machine_sights k.code w (start_of k))) c.self.view_is
-    (subst (λ x. g.O.Observer.saw c.run.new.observer (past ++ x))
+    λ w m first past h. subst (λ (k : Kept). g.O.Observer.saw first c.run.new.observer (past ++ machine_sights k.code w (start_of k))) c.self.view_is
+    (subst (λ x. g.O.Observer.saw first c.run.new.observer (past ++ x))
     (sights_is kept instrs starts same_instrs same_starts (state_of c.begin-head.result c.begin-head.new.self) begun w)
-    (c.run.ensures.seen w m past h))
+    (c.run.ensures.seen w m first past h))
