@@ -1,0 +1,21 @@
+-- The reader of records and the reader of pictures agree on a log.
+use Rattle.std.specs.Prelude.{ℕ, List, map, None}
+use Rattle.sig_types.specs.declared.record.Record.{Record}
+use Rattle.sig_types.specs.Turns.{Picture}
+use Rattle.log_lines.specs.Log.{HasPictures, IsLog as TellsPictures}
+use Rattle.log_records.specs.Log.{HasRecords, IsLog as TellsRecords}
+
+-- the pictures of these records
+abbrev pub pictures_of : List Record → List Picture
+pictures_of records = map (λ (r : Record). r.picture) records
+
+-- where the first n lines of a log are a header of groups with these names and these records, the pictures of a log of these
+-- groups that are read from them are those of the records
+abbrev pub FirstPicturesAgree : Type 0
+FirstPicturesAgree = (names lines : List (List ℕ)) (n : ℕ) (records : List Record) →
+    HasRecords names lines n records → HasPictures names lines n (pictures_of records)
+
+-- a log of which these are all records, to its end, is a log of these pictures to its end
+abbrev pub PicturesAgree : Type 0
+PicturesAgree = (names : List (List ℕ)) (bytes : List ℕ) (records : List Record) →
+    TellsRecords names bytes records None → TellsPictures names bytes (pictures_of records) None
