@@ -144,6 +144,8 @@ THEOREMS = [
      [("log_laws", "Laws", ["LoadedRunsAreLogged", "WrittenLogsAreReadWhole"])]),
     ("the log of each live run is read whole", "`log_laws::live_logs_are_read_whole`",
      [("log_laws", "LiveLaws", ["LiveLogsAreReadWhole"])]),
+    ("both readers of a log see the same pictures", "`record_laws::pictures_agree`",
+     [("record_laws", "Laws", ["FirstPicturesAgree", "PicturesAgree"])]),
     ("which controller is opened of which texts", "`junction_calls::load_into`", [("junction_calls", "Loads", ["IsLoaded"])]),
     ("what C is told of a second", "`junction_handle::make_second`", [("junction_handle", "Seconds", ["IsSecondMade"])]),
     ("the names of groups and the refused stage commands that calls tell", "`junction_calls::group_name`, `refused_stage`",
