@@ -58,3 +58,8 @@ pub record HasPlaces (c : Counts) (places : ℕ) : Type 0 where
   pub begun : length c.begun.items ≡ places
   pub yes : length c.yes.items ≡ places
   pub no : length c.no.items ≡ places
+
+-- what an observer counted that began as the first and has seen these, at the places at which it counted then
+pub record HasLooked (first now : Counts) (sights : List Sight) : Type 0 where
+  pub counted : HasCounted now sights
+  pub places : (places : ℕ) → HasPlaces first places → HasPlaces now places

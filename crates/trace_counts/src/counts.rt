@@ -1,5 +1,5 @@
 // The observer that counts.
-ghost use Rattle.std.specs.Prelude.{◌≡◌, ◌<◌, ◌+◌, ◌++◌, ℕ, [], List, ℤ, length, min, replicate, slice_get, slice_index_or, true, IfOk};
+ghost use Rattle.std.specs.Prelude.{◌≡◌, ◌<◌, ◌+◌, ◌++◌, ℕ, [], List, ℤ, length, min, replicate, slice_get, slice_index_or, IfOk};
 ghost use Rattle.vap_code.specs.Sights.{Sight};
 ghost use Rattle.trace_counts.specs.Counted.{HasCounted, HasPlaces, counted_at, most_counted, says_no, says_yes, spends};
 
@@ -18,7 +18,8 @@ pub struct Counts {
 
 // One more at a place, if it is to be counted there.
 fn count(counts: &mut Vec<u64>, place: usize, such: bool)
-    ensures { counts.new.items ≡ counted_at counts.old.items place such }
+    ensures places { length counts.new.items ≡ length counts.old.items }
+    ensures counted { counts.new.items ≡ counted_at counts.old.items place such }
 {
     if such && place < counts.len() {
         counts[place] = counts[place].saturating_add(1);
@@ -99,13 +100,6 @@ impl Counts {
         Ok(Counts { begun, yes, no })
     }
 
-    /// Whether it counts at so many places.
-    pub fn covers(&self, places: usize) -> bool
-        ensures { result ≡ true → HasPlaces self.now places }
-    {
-        self.begun.len() == places && self.yes.len() == places && self.no.len() == places
-    }
-
     /// Nothing is counted any more.
     pub fn clear(&mut self)
         ensures places { (places : ℕ) → HasPlaces self.old places → HasPlaces self.new places }
@@ -118,10 +112,9 @@ impl Counts {
 
     /// What another one counted at the same places is counted too.
     pub fn add(&mut self, other: &Counts)
-        requires { (places : ℕ) × HasPlaces self.old places × HasPlaces other.now places }
         ensures places { (places : ℕ) → HasPlaces self.old places → HasPlaces self.new places }
-        ensures added { (sights more : List Sight) → HasCounted self.old sights → HasCounted other.now more →
-            HasCounted self.new (sights ++ more) }
+        ensures added { (places : ℕ) → HasPlaces self.old places → HasPlaces other.now places → (sights more : List Sight) →
+            HasCounted self.old sights → HasCounted other.now more → HasCounted self.new (sights ++ more) }
     {
         add(&mut self.begun, &other.begun);
         add(&mut self.yes, &other.yes);
@@ -151,9 +144,9 @@ impl Counts {
 }
 
 impl Observer for Counts {
-    ghost use Rattle.trace_counts.specs.Counted.{HasCounted};
+    ghost use Rattle.trace_counts.specs.Counted.{HasLooked};
 
-    ghost saw = { λ first counts sights. HasCounted counts sights };
+    ghost saw = { HasLooked };
 
     fn look(&mut self, instr: Instr, head: &Head, machine: &Machine) {
         let sight = Sight::of(instr, head, machine);

@@ -1,11 +1,10 @@
 -- What one second more adds to a tally.
-use Rattle.std.proofs.Common.{◌≡◌, ◌∙◌, ℕ, zero, suc, ◌+◌, ◌<◌, Bool, true, false, List, [], ◌∷◌, ◌++◌, length, map, get_or, refl, sym, ap, subst, arith, append_assoc}
+use Rattle.std.proofs.Common.{◌≡◌, ◌∙◌, ℕ, zero, suc, ◌+◌, ◌<◌, Bool, true, false, List, [], ◌∷◌, ◌++◌, length, map, get_or, refl, sym, ap, subst, arith}
 use Rattle.std.specs.Prelude.{All, ◌||◌, cond, count_by, min, nat_lt}
-use Rattle.std.specs.List.{AllByRecursion, flat_map}
 use Rattle.std.proofs.lemmas.Bool.Decides.{nat_tests}
 use Rattle.std.proofs.lemmas.List.{append-nil, get_or-map, same_lists, length-map}
 use Rattle.std.proofs.lemmas.List.Concat.{flat_map-append}
-use Rattle.std.proofs.lemmas.List.Elements.{All-head, All-tail, All-get_or}
+use Rattle.std.proofs.lemmas.List.Elements.{All-head, All-tail}
 use Rattle.std.proofs.lemmas.List.Sums.{sum_by_push}
 use Rattle.sig_types.specs.Counts.{Counts as Frame}
 use Rattle.vap_code.specs.declared.Instr.{Instr}
@@ -17,9 +16,8 @@ use Rattle.controller.specs.Second.{past_after_second, past_of}
 use Rattle.controller.specs.Seen.{sights_in}
 use Rattle.trace_counts.specs.declared.counts.Counts.{Counts}
 use Rattle.trace_counts.specs.Counted.{HasCounted, HasPlaces, begins, most_counted}
-use Rattle.trace_lines.specs.declared.line.Answers.{Answers}
 use Rattle.trace_lines.specs.Lines.{LineOf, all_sights, answers_at, capped, line_of, lines_counted, ran, seconds_with, times_at}
-use Rattle.trace_lines.specs.Rows.{IsRowWithin, RowOf, rows_of}
+use Rattle.trace_lines.specs.Rows.{IsRowWithin, RowOf}
 use Rattle.trace_tally.specs.Seconds.{sights_by}
 use Rattle.trace_tally.specs.Tallied.{IsTallied, answers_in, any_begun, begun_in, line_by, no_row, row_at, with_second}
 
@@ -79,26 +77,26 @@ line_is c places seconds row all counted has within ran =
     λ j. record { number = row.line; seconds = ran j; statements = statements j; tests = tests j }
 
 -- lines that are each as they were counted
-pub lines_are : (rows : List RowOf) (ran : List ℕ) (c : Counts) (places : ℕ) (instrs : List Instr) (all : List (List Sight)) (lines : List LineOf) →
-    IsTallied rows ran c places instrs all → length lines ≡ length rows →
+pub lines_are : (rows : List RowOf) (ran : List ℕ) (c : Counts) (instrs : List Instr) (all : List (List Sight)) (lines : List LineOf) →
+    IsTallied rows ran c instrs all → length lines ≡ length rows →
     ((r : ℕ) (d : LineOf) → r < length rows → get_or lines r d ≡ line_by c (get_or ran r 0) (row_at rows r)) → lines ≡ lines_counted instrs all
 unfolding lines_counted
-lines_are rows ran c places instrs all lines t long each =
+lines_are rows ran c instrs all lines t long each =
     same_lists lines (map (line_of all) rows) (long ∙ sym (length-map rows (line_of all)))
     (λ k d below. let here : k < length rows = omega (arith, below, long) in
     each k d here
-    ∙ line_is c places (get_or ran k 0) (row_at rows k) all t.counted t.has_places (t.within k no_row here) (t.with_statement k here)
+    ∙ line_is c (length instrs) (get_or ran k 0) (row_at rows k) all t.counted t.has_places (t.within k no_row here) (t.with_statement k here)
     ∙ sym (get_or-map (line_of all) rows k no_row d here))
     ∙ ap (λ rs. map (line_of all) rs) t.rows_are
 
 -- a tally of one second more
-pub tallied_more : (rows : List RowOf) (ran_then ran_now : List ℕ) (all now second : Counts) (places : ℕ) (instrs : List Instr)
-    (seconds : List (List Sight)) (sights : List Sight) → IsTallied rows ran_then all places instrs seconds → HasPlaces now places →
-    HasPlaces second places → HasCounted now (all_sights seconds ++ sights) → HasCounted second sights → length ran_now ≡ length ran_then →
+pub tallied_more : (rows : List RowOf) (ran_then ran_now : List ℕ) (all now second : Counts) (instrs : List Instr)
+    (seconds : List (List Sight)) (sights : List Sight) → IsTallied rows ran_then all instrs seconds → HasPlaces now (length instrs) →
+    HasPlaces second (length instrs) → HasCounted now (all_sights seconds ++ sights) → HasCounted second sights → length ran_now ≡ length ran_then →
     ((r : ℕ) → r < length rows → r < length ran_then → get_or ran_now r 0
     ≡ with_second (get_or ran_then r 0) (any_begun second.begun.items (row_at rows r).statements)) →
-    IsTallied rows ran_now now places instrs (seconds ++ sights ∷ [])
-tallied_more rows ran_then ran_now all now second places instrs seconds sights t now_places second_places counted seen long added = record {
+    IsTallied rows ran_now now instrs (seconds ++ sights ∷ [])
+tallied_more rows ran_then ran_now all now second instrs seconds sights t now_places second_places counted seen long added = record {
   rows_are = t.rows_are;
   within = t.within;
   has_places = now_places;
@@ -107,6 +105,6 @@ tallied_more rows ran_then ran_now all now second places instrs seconds sights t
   with_statement = λ r below.
       let row = row_at rows r in
       let any : any_begun second.begun.items row.statements ≡ ran row.statements sights =
-      any_is_ran second places sights row.statements seen second_places (t.within r no_row below).statements in
+      any_is_ran second (length instrs) sights row.statements seen second_places (t.within r no_row below).statements in
       added r below (omega (arith, below, t.long)) ∙ (λ j. with_second (t.with_statement r below j) (any j)) ∙ seconds-more row.statements seconds sights;
 }

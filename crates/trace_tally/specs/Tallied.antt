@@ -1,5 +1,5 @@
 -- What has been tallied of a run.
-use Rattle.std.specs.Prelude.{◌≡◌, ℕ, ◌+◌, ◌<◌, Bool, false, true, ◌||◌, List, [], ◌∷◌, All, if◌then◌else◌, length, map, nat_lt, slice_index_or}
+use Rattle.std.specs.Prelude.{◌≡◌, ℕ, ◌+◌, ◌<◌, Bool, false, ◌||◌, List, [], ◌∷◌, All, if◌then◌else◌, length, map, nat_lt, slice_index_or}
 use Rattle.vap_code.specs.declared.Instr.{Instr}
 use Rattle.vap_code.specs.Sights.{Sight}
 use Rattle.trace_counts.specs.declared.counts.Counts.{Counts}
@@ -45,15 +45,15 @@ line_by counts seconds row = record {
 }
 
 -- The rows of a code were tallied in these seconds: all that was counted, and in how many of the seconds each row ran.
-pub record IsTallied (rows : List RowOf) (ran : List ℕ) (all : Counts) (places : ℕ) (instrs : List Instr) (seconds : List (List Sight)) : Type 0 where
+pub record IsTallied (rows : List RowOf) (ran : List ℕ) (all : Counts) (instrs : List Instr) (seconds : List (List Sight)) : Type 0 where
   pub rows_are : rows ≡ rows_of instrs
-  pub within : All (IsRowWithin places) rows
-  pub has_places : HasPlaces all places
+  pub within : All (IsRowWithin (length instrs)) rows
+  pub has_places : HasPlaces all (length instrs)
   pub counted : HasCounted all (all_sights seconds)
   pub long : length ran ≡ length rows
   pub with_statement : (r : ℕ) → r < length rows → slice_index_or ran r 0 ≡ seconds_with seconds (row_at rows r).statements
 
--- these seconds of a code with these instructions were tallied, where all were
+-- these seconds of a code with these instructions were tallied, and the next one can be counted at all its places
 abbrev pub HasTallied : Tally → List Instr → List (List Sight) → Type 0
 HasTallied t instrs seconds =
-    t.whole ≡ true → IsTallied (map row_in t.rows.items) t.seconds.items t.all t.places instrs seconds
+    IsTallied (map row_in t.rows.items) t.seconds.items t.all instrs seconds × HasPlaces t.second (length instrs)

@@ -1,8 +1,8 @@
 // The tally of a run.
-ghost use Rattle.std.specs.Prelude.{◌≡◌, ◌<◌, ◌∷◌, ◌++◌, ℕ, List, [], true, IfOk, length, map, replicate, slice_index_or};
+ghost use Rattle.std.specs.Prelude.{◌≡◌, ◌<◌, ◌∷◌, ◌++◌, ℕ, List, [], IfOk, length, map, replicate, slice_index_or};
 ghost use Rattle.vap_code.specs.declared.Instr.{Instr as InstrOf};
 ghost use Rattle.vap_code.specs.Sights.{Sight};
-ghost use Rattle.trace_counts.specs.Counted.{HasCounted, HasPlaces};
+ghost use Rattle.trace_counts.specs.Counted.{HasCounted};
 ghost use Rattle.trace_lines.specs.Lines.{line_in, lines_counted};
 ghost use Rattle.trace_lines.specs.Rows.{row_in};
 ghost use Rattle.trace_tally.specs.Tallied.{HasTallied, answers_in, any_begun, begun_in, line_by, row_at, with_second};
@@ -18,17 +18,12 @@ use vap_code::Instr;
 
 /// What tallies the seconds of a run: what is counted of all of them, and of the last one; and for each line with a statement
 /// in how many of them one began.
-///
-/// What looks on at a pass may be another one behind it, as far as the pass tells. So it is looked up whether it still counts
-/// at all places of the code; where it didn't, not all would be tallied.
 #[derive(Drop)]
 pub struct Tally {
     rows: Vec<Row>,
     seconds: Vec<u64>,
     all: Counts,
     second: Counts,
-    places: usize,
-    whole: bool,
 }
 
 // Whether a statement at one of these places was counted.
@@ -134,27 +129,7 @@ impl Tally {
             seconds,
             all,
             second,
-            places: instrs.len(),
-            whole: true,
         })
-    }
-
-    // Whether all that is counted is counted at all places.
-    fn is_covered(&self) -> bool
-        ensures { result ≡ true → HasPlaces self.now.all self.now.places × HasPlaces self.now.second self.now.places }
-    {
-        self.all.covers(self.places) && self.second.covers(self.places)
-    }
-
-    // Adds the second that was counted, at all places.
-    fn add_covered(&mut self)
-        requires all { HasPlaces self.old.all self.old.places }
-        requires second { HasPlaces self.old.second self.old.places }
-        ensures { (instrs : List InstrOf) (seconds : List (List Sight)) (sights : List Sight) → HasTallied self.old instrs seconds →
-            HasCounted self.old.second sights → HasTallied self.new instrs (seconds ++ sights ∷ []) }
-    {
-        self.all.add(&self.second);
-        add_second(&mut self.seconds, &self.rows, &self.second);
     }
 
     // Adds the second that was counted.
@@ -162,11 +137,8 @@ impl Tally {
         ensures { (instrs : List InstrOf) (seconds : List (List Sight)) (sights : List Sight) → HasTallied self.old instrs seconds →
             HasCounted self.old.second sights → HasTallied self.new instrs (seconds ++ sights ∷ []) }
     {
-        if self.is_covered() {
-            self.add_covered();
-        } else {
-            self.whole = false;
-        }
+        self.all.add(&self.second);
+        add_second(&mut self.seconds, &self.rows, &self.second);
     }
 
     /// What is counted of all lines of a code that have a statement.
@@ -174,9 +146,6 @@ impl Tally {
         ensures { (instrs : List InstrOf) (seconds : List (List Sight)) → HasTallied self.now instrs seconds →
             IfOk result (λ lines. map line_in lines.items ≡ lines_counted instrs seconds) }
     {
-        if !self.whole {
-            return Err(AllocError);
-        }
         let mut lines = Vec::new(alloc);
         for r in 0..self.rows.len() {
             let line = line_by(
