@@ -199,7 +199,7 @@ THEOREMS = [
      [("line_laws", "SourceLines", ["SourceTellsLines", "LinesAgree"])]),
     ("which lines a code has, what is counted of them, and what is written of it", "`trace_lines`",
      [("trace_lines", "Rows", ["rows_of"]), ("trace_lines", "Lines", ["lines_counted"]), ("trace_lines", "Csv", ["csv_text"]),
-      ("trace_lines", "Lcov", ["lcov_text"])]),
+      ("trace_lines", "Lcov", ["lcov_text"]), ("trace_lines", "Table", ["table_text"])]),
     ("what ran of each line in the seconds of a run", "`trace_tally::Tally`",
      [("trace_tally", "Seconds", ["sights_by"]), ("trace_tally", "Tallied", ["HasTallied"])]),
     ("which values a program has, which of them words choose, and the row of each second", "`trace_values`",

@@ -60,8 +60,8 @@ fn clear(counts: &mut Vec<u64>)
     counts.fill(0);
 }
 
-// Adds the count at each place.
-fn add(totals: &mut Vec<u64>, counts: &[u64])
+/// Adds the count at each place. A sum that has come to 18,446,744,073,709,551,615 stays there.
+pub fn add_counts(totals: &mut Vec<u64>, counts: &[u64])
     ensures places { length totals.new.items ≡ length totals.old.items }
     ensures added { (place : ℕ) → place < length totals.old.items → slice_index_or totals.new.items place 0
         ≡ min most_counted (slice_index_or totals.old.items place 0 + slice_index_or counts.now place 0) }
@@ -116,9 +116,9 @@ impl Counts {
         ensures added { (places : ℕ) → HasPlaces self.old places → HasPlaces other.now places → (sights more : List Sight) →
             HasCounted self.old sights → HasCounted other.now more → HasCounted self.new (sights ++ more) }
     {
-        add(&mut self.begun, &other.begun);
-        add(&mut self.yes, &other.yes);
-        add(&mut self.no, &other.no);
+        add_counts(&mut self.begun, &other.begun);
+        add_counts(&mut self.yes, &other.yes);
+        add_counts(&mut self.no, &other.no);
     }
 
     /// How often a statement began at a place; 0 outside of the code.

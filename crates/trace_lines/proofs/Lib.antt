@@ -1,3 +1,4 @@
 mod Blocks
 mod Fronts
 mod Within
+mod Texts

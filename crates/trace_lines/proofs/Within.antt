@@ -1,5 +1,5 @@
 -- The places of rows.
-use Rattle.std.proofs.Common.{◌≡◌, ℕ, ◌<◌, List, map, subst}
+use Rattle.std.proofs.Common.{◌≡◌, ℕ, ◌<◌, List, subst}
 use Rattle.std.specs.Prelude.{All, IfOk, Result, Ok, Err}
 use Rattle.std.proofs.lemmas.List.Elements.{All-filter, All-map}
 use Rattle.vap_code.specs.declared.Instr.{Instr}

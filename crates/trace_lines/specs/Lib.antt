@@ -2,3 +2,4 @@ pub mod Csv
 pub mod Lcov
 pub mod Lines
 pub mod Rows
+pub mod Table

@@ -143,8 +143,8 @@ fn all_taken(lines: &[Line]) -> u64
     taken
 }
 
-// How many lines have a statement that began.
-fn reached(lines: &[Line]) -> u64
+/// How many lines have a statement that began.
+pub(crate) fn reached(lines: &[Line]) -> u64
     ensures { result ≡ count_by was_reached (map line_in lines.now) }
 {
     let mut reached = 0;

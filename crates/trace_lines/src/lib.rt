@@ -9,8 +9,10 @@ mod lcov;
 mod line;
 mod pieces;
 mod rows;
+mod table;
 
 pub use csv::put_csv;
 pub use lcov::put_lcov;
 pub use line::{Answers, Line};
 pub use rows::{Row, rows_of};
+pub use table::put_table;

@@ -5,7 +5,7 @@ use Rattle.std.proofs.lemmas.Bool.Decides.{nat_tests}
 use Rattle.std.proofs.lemmas.List.{append-nil, get_or-map, same_lists, length-map}
 use Rattle.std.proofs.lemmas.List.Concat.{flat_map-append}
 use Rattle.std.proofs.lemmas.List.Elements.{All-head, All-tail}
-use Rattle.std.proofs.lemmas.List.Sums.{sum_by_push}
+use Rattle.std.proofs.lemmas.List.Sums.{sum_by-append, sum_by_push}
 use Rattle.sig_types.specs.Counts.{Counts as Frame}
 use Rattle.vap_code.specs.declared.Instr.{Instr}
 use Rattle.vap_code.specs.Codes.{CodeOf}
@@ -107,4 +107,36 @@ tallied_more rows ran_then ran_now all now second instrs seconds sights t now_pl
       let any : any_begun second.begun.items row.statements ≡ ran row.statements sights =
       any_is_ran second (length instrs) sights row.statements seen second_places (t.within r no_row below).statements in
       added r below (omega (arith, below, t.long)) ∙ (λ j. with_second (t.with_statement r below j) (any j)) ∙ seconds-more row.statements seconds sights;
+}
+
+both_capped : (a b : ℕ) → capped (capped a + capped b) ≡ capped (a + b)
+both_capped a b = omega arith
+
+-- the seconds of a row in two runs
+pub seconds-both : (row : List ℕ) (seconds more : List (List Sight)) →
+    capped (seconds_with seconds row + seconds_with more row) ≡ seconds_with (seconds ++ more) row
+seconds-both row seconds more =
+    both_capped (count_by (ran row) seconds) (count_by (ran row) more)
+    ∙ ap (λ n. capped n) (sym (sum_by-append (λ s. cond (ran row s) 1 0) seconds more))
+
+-- a tally of two runs
+pub tallied_both : (rows others : List RowOf) (ran_first ran_second ran_now : List ℕ) (first second now : Counts) (instrs : List Instr)
+    (seconds more : List (List Sight)) → IsTallied rows ran_first first instrs seconds → IsTallied others ran_second second instrs more →
+    HasPlaces now (length instrs) → HasCounted now (all_sights seconds ++ all_sights more) → length ran_now ≡ length ran_first →
+    ((r : ℕ) → r < length ran_first → get_or ran_now r 0 ≡ capped (get_or ran_first r 0 + get_or ran_second r 0)) →
+    IsTallied rows ran_now now instrs (seconds ++ more)
+tallied_both rows others ran_first ran_second ran_now first second now instrs seconds more t u now_places counted long added = record {
+  rows_are = t.rows_are;
+  within = t.within;
+  has_places = now_places;
+  counted = subst (λ s. HasCounted now s) (sym (flat_map-append (λ (s : List Sight). s) seconds more)) counted;
+  long = long ∙ t.long;
+  with_statement = λ r below.
+      let same : others ≡ rows = u.rows_are ∙ sym t.rows_are in
+      let other : get_or ran_second r 0 ≡ seconds_with more (row_at rows r).statements =
+      subst (λ rs. get_or ran_second r 0 ≡ seconds_with more (row_at rs r).statements) same
+      (u.with_statement r (subst (λ (rs : List RowOf). r < length rs) (sym same) below)) in
+      added r (omega (arith, below, t.long))
+      ∙ (λ j. capped (t.with_statement r below j + other j))
+      ∙ seconds-both (row_at rows r).statements seconds more;
 }

@@ -11,7 +11,7 @@ use controller::Controller;
 use sig_io::{Draft, Sink};
 use sig_types::Frame;
 use std::alloc::{AllocError, Global};
-use trace_counts::Counts;
+use trace_counts::{Counts, add_counts};
 use trace_lines::{Answers, Line, Row, rows_of};
 use trace_run::Teller;
 use vap_code::Instr;
@@ -139,6 +139,15 @@ impl Tally {
     {
         self.all.add(&self.second);
         add_second(&mut self.seconds, &self.rows, &self.second);
+    }
+
+    /// Adds what another one tallied of the same code.
+    pub fn add_run(&mut self, other: &Tally)
+        ensures { (instrs : List InstrOf) (seconds more : List (List Sight)) → HasTallied self.old instrs seconds →
+            HasTallied other.now instrs more → HasTallied self.new instrs (seconds ++ more) }
+    {
+        self.all.add(&other.all);
+        add_counts(&mut self.seconds, &other.seconds);
     }
 
     /// What is counted of all lines of a code that have a statement.

@@ -1,7 +1,7 @@
 use Rattle.std.proofs.Common.{◌≡◌, ◌+◌, ◌<◌, ◌≤◌, ℕ, length, get_or}
 use Rattle.std.specs.Prelude.{min}
 use Rattle.trace_counts.specs.Counted.{most_counted}
-use Rattle.trace_counts.proofs.counts.add.Given as goal
+use Rattle.trace_counts.proofs.counts.add_counts.Given as goal
 
 abbrev pub invariant-loop-place : goal.invariant-loop-place
 invariant-loop-place l =
