@@ -208,6 +208,8 @@ THEOREMS = [
     ("which command of a second ends the active stage, and its row", "`trace_ends`",
      [("trace_ends", "Ended", ["ending_in"]), ("trace_ends", "Rows", ["header_text", "end_told"]),
       ("trace_ends", "Laws", ["CommandsAreSeen", "EndingsAreOrders"])]),
+    ("what happens in a pass, in order, of what is seen of it", "`trace_events::Listing`",
+     [("trace_events", "Events", ["events_of"]), ("trace_events", "Listed", ["HasListed"])]),
     ("the whole contract of `junction_trace`", "`trace_call::trace`", [("trace_call", "Call", ["IsTraced"])]),
     ("a program at its site, with its checked tree and its text", "`trace_load::load_program`", [("trace_load", "Loaded", ["IsToldLoad"])]),
     ("the seconds of a detector file, told one after the other", "`trace_run::tell_all`",
