@@ -105,7 +105,7 @@ fn array_name(arrays: &[ArrayDecl], array: usize) -> &[u8]
 
 /// The name of a variable, of a timer, or of the array of a cell, in lower case.
 #[tactic(auto, using(crate::proofs::Named::or_none))]
-pub(crate) fn name_of(checked: &Checked, column: Column) -> &[u8]
+pub fn name_of(checked: &Checked, column: Column) -> &[u8]
     ensures { result.now ≡ name_of (program_of checked.now.tree) column }
 {
     match column {
@@ -115,8 +115,8 @@ pub(crate) fn name_of(checked: &Checked, column: Column) -> &[u8]
     }
 }
 
-// Puts bytes of any number.
-fn put_long<O: Sink>(draft: &mut Draft, out: &mut O, bytes: &[u8])
+/// Puts bytes of any number.
+pub fn put_long<O: Sink>(draft: &mut Draft, out: &mut O, bytes: &[u8])
     ensures { Puts O.taken O.faults draft.old draft.new out.old out.new bytes.now }
 {
     let mut at = 0;
@@ -143,7 +143,7 @@ fn put_place<O: Sink>(column: Column, draft: &mut Draft, out: &mut O)
 
 /// Puts how a value is named: the name of a variable or of a timer, or that of the array with the place of the cell in
 /// brackets.
-pub(crate) fn put_label<O: Sink>(checked: &Checked, column: Column, draft: &mut Draft, out: &mut O)
+pub fn put_label<O: Sink>(checked: &Checked, column: Column, draft: &mut Draft, out: &mut O)
     ensures { Puts O.taken O.faults draft.old draft.new out.old out.new (label_of (program_of checked.now.tree) column) }
 {
     put_long(draft, out, name_of(checked, column));

@@ -10,6 +10,6 @@ mod nearest;
 mod rows;
 
 pub use choice::{NoChoice, choose};
-pub use columns::{Column, columns_of};
+pub use columns::{Column, columns_of, name_of, put_label, put_long};
 pub use nearest::nearest_name;
 pub use rows::{Rows, put_header};

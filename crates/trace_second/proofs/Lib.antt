@@ -1,0 +1,5 @@
+pub mod Keeping
+pub mod Listed
+pub mod Named
+pub mod Refused
+pub mod Told
