@@ -26,8 +26,8 @@ fn count(counts: &mut Vec<u64>, place: usize, such: bool)
     }
 }
 
-// Whether a tick finds a unit.
-fn spends(instr: Instr, units: u32) -> bool
+/// Whether an instruction is a tick that finds a unit, where so many are left.
+pub fn spends(instr: Instr, units: u32) -> bool
     ensures { result ≡ spends instr units }
 {
     matches!(instr, Instr::Tick(_)) && units > 0

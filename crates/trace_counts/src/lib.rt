@@ -6,5 +6,5 @@
 mod counts;
 mod places;
 
-pub use counts::{Counts, add_counts};
+pub use counts::{Counts, add_counts, spends};
 pub use places::{Mark, statements_in, tests_in};
