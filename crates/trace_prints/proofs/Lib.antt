@@ -1,0 +1,3 @@
+mod Gaps
+mod Printed
+mod Traced
