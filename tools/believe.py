@@ -217,6 +217,8 @@ THEOREMS = [
      [("trace_prints", "Brackets", ["brackets_in"]), ("trace_prints", "Named", ["named_in"]),
       ("trace_prints", "Statements", ["program_traces"]), ("trace_prints", "Traces", ["traces_of"]),
       ("trace_prints", "Printed", ["prints_told"])]),
+    ("`TRACE` statements stand in the code where they are laid out", "`print_laws::traces_stand_there`",
+     [("print_laws", "Stands", ["TracesStandThere"])]),
     ("the whole contract of `junction_trace`", "`trace_call::trace`", [("trace_call", "Call", ["IsTraced"])]),
     ("a program at its site, with its checked tree and its text", "`trace_load::load_program`", [("trace_load", "Loaded", ["IsToldLoad"])]),
     ("the seconds of a detector file, told one after the other", "`trace_run::tell_all`",
