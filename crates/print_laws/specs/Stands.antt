@@ -43,7 +43,8 @@ routines_marks place (body ∷ bodies) = items_marks place body ++ routines_mark
 abbrev pub bodies_of : List Entry → Program → List Items
 bodies_of names p = let source = source_of p names in source.subs ++ source.main ∷ []
 
--- The statements of a program's code that are counted as TRACE statements are those that stand where its TRACE statements are laid out.
+-- The statements of a program's code that are counted as TRACE statements are those that stand where its TRACE statements are
+-- laid out.
 abbrev pub TracesStandThere : Type 0
 TracesStandThere = (names : List Entry) (p : Program) →
     taken_from 0 (program_traces p) (statements_in (routines_code names 0 (bodies_of names p))) ≡ routines_marks 0 (bodies_of names p)

@@ -30,8 +30,8 @@ abbrev pub behind_closed : ℕ → ℕ → Where
 behind_closed first zero = Outside
 behind_closed first (suc others) = Inside first others
 
--- where the next token stands, behind one at this place: outside of every TRACE, behind the word, or in its brackets, whose first
--- token is at `first`, with so many others open
+-- where the next token stands, behind one at this place: outside of every TRACE, behind the word, or in its brackets, whose
+-- first token is at `first`, with so many others open
 abbrev pub behind : Where → ℕ → TokenKind → Where
 behind Outside place kind = if is_trace kind then Behind else Outside
 behind Behind place kind = Inside (place + 1) 0

@@ -48,8 +48,8 @@ traces_from names columns tokens brackets k [] = []
 traces_from names columns tokens brackets k (mark ∷ marks) =
     trace_at names columns tokens mark (slice_get brackets k) ++ traces_from names columns tokens brackets (k + 1) marks
 
--- The TRACE statements of a program with these names, with the tokens of its text and the instructions of its code: the k-th statement of the code is
--- the k-th of the tree, and the k-th TRACE of the tree has the k-th brackets of the text.
+-- The TRACE statements of a program with these names, with the tokens of its text and the instructions of its code: the k-th
+-- statement of the code is the k-th of the tree, and the k-th TRACE of the tree has the k-th brackets of the text.
 abbrev pub traces_of : List Entry → Program → List Column → List Token → List Instr → List TraceOf
 traces_of names program columns tokens instrs =
     traces_from names columns tokens (brackets_in tokens) 0 (taken_from 0 (program_traces program) (statements_in instrs))
