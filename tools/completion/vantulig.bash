@@ -69,6 +69,7 @@ _vantulig_log_report()
         *)
             local options
             case ${COMP_WORDS[1]} in
+                diagram) [ "$COMP_CWORD" -gt 4 ] && COMPREPLY=($(compgen -W "--strip" -- "$cur")); return ;;
                 breaches) options="--amber-tolerance --csv" ;;
                 protocol | refusals) options=--csv ;;
                 *) return ;;

@@ -7,8 +7,7 @@ use Rattle.sig_types.specs.declared.numbers.StagePlace.{StagePlace}
 use Rattle.sig_types.specs.declared.numbers.StagePlace.TheVariants.{NoPlan, Stage, Inter}
 use Rattle.log_chart.specs.Stays.{Stay}
 use Rattle.log_svg.specs.declared.layout.Layout.{Layout}
-use Rattle.log_svg.specs.Layout.{x_of}
-use Rattle.log_svg.specs.Svg.{box_text, label_begin, width_of}
+use Rattle.log_svg.specs.Svg.{begin_of, box_begin, is_seen, label_begin, times_text, width_of}
 
 -- the class of a place: a stage is plain, an interstage striped
 abbrev pub place_class : StagePlace → List ℕ
@@ -35,7 +34,7 @@ name_letters (Inter a b t) = 1 + stage_digits a + stage_digits b
 -- the name in the middle of the stay
 unfoldable pub stay_name : Layout → Stay → List ℕ
 stay_name layout s =
-    label_begin (codes "m") (x_of layout s.first.0 + width_of layout s / 2) 73 ++ place_name s.shown ++ codes "</text>\n"
+    label_begin (codes "m") (begin_of layout s + width_of layout s / 2) 73 ++ place_name s.shown ++ codes "</text>\n"
 
 -- the name stands where the stay is wide enough
 abbrev pub is_named : Layout → Stay → Bool
@@ -45,10 +44,19 @@ is_named layout s = nat_le (name_letters s.shown * 7 + 4) (width_of layout s)
 abbrev pub stay_words : Layout → Stay → List ℕ
 stay_words layout s = if is_named layout s then stay_name layout s else []
 
+-- what is told of a stay where one points at it
+unfoldable pub stay_title : Layout → Stay → List ℕ
+stay_title layout s = codes "><title>" ++ place_name s.shown ++ times_text layout s ++ codes "</title></rect>\n"
+
 -- a stay: a box, and its name
 unfoldable pub stay_text : Layout → Stay → List ℕ
-stay_text layout s = box_text (place_class s.shown) (x_of layout s.first.0) 60 (width_of layout s) 18 ++ stay_words layout s
+stay_text layout s =
+    box_begin (place_class s.shown) (begin_of layout s) 60 (width_of layout s) 18 ++ stay_title layout s ++ stay_words layout s
+
+-- a stay that has some of the strip's seconds
+abbrev pub seen_stay : Layout → Stay → List ℕ
+seen_stay layout s = if is_seen layout s then stay_text layout s else []
 
 -- the stays, one after the other
 abbrev pub band_text : Layout → List Stay → List ℕ
-band_text layout stays = flat_map (stay_text layout) stays
+band_text layout stays = flat_map (seen_stay layout) stays

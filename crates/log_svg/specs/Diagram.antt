@@ -1,20 +1,24 @@
 -- The text of a whole signal timing diagram.
-use Rattle.std.specs.Prelude.{ℕ, ◌+◌, ◌-◌, ◌*◌, ◌<◌, ◌≤◌, max, List, [], ◌++◌, codes, length, All, if◌then◌else◌, ◌==◌}
+use Rattle.std.specs.Prelude.{ℕ, zero, suc, ◌+◌, ◌-◌, ◌*◌, ◌/◌, ◌<◌, ◌≤◌, min, List, [], ◌∷◌, ◌++◌, None, codes, length, All, if◌then◌else◌, ◌==◌, ◌||◌, not}
 use Rattle.std.specs.Fmt.{decimal}
 use Rattle.sig_types.specs.declared.aspect.Aspect.{Aspect}
+use Rattle.sig_types.specs.declared.aspect.Rule.{Rule}
+use Rattle.sig_types.specs.declared.aspect.Rule.TheVariants.{Sequence, MinGreen, MinRed, Conflict, Intergreen, Running, WrongStage, NoInterstage}
 use Rattle.sig_types.specs.Turns.{History}
 use Rattle.log_chart.specs.declared.span.Span.{Span}
 use Rattle.log_chart.specs.Spans.{IsChart}
 use Rattle.log_chart.specs.Stays.{Stay}
 use Rattle.log_svg.specs.declared.layout.Layout.{Layout}
+use Rattle.log_svg.specs.declared.layout.Sheet.{Sheet}
 use Rattle.log_svg.specs.declared.marks.RefusalMark.{RefusalMark}
 use Rattle.log_svg.specs.declared.marks.FaultMark.{FaultMark}
 use Rattle.log_svg.specs.declared.fronts.FrontMark.{FrontMark}
-use Rattle.log_svg.specs.Layout.{layout_of, right_of}
-use Rattle.log_svg.specs.Svg.{IsShown, attribute_text, box_text, cross_text, groups_text, label_begin, label_text, triangle_text, upright_text}
+use Rattle.log_svg.specs.Layout.{end_of, has_row, height_of, left_of, sheet_by, top_of, y_of}
+use Rattle.log_svg.specs.Svg.{attribute_text, box_text, cross_text, label_begin, label_text, upright_text}
 use Rattle.log_svg.specs.Axis.{axis_text}
 use Rattle.log_svg.specs.Band.{band_text}
-use Rattle.log_svg.specs.Marks.{IsFaultIn, IsFrontIn, IsMarked, detectors_text, faults_text, refusals_text, shown_to}
+use Rattle.log_svg.specs.Marks.{IsRefused, detectors_text, faults_text, marks_text, rule_letter, shown_to}
+use Rattle.log_svg.specs.Groups.{groups_text}
 
 -- what a diagram shows: the names of the groups, the seconds, the spans of each group, the stays at stages and interstages, and
 -- the marks of fronts, refused commands and faults
@@ -35,16 +39,16 @@ unfoldable pub view_text : ℕ → ℕ → List ℕ
 view_text width height = codes " viewBox=\"0 0 " ++ decimal width ++ codes " " ++ decimal height
 
 -- the beginning of the text, by the size of the picture
-unfoldable pub open_text : ℕ → ℕ → List ℕ
-open_text width height =
+unfoldable pub size_text : ℕ → ℕ → List ℕ
+size_text width height =
     codes "<svg xmlns=\"http://www.w3.org/2000/svg\"" ++ attribute_text (codes "width") width ++ attribute_text (codes "height") height
     ++ view_text width height
-    ++ codes "\" font-family=\"'DejaVu Sans Mono',Consolas,monospace\" font-size=\"12\" style=\"max-width:100%;height:auto\">\n"
+    ++ codes "\" role=\"img\" font-family=\"'DejaVu Sans Mono',Consolas,monospace\" font-size=\"12\">\n"
 
 -- how bars and lines look
 unfoldable pub bars_style : List ℕ
 bars_style =
-    codes "<style>@page{size:A4 landscape;margin:10mm}@media print{svg{max-height:100vh}}\n"
+    codes "<style>@page{size:A4 landscape;margin:12.667mm 10mm}@media print{svg{width:100%;height:auto}}\n"
     ++ codes ".r{fill:#c4161c}.u{fill:url(#u);stroke:#000;stroke-width:.4}\n"
     ++ codes ".g{fill:#00843d;stroke:#000;stroke-width:.6}.a{fill:url(#a);stroke:#000;stroke-width:.6}\n"
     ++ codes ".s{fill:#eef1f4;stroke:#000;stroke-width:.8}.i{fill:url(#i);stroke:#000;stroke-width:.8}\n"
@@ -59,7 +63,14 @@ words_style =
 -- how marks look
 unfoldable pub marks_style : List ℕ
 marks_style =
-    codes ".b,.c,.t,.f{fill:none;stroke:#000}.b{stroke:#d5d9dd}.t{stroke-width:1.4}.f{stroke-width:2}.x{fill:#000}</style>\n"
+    codes ".w,.p{fill:#fff}.b,.c,.t,.f{fill:none;stroke:#000}.b{stroke:#d5d9dd}.t{stroke-width:1.4}.f{stroke-width:2}\n"
+    ++ codes ".x{font-size:9px;font-weight:bold;text-anchor:middle;paint-order:stroke;stroke:#fff;stroke-width:3;stroke-linejoin:round}\n"
+
+-- how all of it looks on a dark screen
+unfoldable pub dark_style : List ℕ
+dark_style =
+    codes "@media screen and (prefers-color-scheme:dark){text{fill:#e6e8ea}.w,.p{fill:#16191c}.s{fill:#2b3036}.s,.i{stroke:#c3c8cd}\n"
+    ++ codes ".m,.x{stroke:#16191c}.k{fill:#fff}.b{stroke:#3a4047}.c,.t,.f{stroke:#e6e8ea}.r{fill:#ff5a5f}}</style>\n"
 
 -- red-amber is dark over light
 unfoldable pub half_pattern : List ℕ
@@ -77,26 +88,34 @@ amber_pattern =
 unfoldable pub interstage_pattern : List ℕ
 interstage_pattern =
     codes "<pattern id=\"i\" width=\"5\" height=\"5\" patternUnits=\"userSpaceOnUse\" patternTransform=\"rotate(45)\">"
-    ++ codes "<rect width=\"5\" height=\"5\" fill=\"#fff\"/><rect width=\"1\" height=\"5\" fill=\"#8a9199\"/></pattern></defs>\n"
+    ++ codes "<rect class=\"p\" width=\"5\" height=\"5\"/><rect width=\"1\" height=\"5\" fill=\"#8a9199\"/></pattern></defs>\n"
 
 -- all of how things look
 abbrev pub looks_text : List ℕ
-looks_text = (bars_style ++ words_style ++ marks_style) ++ half_pattern ++ amber_pattern ++ interstage_pattern
+looks_text = (bars_style ++ words_style ++ marks_style ++ dark_style) ++ half_pattern ++ amber_pattern ++ interstage_pattern
 
--- a white ground
+-- the ground
 unfoldable pub ground_text : ℕ → ℕ → List ℕ
 ground_text width height =
-    codes "<rect fill=\"#fff\"" ++ attribute_text (codes "width") width ++ attribute_text (codes "height") height ++ codes "/>\n"
+    codes "<rect class=\"w\"" ++ attribute_text (codes "width") width ++ attribute_text (codes "height") height ++ codes "/>\n"
 
 -- what the diagram is of
 unfoldable pub seconds_title : ℕ → ℕ → List ℕ
-seconds_title from to = codes "Signal timing diagram, seconds " ++ decimal from ++ codes " to " ++ decimal to ++ codes "</text>\n"
+seconds_title from to = codes "Signal timing diagram, seconds " ++ decimal from ++ codes " to " ++ decimal to
 
--- the head: size, looks, ground and title
-unfoldable pub head_text : ℕ → ℕ → Layout → List ℕ
-head_text width height layout =
-    open_text width height ++ looks_text ++ ground_text width height ++ label_begin (codes "h") 12 20
-    ++ seconds_title layout.from layout.to
+-- the title, which a screen reader reads
+unfoldable pub title_text : ℕ → ℕ → List ℕ
+title_text from to = codes "<title>" ++ seconds_title from to ++ codes "</title>\n"
+
+-- and which is seen
+unfoldable pub heading_text : ℕ → ℕ → List ℕ
+heading_text from to = label_begin (codes "h") 12 20 ++ seconds_title from to ++ codes "</text>\n"
+
+-- the head: size, title, looks, ground and heading
+unfoldable pub head_text : Sheet → ℕ → ℕ → List ℕ
+head_text sheet from to =
+    size_text sheet.width (height_of sheet) ++ title_text from to ++ looks_text ++ ground_text sheet.width (height_of sheet)
+    ++ heading_text from to
 
 -- ---- the legend
 
@@ -111,80 +130,142 @@ aspects_key y =
     ++ key_text (codes "u") 82 y (codes "red-amber") ++ key_text (codes "g") 196 y (codes "green, seconds")
     ++ label_text (codes "k") 208 (y + 10) (codes "12") ++ key_text (codes "a") 346 y (codes "amber")
 
--- what the marks look like
-unfoldable pub marks_key : ℕ → List ℕ
-marks_key y =
-    (triangle_text 562 (y + 10) ++ codes "/>\n" ++ label_text (codes "o") 574 (y + 10) (codes "refused"))
-    ++ cross_text 648 (y + 2) ++ codes "/>\n" ++ label_text (codes "o") 662 (y + 10) (codes "fault")
+-- what a fault looks like
+unfoldable pub fault_key : ℕ → List ℕ
+fault_key y = cross_text 562 (y + 2) ++ codes "/>\n" ++ label_text (codes "o") 576 (y + 10) (codes "fault")
+
+-- a rule with its letter
+unfoldable pub rule_key : ℕ → ℕ → Rule → List ℕ → List ℕ
+rule_key x y rule word =
+    label_begin (codes "x") x (y + 10) ++ rule_letter rule ∷ [] ++ codes "</text>\n" ++ label_text (codes "o") (x + 8) (y + 10) word
+
+-- the rules of turns
+unfoldable pub turns_key : ℕ → List ℕ
+turns_key y =
+    rule_key 88 y MinGreen (codes "minimum green") ++ rule_key 204 y MinRed (codes "minimum red") ++ rule_key 306 y Conflict (codes "conflict")
+    ++ rule_key 386 y Intergreen (codes "intergreen") ++ rule_key 480 y Sequence (codes "sequence")
+
+-- the rules of stage commands
+unfoldable pub commands_key : ℕ → List ℕ
+commands_key y =
+    rule_key 568 y Running (codes "interstage runs") ++ rule_key 698 y WrongStage (codes "wrong stage")
+    ++ rule_key 800 y NoInterstage (codes "no interstage")
+
+-- what refusals look like
+unfoldable pub rules_key : ℕ → List ℕ
+rules_key y = label_text (codes "o") 12 (y + 10) (codes "refused:") ++ turns_key y ++ commands_key y
 
 -- what fronts look like
 unfoldable pub fronts_key : ℕ → List ℕ
 fronts_key y =
-    upright_text (codes "t") 724 (y + 6) (y + 12) ++ upright_text (codes "t") 732 (y + 3) (y + 12)
-    ++ upright_text (codes "t") 740 y (y + 12) ++ label_text (codes "o") 750 (y + 10) (codes "1, 2, more fronts")
+    upright_text (codes "t") 638 (y + 6) (y + 12) ++ upright_text (codes "t") 646 (y + 3) (y + 12)
+    ++ upright_text (codes "t") 654 y (y + 12) ++ label_text (codes "o") 664 (y + 10) (codes "1, 2, more fronts")
 
--- the legend: aspects, interstages, marks and fronts
+-- the legend: aspects, interstages, faults and fronts, and below them the rules
 unfoldable pub legend_text : ℕ → List ℕ
-legend_text y = aspects_key y ++ key_text (codes "i") 436 y (codes "interstage") ++ marks_key y ++ fronts_key y
+legend_text y = aspects_key y ++ key_text (codes "i") 436 y (codes "interstage") ++ fault_key y ++ fronts_key y ++ rules_key (y + 20)
 
 -- ---- the whole
 
--- the layout of what is shown
-abbrev pub layout_in : Shown → Layout
-layout_in s = layout_of s.names s.from s.to
+-- ---- rows and panels
 
--- the rows of groups begin at 84, each 20 high; 6 below them is the row of faults, where there are any, and below it a row for
--- each detector with a front, each 14 high
-abbrev pub groups_end : Shown → ℕ
-groups_end s = 84 + 20 * length s.names
+-- how many rows there are for faults: one where there are any
+abbrev pub fault_rows : List FaultMark → ℕ
+fault_rows faults = if length faults == 0 then 0 else 1
 
--- how high the row of faults is
-abbrev pub faults_height : List FaultMark → ℕ
-faults_height faults = if length faults == 0 then 0 else 14
+-- the rows of groups come first, then that of faults, where there are any, and then one for each detector with a front
+abbrev pub detectors_row : Shown → ℕ
+detectors_row s = length s.names + fault_rows s.faults
 
--- where the row of faults begins
-abbrev pub faults_top : Shown → ℕ
-faults_top s = groups_end s + 6
+-- how many rows there are
+abbrev pub rows_in : Shown → ℕ
+rows_in s = detectors_row s + shown_to s.fronts 64
 
--- where the rows of detectors begin
-abbrev pub detectors_top : Shown → ℕ
-detectors_top s = faults_top s + faults_height s.faults
+-- the seconds of a whole strip, or all where there are fewer
+abbrev pub strip_seconds : Shown → ℕ → ℕ
+strip_seconds s strip = min strip (s.to + 1 - s.from)
 
--- where all rows end
-abbrev pub rows_end : Shown → ℕ
-rows_end s = detectors_top s + 14 * shown_to s.fronts 64
+-- how many strips of so many seconds there are
+abbrev pub strips_in : Shown → ℕ → ℕ
+strips_in s strip = (s.to - s.from) / strip + 1
 
--- how wide the picture is
-abbrev pub width_in : Shown → ℕ
-width_in s = max (right_of (layout_in s) + 24) 890
+-- the sheet of what is shown, in strips of so many seconds
+abbrev pub sheet_in : Shown → ℕ → Sheet
+sheet_in s strip = sheet_by (left_of s.names) (strip_seconds s strip) (rows_in s) (strips_in s strip)
 
--- the row of faults, where there are any
+-- the first second of strip k
+abbrev pub strip_from : Shown → ℕ → ℕ → ℕ
+strip_from s strip k = s.from + strip * k
+
+-- a panel has part p of the rows in strip k
+abbrev pub panel_at : Sheet → Shown → ℕ → ℕ → ℕ → Layout
+panel_at sheet s strip k p = record {
+  first = s.from;
+  last = s.to;
+  from = strip_from s strip k;
+  to = min s.to (strip_from s strip k + strip - 1);
+  scale = sheet.scale;
+  left = sheet.left;
+  row = p * sheet.each;
+  rows = min sheet.each (sheet.rows - p * sheet.each);
+}
+
+-- the row of faults
 unfoldable pub named_faults : Layout → ℕ → List FaultMark → List ℕ
-named_faults layout y marks = label_text (codes "d") (layout.left - 12) (y + 11) (codes "faults") ++ faults_text layout y marks
+named_faults layout y marks = label_text (codes "d") (layout.left - 12) (y + 14) (codes "faults") ++ faults_text layout y marks
 
--- nothing where there is no fault
+-- it stands where there are any and it is in the part
 abbrev pub faults_row : Layout → ℕ → List FaultMark → List ℕ
-faults_row layout y marks = if length marks == 0 then [] else named_faults layout y marks
+faults_row layout row marks = if length marks == 0 || not (has_row layout row) then [] else named_faults layout (y_of layout row) marks
 
--- the head, the seconds, the band and the rows of groups
-unfoldable pub upper_text : Shown → List ℕ
-upper_text s =
-    head_text (width_in s) (rows_end s + 58) (layout_in s) ++ axis_text (layout_in s) (rows_end s) (s.to + 1 - s.from)
-    ++ label_text (codes "n") ((layout_in s).left - 12) 73 (codes "stage") ++ band_text (layout_in s) s.stays
-    ++ groups_text (layout_in s) 84 s.names s.rows (length s.names)
+-- the seconds, the band and the rows of groups, with the marks of what was refused
+unfoldable pub upper_text : Layout → Shown → List ℕ
+upper_text layout s =
+    axis_text layout (end_of layout) (layout.to + 1 - layout.from) ++ label_text (codes "n") (layout.left - 12) 73 (codes "stage")
+    ++ band_text layout s.stays ++ marks_text s.names layout None 58 s.refusals
+    ++ groups_text layout s.names s.rows s.refusals (length s.names)
 
--- the marks, the rows of faults and detectors, and the legend
-unfoldable pub lower_text : Shown → List ℕ
-lower_text s =
-    refusals_text s.names (layout_in s) 84 s.refusals ++ faults_row (layout_in s) (faults_top s) s.faults
-    ++ detectors_text (layout_in s) (detectors_top s) s.fronts 64 ++ legend_text (rows_end s + 36) ++ codes "</svg>\n"
+-- the rows of faults and detectors
+unfoldable pub lower_text : Layout → Shown → List ℕ
+lower_text layout s =
+    faults_row layout (length s.names) s.faults ++ detectors_text layout (detectors_row s) s.fronts 64
 
--- the whole text of a diagram
-abbrev pub diagram_text : Shown → List ℕ
-diagram_text s = upper_text s ++ lower_text s
+-- what follows stands so far below
+unfoldable pub shift_text : ℕ → List ℕ
+shift_text y = codes "<g transform=\"translate(0 " ++ decimal y ++ codes ")\">\n"
 
--- a diagram of 1 to 3,600 seconds of a log, of at most 64 groups, whose rows are a chart of these seconds and whose stays and
--- marks are in them
+-- a panel, at this height
+unfoldable pub panel_text : Layout → ℕ → Shown → List ℕ
+panel_text layout y s = shift_text y ++ upper_text layout s ++ lower_text layout s ++ codes "</g>\n"
+
+-- part p of strip k, at its height
+abbrev pub part_text : Sheet → Shown → ℕ → ℕ → ℕ → List ℕ
+part_text sheet s strip k p = panel_text (panel_at sheet s strip k p) (top_of sheet (k * sheet.parts + p)) s
+
+-- the first n parts of strip k
+unfoldable pub parts_text : Sheet → Shown → ℕ → ℕ → ℕ → List ℕ
+parts_text sheet s strip k zero = []
+parts_text sheet s strip k (suc n) = parts_text sheet s strip k n ++ part_text sheet s strip k n
+
+-- the first n strips, with all their parts
+unfoldable pub strips_text : Sheet → Shown → ℕ → ℕ → List ℕ
+strips_text sheet s strip zero = []
+strips_text sheet s strip (suc n) = strips_text sheet s strip n ++ parts_text sheet s strip n sheet.parts
+
+-- the head, the legend and the strips
+unfoldable pub whole_text : Sheet → Shown → ℕ → List ℕ
+whole_text sheet s strip = head_text sheet s.from s.to ++ legend_text 32 ++ strips_text sheet s strip sheet.strips ++ codes "</svg>\n"
+
+-- the whole text of a diagram in strips of so many seconds
+abbrev pub diagram_text : Shown → ℕ → List ℕ
+diagram_text s strip = whole_text (sheet_in s strip) s strip
+
+-- a strip has 30 to 600 seconds
+abbrev pub IsStrip : ℕ → Type 0
+IsStrip strip = (30 ≤ strip) × (strip ≤ 600)
+
+-- a diagram of 1 to 3,600 seconds of a log, of at most 64 groups, whose rows are a chart of these seconds
+-- and whose refused turns are of these groups
 pub record IsShowable (s : Shown) : Type 0 where
   pub order : s.from ≤ s.to
   pub hour : s.to < s.from + 3600
@@ -192,7 +273,4 @@ pub record IsShowable (s : Shown) : Type 0 where
   pub few : length s.names ≤ 64
   pub history : History
   pub chart : IsChart history (length s.names) s.from (s.to + 1) s.rows
-  pub stays : All (IsShown (layout_in s)) s.stays
-  pub fronts : All (IsFrontIn (layout_in s)) s.fronts
-  pub refusals : All (IsMarked (length s.names) (layout_in s)) s.refusals
-  pub faults : All (IsFaultIn (layout_in s)) s.faults
+  pub refusals : All (λ m. IsRefused (length s.names) m.refused) s.refusals

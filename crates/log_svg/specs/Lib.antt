@@ -3,5 +3,6 @@ pub mod Svg
 pub mod Axis
 pub mod Band
 pub mod Marks
+pub mod Groups
 pub mod Diagram
 pub mod ShownIn

@@ -1,13 +1,13 @@
 // The band of stages and interstages.
-ghost use Rattle.std.specs.Prelude.{◌≡◌, ◌+◌, ◌-◌, ◌*◌, ◌/◌, ◌^◌, ◌<◌, ◌≤◌, ◌++◌, ℕ, List, Option, All, length};
+ghost use Rattle.std.specs.Prelude.{◌≡◌, ◌+◌, ◌-◌, ◌*◌, ◌/◌, ◌^◌, ◌<◌, ◌≤◌, ◌++◌, ℕ, List, Option, length};
 ghost use Rattle.sig_io.specs.Draft.{Puts};
 ghost use Rattle.log_svg.specs.Layout.{IsLayout};
-ghost use Rattle.log_svg.specs.Svg.{IsShown};
-ghost use Rattle.log_svg.specs.Band.{band_text, is_named, name_letters, place_class, place_name, stage_digits, stay_name, stay_text, stay_words};
+ghost use Rattle.log_svg.specs.Svg.{IsSeen};
+ghost use Rattle.log_svg.specs.Band.{band_text, is_named, name_letters, place_class, place_name, seen_stay, stage_digits, stay_name, stay_text, stay_title, stay_words};
 
-use crate::layout::{Layout, x_of};
-use crate::pieces::{begin_label, put_box};
-use crate::row::width_of;
+use crate::layout::Layout;
+use crate::pieces::{begin_box, begin_label};
+use crate::row::{begin_of, is_seen, put_times, width_of};
 use log_chart::Span;
 use sig_io::{Draft, Sink};
 use sig_types::{StageNo, StagePlace};
@@ -69,10 +69,10 @@ pub fn put_place<O: Sink>(draft: &mut Draft, sink: &mut O, place: StagePlace)
 // Puts the name in the middle of a stay.
 fn put_stay_name<O: Sink>(draft: &mut Draft, sink: &mut O, layout: Layout, stay: &Span<StagePlace>)
     requires layout { IsLayout layout }
-    requires stay { IsShown layout stay.now }
+    requires stay { IsSeen layout stay.now }
     ensures { Puts O.taken O.faults draft.old draft.new sink.old sink.new (stay_name layout stay.now) }
 {
-    let middle = x_of(layout, stay.first.0) + width_of(layout, stay) / 2;
+    let middle = begin_of(layout, stay) + width_of(layout, stay) / 2;
     begin_label(draft, sink, b"m", middle, 73);
     put_place(draft, sink, stay.shown);
     draft.put(sink, b"</text>\n");
@@ -81,7 +81,7 @@ fn put_stay_name<O: Sink>(draft: &mut Draft, sink: &mut O, layout: Layout, stay:
 // Whether a stay is wide enough for its name.
 fn is_named(layout: Layout, stay: &Span<StagePlace>) -> bool
     requires layout { IsLayout layout }
-    requires stay { IsShown layout stay.now }
+    requires stay { IsSeen layout stay.now }
     ensures { result ≡ is_named layout stay.now }
 {
     name_letters(stay.shown) * 7 + 4 <= width_of(layout, stay)
@@ -90,7 +90,7 @@ fn is_named(layout: Layout, stay: &Span<StagePlace>) -> bool
 // Puts the name of a stay where it is wide enough.
 fn put_stay_words<O: Sink>(draft: &mut Draft, sink: &mut O, layout: Layout, stay: &Span<StagePlace>)
     requires layout { IsLayout layout }
-    requires stay { IsShown layout stay.now }
+    requires stay { IsSeen layout stay.now }
     ensures { Puts O.taken O.faults draft.old draft.new sink.old sink.new (stay_words layout stay.now) }
 {
     if is_named(layout, stay) {
@@ -98,16 +98,39 @@ fn put_stay_words<O: Sink>(draft: &mut Draft, sink: &mut O, layout: Layout, stay
     }
 }
 
+// Puts what is told of a stay where one points at it.
+fn put_title<O: Sink>(draft: &mut Draft, sink: &mut O, layout: Layout, stay: &Span<StagePlace>)
+    requires layout { IsLayout layout }
+    requires stay { IsSeen layout stay.now }
+    ensures { Puts O.taken O.faults draft.old draft.new sink.old sink.new (stay_title layout stay.now) }
+{
+    draft.put(sink, b"><title>");
+    put_place(draft, sink, stay.shown);
+    put_times(draft, sink, layout, stay);
+    draft.put(sink, b"</title></rect>\n");
+}
+
 // Puts a stay: a box, and its name.
 fn put_stay<O: Sink>(draft: &mut Draft, sink: &mut O, layout: Layout, stay: &Span<StagePlace>)
     requires layout { IsLayout layout }
-    requires stay { IsShown layout stay.now }
+    requires stay { IsSeen layout stay.now }
     ensures { Puts O.taken O.faults draft.old draft.new sink.old sink.new (stay_text layout stay.now) }
 {
     let width = width_of(layout, stay);
-    let x = x_of(layout, stay.first.0);
-    put_box(draft, sink, place_class(stay.shown), (x, 60), width, 18);
+    let x = begin_of(layout, stay);
+    begin_box(draft, sink, place_class(stay.shown), (x, 60), width, 18);
+    put_title(draft, sink, layout, stay);
     put_stay_words(draft, sink, layout, stay);
+}
+
+// Puts a stay that has some of the strip's seconds.
+fn put_seen<O: Sink>(draft: &mut Draft, sink: &mut O, layout: Layout, stay: &Span<StagePlace>)
+    requires layout { IsLayout layout }
+    ensures { Puts O.taken O.faults draft.old draft.new sink.old sink.new (seen_stay layout stay.now) }
+{
+    if is_seen(layout, stay) {
+        put_stay(draft, sink, layout, stay);
+    }
 }
 
 /// Puts the band of the stays.
@@ -118,10 +141,9 @@ pub fn put_band<O: Sink>(
     stays: &[Span<StagePlace>],
 )
     requires layout { IsLayout layout }
-    requires stays { All (IsShown layout) stays.now }
     ensures { Puts O.taken O.faults draft.old draft.new sink.old sink.new (band_text layout stays.now) }
 {
     for stay in stays {
-        put_stay(draft, sink, layout, stay);
+        put_seen(draft, sink, layout, stay);
     }
 }

@@ -1,11 +1,11 @@
 // The rows of the detectors.
-ghost use Rattle.std.specs.Prelude.{◌≡◌, ◌+◌, ◌-◌, ◌*◌, ◌^◌, ◌<◌, ◌≤◌, ◌++◌, ◌==◌, min, ℕ, List, Option, All, length};
+ghost use Rattle.std.specs.Prelude.{◌≡◌, ◌+◌, ◌-◌, ◌*◌, ◌^◌, ◌<◌, ◌≤◌, ◌++◌, ◌==◌, min, ℕ, List, Option};
 ghost use Rattle.sig_io.specs.Draft.{Puts};
 ghost use Rattle.log_svg.specs.Layout.{IsLayout};
-ghost use Rattle.log_svg.specs.Marks.{IsFrontIn, fronts_of, has_front, row_count, shown_to};
+ghost use Rattle.log_svg.specs.Marks.{fronts_of, has_front, row_count, shown_to};
 ghost use Rattle.log_svg.specs.Marks.{detector_name, detector_text, detectors_text, front_text, shown_text};
 
-use crate::layout::{Layout, middle_of, right_of};
+use crate::layout::{Layout, has_row, has_second, middle_of, right_of, y_of};
 use crate::pieces::{begin_label, put_across, put_upright};
 use sig_io::{Draft, Sink};
 use sig_types::DetNo;
@@ -24,17 +24,17 @@ pub struct FrontMark {
 // Puts the fronts of a second: the more, the higher.
 fn put_front<O: Sink>(draft: &mut Draft, sink: &mut O, layout: Layout, y: u32, mark: &FrontMark)
     requires layout { IsLayout layout }
-    requires mark { IsFrontIn layout mark.now }
+    requires mark { (layout.from ≤ mark.now.second) × (mark.now.second ≤ layout.to) }
     requires y { y ≤ 100000 }
     ensures { Puts O.taken O.faults draft.old draft.new sink.old sink.new (front_text layout y mark.now) }
 {
-    let top = y + 10 - 3 * mark.fronts.min(3);
+    let top = y + 16 - 3 * mark.fronts.min(3);
     put_upright(
         draft,
         sink,
         b"t",
         middle_of(layout, mark.second),
-        (top, y + 13),
+        (top, y + 19),
     );
 }
 
@@ -48,12 +48,11 @@ fn put_fronts<O: Sink>(
     marks: &[FrontMark],
 )
     requires layout { IsLayout layout }
-    requires marks { All (IsFrontIn layout) marks.now }
     requires y { y ≤ 100000 }
     ensures { Puts O.taken O.faults draft.old draft.new sink.old sink.new (fronts_of layout y detector.0 marks.now) }
 {
     for mark in marks {
-        if mark.detector.0 == detector.0 {
+        if mark.detector.0 == detector.0 && has_second(layout, mark.second) {
             put_front(draft, sink, layout, y, mark);
         }
     }
@@ -65,7 +64,7 @@ fn put_name<O: Sink>(draft: &mut Draft, sink: &mut O, layout: Layout, y: u32, de
     requires y { y ≤ 100000 }
     ensures { Puts O.taken O.faults draft.old draft.new sink.old sink.new (detector_name layout y detector.0) }
 {
-    begin_label(draft, sink, b"d", layout.left - 12, y + 11);
+    begin_label(draft, sink, b"d", layout.left - 12, y + 14);
     draft.put(sink, b"D");
     draft.put_number(sink, u32::from(detector.0));
     draft.put(sink, b"</text>\n");
@@ -81,12 +80,11 @@ fn put_detector<O: Sink>(
     marks: &[FrontMark],
 )
     requires layout { IsLayout layout }
-    requires marks { All (IsFrontIn layout) marks.now }
     requires y { y ≤ 100000 }
     ensures { Puts O.taken O.faults draft.old draft.new sink.old sink.new (detector_text layout y marks.now detector.0) }
 {
     put_name(draft, sink, layout, y, detector);
-    put_across(draft, sink, y + 13, right_of(layout));
+    put_across(draft, sink, y + 19, right_of(layout));
     put_fronts(draft, sink, layout, y, detector, marks);
 }
 
@@ -105,22 +103,21 @@ fn row_count(marks: &[FrontMark], detector: DetNo) -> u32
     if has_front(marks, detector) { 1 } else { 0 }
 }
 
-// Puts a detector's row at this height, where it has a front.
+// Puts a detector's row, where it has a front and the row is in the part.
 fn put_shown<O: Sink>(
     draft: &mut Draft,
     sink: &mut O,
     layout: Layout,
-    y: u32,
+    row: u32,
     detector: DetNo,
     marks: &[FrontMark],
 )
     requires layout { IsLayout layout }
-    requires marks { All (IsFrontIn layout) marks.now }
-    requires y { y ≤ 100000 }
-    ensures { Puts O.taken O.faults draft.old draft.new sink.old sink.new (shown_text layout y marks.now detector.0) }
+    requires row { layout.row ≤ 20000 }
+    ensures { Puts O.taken O.faults draft.old draft.new sink.old sink.new (shown_text layout row marks.now detector.0) }
 {
-    if has_front(marks, detector) {
-        put_detector(draft, sink, layout, y, detector, marks);
+    if has_front(marks, detector) && has_row(layout, row) {
+        put_detector(draft, sink, layout, y_of(layout, row), detector, marks);
     }
 }
 
@@ -136,23 +133,23 @@ pub fn count_shown(marks: &[FrontMark]) -> u32
     count
 }
 
-/// Puts the rows of the detectors that have a front, one below the other from this height on.
+/// Puts the rows of the detectors that have a front, from this row on, as far as they are in the part.
 pub fn put_detectors<O: Sink>(
     draft: &mut Draft,
     sink: &mut O,
     layout: Layout,
-    y: u32,
+    row: u32,
     marks: &[FrontMark],
 )
     requires layout { IsLayout layout }
-    requires marks { All (IsFrontIn layout) marks.now }
-    requires y { y ≤ 90000 }
-    ensures { Puts O.taken O.faults draft.old draft.new sink.old sink.new (detectors_text layout y marks.now 64) }
+    requires part { layout.row ≤ 20000 }
+    requires row { row ≤ 100000 }
+    ensures { Puts O.taken O.faults draft.old draft.new sink.old sink.new (detectors_text layout row marks.now 64) }
 {
     let mut shown = 0;
     for place in 0..64u8 {
         let detector = DetNo(place + 1);
-        put_shown(draft, sink, layout, y + 14 * shown, detector, marks);
+        put_shown(draft, sink, layout, row + shown, detector, marks);
         shown += row_count(marks, detector);
     }
 }

@@ -1,43 +1,96 @@
 // The rows of all groups.
-ghost use Rattle.std.specs.Prelude.{◌+◌, ◌*◌, ◌^◌, ◌<◌, ◌≤◌, ◌++◌, ℕ, List, Option, length};
+ghost use Rattle.std.specs.Prelude.{◌≡◌, ◌+◌, ◌*◌, ◌^◌, ◌<◌, ◌≤◌, ◌++◌, ℕ, List, Option, All, length};
 ghost use Rattle.sig_io.specs.Draft.{Puts};
-ghost use Rattle.sig_types.specs.Turns.{History};
-ghost use Rattle.log_chart.specs.Spans.{IsChart};
 ghost use Rattle.log_svg.specs.Layout.{IsLayout};
-ghost use Rattle.log_svg.specs.Svg.{groups_text};
+ghost use Rattle.log_svg.specs.Marks.{IsRefused};
+ghost use Rattle.log_svg.specs.Groups.{groups_text, marked_group, shown_group};
 
-use crate::layout::Layout;
+use crate::layout::{Layout, has_row, y_of};
+use crate::marks::{RefusalMark, put_marks};
 use crate::row::put_group;
-use log_chart::Chart;
+use log_chart::{Chart, Span};
 use sig_io::{Draft, Sink};
-use sig_types::{GroupNo, ShortName};
+use sig_types::{Aspect, GroupNo, ShortName};
 
-/// Puts the rows of a chart of the diagram's seconds, with the names of the groups, one below the other from `top` on.
+// Puts a group at this height, and the marks of its refused turns.
+fn put_marked<O: Sink>(
+    draft: &mut Draft,
+    sink: &mut O,
+    layout: Layout,
+    names: &[ShortName],
+    group: GroupNo,
+    y: u32,
+    name: &[u8],
+    spans: &[Span<Aspect>],
+    marks: &[RefusalMark],
+)
+    requires layout { IsLayout layout }
+    requires y { y ≤ 100000 }
+    requires name { length name.now ≤ 32 }
+    requires marks { All (λ m. IsRefused (length names.now) m.refused) marks.now }
+    ensures { Puts O.taken O.faults draft.old draft.new sink.old sink.new
+        (marked_group names.now layout y group.0 name.now spans.now marks.now) }
+{
+    put_group(draft, sink, layout, y, name, spans);
+    put_marks(draft, sink, layout, names, Some(group), y + 9, marks);
+}
+
+// Puts a group, where its row is in the part.
+fn put_shown<O: Sink>(
+    draft: &mut Draft,
+    sink: &mut O,
+    layout: Layout,
+    names: &[ShortName],
+    group: GroupNo,
+    name: &[u8],
+    spans: &[Span<Aspect>],
+    marks: &[RefusalMark],
+)
+    requires layout { IsLayout layout }
+    requires row { layout.row ≤ 20000 }
+    requires name { length name.now ≤ 32 }
+    requires marks { All (λ m. IsRefused (length names.now) m.refused) marks.now }
+    ensures { Puts O.taken O.faults draft.old draft.new sink.old sink.new
+        (shown_group names.now layout group.0 name.now spans.now marks.now) }
+{
+    let row = u32::from(group.0);
+    if has_row(layout, row) {
+        put_marked(
+            draft,
+            sink,
+            layout,
+            names,
+            group,
+            y_of(layout, row),
+            name,
+            spans,
+            marks,
+        );
+    }
+}
+
+/// Puts those rows of a chart of the diagram's seconds that are in the part, with the names of the groups and the marks of refused
+/// turns.
 pub fn put_groups<O: Sink>(
     draft: &mut Draft,
     sink: &mut O,
     layout: Layout,
-    top: u32,
     names: &[ShortName],
     chart: &Chart,
+    marks: &[RefusalMark],
 )
     requires layout { IsLayout layout }
     requires names { length names.now ≤ 64 }
-    requires chart { (h : History) × IsChart h (length names.now) layout.from (layout.to + 1) chart.now.rows }
-    requires top { top ≤ 1000 }
+    requires row { layout.row ≤ 20000 }
+    requires chart { length chart.now.rows ≡ length names.now }
+    requires marks { All (λ m. IsRefused (length names.now) m.refused) marks.now }
     ensures { Puts O.taken O.faults draft.old draft.new sink.old sink.new
-        (groups_text layout top names.now chart.now.rows (length names.now)) }
+        (groups_text layout names.now chart.now.rows marks.now (length names.now)) }
 {
     for place in 0..names.len() {
+        let group = GroupNo(place as u8);
         let name = &names[place];
-        let row = chart.row(GroupNo(place as u8));
-        put_group(
-            draft,
-            sink,
-            layout,
-            top + 20 * place as u32,
-            name.bytes(),
-            row,
-        );
+        let row = chart.row(group);
+        put_shown(draft, sink, layout, names, group, name.bytes(), row, marks);
     }
 }

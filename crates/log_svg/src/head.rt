@@ -1,10 +1,11 @@
 // The head of a diagram: its size, how things look, and what it is of.
 ghost use Rattle.std.specs.Prelude.{◌+◌, ◌*◌, ◌^◌, ◌<◌, ◌≤◌, ◌++◌, ℕ, List, Option};
 ghost use Rattle.sig_io.specs.Draft.{Puts};
-ghost use Rattle.log_svg.specs.Diagram.{ground_text, head_text, looks_text, open_text, seconds_title, view_text};
+ghost use Rattle.log_svg.specs.Layout.{IsSheet};
+ghost use Rattle.log_svg.specs.Diagram.{dark_style, ground_text, head_text, heading_text, looks_text, seconds_title, size_text, title_text, view_text};
 ghost use Rattle.log_svg.specs.Diagram.{amber_pattern, bars_style, half_pattern, interstage_pattern, marks_style, words_style};
 
-use crate::layout::Layout;
+use crate::layout::{Sheet, height_of};
 use crate::pieces::{begin_label, put_attribute};
 use sig_io::{Draft, Sink};
 
@@ -19,8 +20,8 @@ fn put_view<O: Sink>(draft: &mut Draft, sink: &mut O, width: u32, height: u32)
 }
 
 // Puts the beginning of the text, by the size of the picture.
-fn open_svg<O: Sink>(draft: &mut Draft, sink: &mut O, width: u32, height: u32)
-    ensures { Puts O.taken O.faults draft.old draft.new sink.old sink.new (open_text width height) }
+fn put_size<O: Sink>(draft: &mut Draft, sink: &mut O, width: u32, height: u32)
+    ensures { Puts O.taken O.faults draft.old draft.new sink.old sink.new (size_text width height) }
 {
     draft.put(sink, b"<svg xmlns=\"http://www.w3.org/2000/svg\"");
     put_attribute(draft, sink, b"width", width);
@@ -28,7 +29,7 @@ fn open_svg<O: Sink>(draft: &mut Draft, sink: &mut O, width: u32, height: u32)
     put_view(draft, sink, width, height);
     draft.put(
         sink,
-        b"\" font-family=\"'DejaVu Sans Mono',Consolas,monospace\" font-size=\"12\" style=\"max-width:100%;height:auto\">\n",
+        b"\" role=\"img\" font-family=\"'DejaVu Sans Mono',Consolas,monospace\" font-size=\"12\">\n",
     );
 }
 
@@ -38,7 +39,7 @@ fn put_bars_style<O: Sink>(draft: &mut Draft, sink: &mut O)
 {
     draft.put(
         sink,
-        b"<style>@page{size:A4 landscape;margin:10mm}@media print{svg{max-height:100vh}}\n",
+        b"<style>@page{size:A4 landscape;margin:12.667mm 10mm}@media print{svg{width:100%;height:auto}}\n",
     );
     draft.put(
         sink,
@@ -70,13 +71,30 @@ fn put_words_style<O: Sink>(draft: &mut Draft, sink: &mut O)
 }
 
 // Puts how lines and marks look.
-#[tactic(auto, unfolding(crate::specs::Diagram::marks_style))]
 fn put_marks_style<O: Sink>(draft: &mut Draft, sink: &mut O)
     ensures { Puts O.taken O.faults draft.old draft.new sink.old sink.new marks_style }
 {
     draft.put(
         sink,
-        b".b,.c,.t,.f{fill:none;stroke:#000}.b{stroke:#d5d9dd}.t{stroke-width:1.4}.f{stroke-width:2}.x{fill:#000}</style>\n",
+        b".w,.p{fill:#fff}.b,.c,.t,.f{fill:none;stroke:#000}.b{stroke:#d5d9dd}.t{stroke-width:1.4}.f{stroke-width:2}\n",
+    );
+    draft.put(
+        sink,
+        b".x{font-size:9px;font-weight:bold;text-anchor:middle;paint-order:stroke;stroke:#fff;stroke-width:3;stroke-linejoin:round}\n",
+    );
+}
+
+// Puts how all of it looks on a dark screen.
+fn put_dark_style<O: Sink>(draft: &mut Draft, sink: &mut O)
+    ensures { Puts O.taken O.faults draft.old draft.new sink.old sink.new dark_style }
+{
+    draft.put(
+        sink,
+        b"@media screen and (prefers-color-scheme:dark){text{fill:#e6e8ea}.w,.p{fill:#16191c}.s{fill:#2b3036}.s,.i{stroke:#c3c8cd}\n",
+    );
+    draft.put(
+        sink,
+        b".m,.x{stroke:#16191c}.k{fill:#fff}.b{stroke:#3a4047}.c,.t,.f{stroke:#e6e8ea}.r{fill:#ff5a5f}}</style>\n",
     );
 }
 
@@ -118,17 +136,18 @@ fn put_interstage_pattern<O: Sink>(draft: &mut Draft, sink: &mut O)
     );
     draft.put(
         sink,
-        b"<rect width=\"5\" height=\"5\" fill=\"#fff\"/><rect width=\"1\" height=\"5\" fill=\"#8a9199\"/></pattern></defs>\n",
+        b"<rect class=\"p\" width=\"5\" height=\"5\"/><rect width=\"1\" height=\"5\" fill=\"#8a9199\"/></pattern></defs>\n",
     );
 }
 
 // Puts how everything looks.
 fn put_styles<O: Sink>(draft: &mut Draft, sink: &mut O)
-    ensures { Puts O.taken O.faults draft.old draft.new sink.old sink.new (bars_style ++ words_style ++ marks_style) }
+    ensures { Puts O.taken O.faults draft.old draft.new sink.old sink.new (bars_style ++ words_style ++ marks_style ++ dark_style) }
 {
     put_bars_style(draft, sink);
     put_words_style(draft, sink);
     put_marks_style(draft, sink);
+    put_dark_style(draft, sink);
 }
 
 // Puts how everything looks, and the patterns.
@@ -141,34 +160,54 @@ fn put_looks<O: Sink>(draft: &mut Draft, sink: &mut O)
     put_interstage_pattern(draft, sink);
 }
 
-// Puts a white ground.
+// Puts the ground.
 fn put_ground<O: Sink>(draft: &mut Draft, sink: &mut O, width: u32, height: u32)
     ensures { Puts O.taken O.faults draft.old draft.new sink.old sink.new (ground_text width height) }
 {
-    draft.put(sink, b"<rect fill=\"#fff\"");
+    draft.put(sink, b"<rect class=\"w\"");
     put_attribute(draft, sink, b"width", width);
     put_attribute(draft, sink, b"height", height);
     draft.put(sink, b"/>\n");
 }
 
 // Puts what the diagram is of.
-fn put_title<O: Sink>(draft: &mut Draft, sink: &mut O, from: u32, to: u32)
+fn put_seconds<O: Sink>(draft: &mut Draft, sink: &mut O, from: u32, to: u32)
     ensures { Puts O.taken O.faults draft.old draft.new sink.old sink.new (seconds_title from to) }
 {
     draft.put(sink, b"Signal timing diagram, seconds ");
     draft.put_number(sink, from);
     draft.put(sink, b" to ");
     draft.put_number(sink, to);
+}
+
+// Puts the title, which a screen reader reads.
+fn put_title<O: Sink>(draft: &mut Draft, sink: &mut O, from: u32, to: u32)
+    ensures { Puts O.taken O.faults draft.old draft.new sink.old sink.new (title_text from to) }
+{
+    draft.put(sink, b"<title>");
+    put_seconds(draft, sink, from, to);
+    draft.put(sink, b"</title>\n");
+}
+
+// Puts the title that is seen.
+fn put_heading<O: Sink>(draft: &mut Draft, sink: &mut O, from: u32, to: u32)
+    ensures { Puts O.taken O.faults draft.old draft.new sink.old sink.new (heading_text from to) }
+{
+    begin_label(draft, sink, b"h", 12, 20);
+    put_seconds(draft, sink, from, to);
     draft.put(sink, b"</text>\n");
 }
 
-/// Puts the head of a diagram of this size.
-pub fn put_head<O: Sink>(draft: &mut Draft, sink: &mut O, width: u32, height: u32, layout: Layout)
-    ensures { Puts O.taken O.faults draft.old draft.new sink.old sink.new (head_text width height layout) }
+/// Puts the head of a diagram of these seconds.
+pub fn put_head<O: Sink>(draft: &mut Draft, sink: &mut O, sheet: Sheet, from: u32, to: u32)
+    requires { IsSheet sheet }
+    ensures { Puts O.taken O.faults draft.old draft.new sink.old sink.new (head_text sheet from to) }
 {
-    open_svg(draft, sink, width, height);
+    let height = height_of(sheet);
+    let width = sheet.width;
+    put_size(draft, sink, width, height);
+    put_title(draft, sink, from, to);
     put_looks(draft, sink);
     put_ground(draft, sink, width, height);
-    begin_label(draft, sink, b"h", 12, 20);
-    put_title(draft, sink, layout.from, layout.to);
+    put_heading(draft, sink, from, to);
 }

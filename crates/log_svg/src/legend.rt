@@ -1,11 +1,13 @@
 // The legend of a diagram.
 ghost use Rattle.std.specs.Prelude.{◌+◌, ◌*◌, ◌^◌, ◌<◌, ◌≤◌, ◌++◌, ℕ, List, Option, codes, length};
 ghost use Rattle.sig_io.specs.Draft.{Puts};
-ghost use Rattle.log_svg.specs.Svg.{box_text, label_text, triangle_text};
-ghost use Rattle.log_svg.specs.Diagram.{aspects_key, fronts_key, key_text, legend_text, marks_key};
+ghost use Rattle.log_svg.specs.Svg.{box_text, label_text};
+ghost use Rattle.log_svg.specs.Diagram.{aspects_key, commands_key, fault_key, fronts_key, key_text, legend_text, rule_key, rules_key, turns_key};
 
-use crate::pieces::{begin_cross, begin_triangle, put_box, put_label, put_upright};
+use crate::marks::rule_letter;
+use crate::pieces::{begin_cross, begin_label, put_box, put_label, put_upright};
 use sig_io::{Draft, Sink};
+use sig_types::Rule;
 
 // Puts a bar with what it stands for.
 fn put_key<O: Sink>(draft: &mut Draft, sink: &mut O, class: &[u8], x: u32, y: u32, word: &[u8])
@@ -41,26 +43,59 @@ fn put_aspects_key<O: Sink>(draft: &mut Draft, sink: &mut O, y: u32)
     put_key(draft, sink, b"a", 346, y, b"amber");
 }
 
-// Puts the mark of refused commands with its word.
-fn put_refused_key<O: Sink>(draft: &mut Draft, sink: &mut O, y: u32)
+// Puts the cross of a fault with its word.
+fn put_fault_key<O: Sink>(draft: &mut Draft, sink: &mut O, y: u32)
     requires { y ≤ 200000 }
-    ensures { Puts O.taken O.faults draft.old draft.new sink.old sink.new
-        ((triangle_text 562 (y + 10) ++ codes "/>\n" ++ label_text (codes "o") 574 (y + 10) (codes "refused"))) }
+    ensures { Puts O.taken O.faults draft.old draft.new sink.old sink.new (fault_key y) }
 {
-    begin_triangle(draft, sink, 562, y + 10);
+    begin_cross(draft, sink, 562, y + 2);
     draft.put(sink, b"/>\n");
-    put_label(draft, sink, b"o", 574, y + 10, b"refused");
+    put_label(draft, sink, b"o", 576, y + 10, b"fault");
 }
 
-// Puts the marks with their words.
-fn put_marks_key<O: Sink>(draft: &mut Draft, sink: &mut O, y: u32)
-    requires { y ≤ 200000 }
-    ensures { Puts O.taken O.faults draft.old draft.new sink.old sink.new (marks_key y) }
+// Puts a rule with its letter.
+fn put_rule_key<O: Sink>(draft: &mut Draft, sink: &mut O, x: u32, y: u32, rule: Rule, word: &[u8])
+    requires x { x ≤ 10000 }
+    requires y { y ≤ 200000 }
+    requires word { length word.now ≤ 4096 }
+    ensures { Puts O.taken O.faults draft.old draft.new sink.old sink.new (rule_key x y rule word.now) }
 {
-    put_refused_key(draft, sink, y);
-    begin_cross(draft, sink, 648, y + 2);
-    draft.put(sink, b"/>\n");
-    put_label(draft, sink, b"o", 662, y + 10, b"fault");
+    begin_label(draft, sink, b"x", x, y + 10);
+    draft.put(sink, &[rule_letter(rule)]);
+    draft.put(sink, b"</text>\n");
+    put_label(draft, sink, b"o", x + 8, y + 10, word);
+}
+
+// Puts the rules of turns.
+fn put_turns_key<O: Sink>(draft: &mut Draft, sink: &mut O, y: u32)
+    requires { y ≤ 200000 }
+    ensures { Puts O.taken O.faults draft.old draft.new sink.old sink.new (turns_key y) }
+{
+    put_rule_key(draft, sink, 88, y, Rule::MinGreen, b"minimum green");
+    put_rule_key(draft, sink, 204, y, Rule::MinRed, b"minimum red");
+    put_rule_key(draft, sink, 306, y, Rule::Conflict, b"conflict");
+    put_rule_key(draft, sink, 386, y, Rule::Intergreen, b"intergreen");
+    put_rule_key(draft, sink, 480, y, Rule::Sequence, b"sequence");
+}
+
+// Puts the rules of stage commands.
+fn put_commands_key<O: Sink>(draft: &mut Draft, sink: &mut O, y: u32)
+    requires { y ≤ 200000 }
+    ensures { Puts O.taken O.faults draft.old draft.new sink.old sink.new (commands_key y) }
+{
+    put_rule_key(draft, sink, 568, y, Rule::Running, b"interstage runs");
+    put_rule_key(draft, sink, 698, y, Rule::WrongStage, b"wrong stage");
+    put_rule_key(draft, sink, 800, y, Rule::NoInterstage, b"no interstage");
+}
+
+// Puts the rules with their letters.
+fn put_rules_key<O: Sink>(draft: &mut Draft, sink: &mut O, y: u32)
+    requires { y ≤ 200000 }
+    ensures { Puts O.taken O.faults draft.old draft.new sink.old sink.new (rules_key y) }
+{
+    put_label(draft, sink, b"o", 12, y + 10, b"refused:");
+    put_turns_key(draft, sink, y);
+    put_commands_key(draft, sink, y);
 }
 
 // Puts the ticks of fronts with their word.
@@ -68,19 +103,20 @@ fn put_fronts_key<O: Sink>(draft: &mut Draft, sink: &mut O, y: u32)
     requires { y ≤ 200000 }
     ensures { Puts O.taken O.faults draft.old draft.new sink.old sink.new (fronts_key y) }
 {
-    put_upright(draft, sink, b"t", 724, (y + 6, y + 12));
-    put_upright(draft, sink, b"t", 732, (y + 3, y + 12));
-    put_upright(draft, sink, b"t", 740, (y, y + 12));
-    put_label(draft, sink, b"o", 750, y + 10, b"1, 2, more fronts");
+    put_upright(draft, sink, b"t", 638, (y + 6, y + 12));
+    put_upright(draft, sink, b"t", 646, (y + 3, y + 12));
+    put_upright(draft, sink, b"t", 654, (y, y + 12));
+    put_label(draft, sink, b"o", 664, y + 10, b"1, 2, more fronts");
 }
 
 /// Puts the legend at this height.
 pub fn put_legend<O: Sink>(draft: &mut Draft, sink: &mut O, y: u32)
-    requires { y ≤ 200000 }
+    requires { y ≤ 100000 }
     ensures { Puts O.taken O.faults draft.old draft.new sink.old sink.new (legend_text y) }
 {
     put_aspects_key(draft, sink, y);
     put_key(draft, sink, b"i", 436, y, b"interstage");
-    put_marks_key(draft, sink, y);
+    put_fault_key(draft, sink, y);
     put_fronts_key(draft, sink, y);
+    put_rules_key(draft, sink, y + 20);
 }

@@ -1,5 +1,5 @@
-//! A signal timing diagram as SVG text: the band of stages and interstages, a row for each group with its spans, the fronts of
-//! detectors, and marks for refused commands and faults.
+//! A signal timing diagram as SVG text, in strips of seconds one below the other: the band of stages and interstages, a row for
+//! each group with its spans, the fronts of detectors, and marks for refused commands and faults.
 //!
 //! `specs/Diagram` has the whole text, piece by piece over `specs/Svg`, `specs/Axis`, `specs/Band` and `specs/Marks`.
 #![tactic(auto)]
@@ -19,6 +19,8 @@ mod row;
 pub use band::put_place;
 pub use diagram::{Diagram, put_diagram};
 pub use fronts::FrontMark;
-pub use layout::Layout;
-pub use marks::{FaultMark, RefusalMark, Refused, fault_name, put_fault, put_refused};
-pub use row::put_row;
+pub use layout::{Layout, Sheet};
+pub use marks::{
+    FaultMark, RefusalMark, Refused, fault_name, is_of, put_fault, put_refused, rule_letter,
+    rule_of,
+};

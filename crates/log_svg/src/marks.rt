@@ -1,14 +1,14 @@
 // The marks of refused commands and of faults.
-ghost use Rattle.std.specs.Prelude.{◌≡◌, ◌+◌, ◌-◌, ◌*◌, ◌/◌, ◌^◌, ◌<◌, ◌≤◌, ◌++◌, ℕ, List, Option, All, Some, length};
+ghost use Rattle.std.specs.Prelude.{◌≡◌, ◌+◌, ◌-◌, ◌*◌, ◌/◌, ◌^◌, ◌<◌, ◌≤◌, ◌++◌, ℕ, List, Option, All, IsTrue, Some, length};
 ghost use Rattle.std.specs.Option.{ForSome};
 ghost use Rattle.sig_io.specs.Draft.{Puts};
 ghost use Rattle.signal_log.specs.Log.{fault_name, fault_text, name_of, other_of, other_text, stage_refusal_text, turn_text};
 ghost use Rattle.log_svg.specs.Layout.{IsLayout};
-ghost use Rattle.log_svg.specs.Marks.{IsFaultIn, IsMarked, IsRefused, mark_y};
-ghost use Rattle.log_svg.specs.Marks.{fault_mark_text, faults_text, refusal_text, refusals_text, title_begin, words_text};
+ghost use Rattle.log_svg.specs.Marks.{IsRefused, close_text, is_marked, is_of, is_open, mark_text, marks_text, open_after};
+ghost use Rattle.log_svg.specs.Marks.{fault_mark_text, faults_text, open_text, rule_letter, rule_of, seen_fault, told_line, next_mark, words_text};
 
-use crate::layout::{Layout, middle_of};
-use crate::pieces::{begin_cross, begin_triangle};
+use crate::layout::{Layout, has_second, middle_of};
+use crate::pieces::{begin_cross, begin_label};
 use sig_io::{Draft, Sink};
 use sig_types::{Fault, FaultKind, GroupNo, Rule, ShortName, StageRefusal, TurnRefusal};
 use signal_log::rule_name;
@@ -40,15 +40,45 @@ pub struct FaultMark {
     pub fault: Fault,
 }
 
-// Where a mark's tip stands: at the top of the group's bars, or of the band.
-fn mark_y(top: u32, refused: Refused) -> u32
-    requires { (24 ≤ top) × (top ≤ 1000) }
-    ensures y { result ≡ mark_y top refused }
-    ensures fits { result ≤ 10000 }
+/// The letter of a rule: a large one of a turn, a small one of a stage command.
+pub fn rule_letter(rule: Rule) -> u8
+    ensures { result ≡ rule_letter rule }
+{
+    match rule {
+        Rule::Sequence => b'S',
+        Rule::MinGreen => b'G',
+        Rule::MinRed => b'R',
+        Rule::Conflict => b'C',
+        Rule::Intergreen => b'I',
+        Rule::Running => b'r',
+        Rule::WrongStage => b'w',
+        Rule::NoInterstage => b'n',
+    }
+}
+
+/// The rule by which a command was refused.
+pub fn rule_of(refused: Refused) -> Rule
+    ensures { result ≡ rule_of refused }
 {
     match refused {
-        Refused::Turn(turn) => top + u32::from(turn.group.0) * 20 + 6,
-        Refused::Command(_) => top - 24,
+        Refused::Command(refusal) => refusal.rule,
+        Refused::Turn(turn) => turn.rule,
+    }
+}
+
+/// Whether it is a refused stage command where no group is asked for, and else a refused turn of the group.
+pub fn is_of(group: Option<GroupNo>, refused: Refused) -> bool
+    ensures { result ≡ is_of group refused }
+{
+    match group {
+        None => match refused {
+            Refused::Command(_) => true,
+            Refused::Turn(_) => false,
+        },
+        Some(group) => match refused {
+            Refused::Command(_) => false,
+            Refused::Turn(turn) => turn.group.0 == group.0,
+        },
     }
 }
 
@@ -123,53 +153,142 @@ pub fn put_refused<O: Sink>(draft: &mut Draft, sink: &mut O, names: &[ShortName]
     }
 }
 
-// Puts the beginning of what is told of a mark where one points at it.
-fn begin_title<O: Sink>(draft: &mut Draft, sink: &mut O, second: u32)
-    ensures { Puts O.taken O.faults draft.old draft.new sink.old sink.new (title_begin second) }
+// Whether the last mark of a row is of this second.
+fn is_open(last: Option<u32>, second: u32) -> bool
+    ensures { result ≡ is_open last second }
 {
-    draft.put(sink, b"><title>");
-    draft.put_number(sink, second);
+    match last {
+        None => false,
+        Some(open) => open == second,
+    }
 }
 
-// Puts the mark of a refused command, with its words.
-fn put_refusal<O: Sink>(
+// Puts the end of the last mark, where there is one.
+fn close_mark<O: Sink>(draft: &mut Draft, sink: &mut O, last: Option<u32>)
+    ensures { Puts O.taken O.faults draft.old draft.new sink.old sink.new (close_text last) }
+{
+    match last {
+        None => {}
+        Some(_) => draft.put(sink, b"</title></text>\n"),
+    }
+}
+
+// Puts the beginning of a mark at this height.
+fn open_mark<O: Sink>(draft: &mut Draft, sink: &mut O, layout: Layout, y: u32, mark: &RefusalMark)
+    requires layout { IsLayout layout }
+    requires second { (layout.from ≤ mark.now.second) × (mark.now.second ≤ layout.to) }
+    ensures { Puts O.taken O.faults draft.old draft.new sink.old sink.new (open_text layout y mark.now) }
+{
+    begin_label(draft, sink, b"x", middle_of(layout, mark.second), y);
+    draft.put(sink, &[rule_letter(rule_of(mark.refused))]);
+    draft.put(sink, b"<title>");
+    draft.put_number(sink, mark.second);
+    draft.put(sink, b" refused");
+}
+
+// Puts the beginning of a mark, where the last one is of another second.
+fn next_mark<O: Sink>(
     draft: &mut Draft,
     sink: &mut O,
-    names: &[ShortName],
     layout: Layout,
-    top: u32,
+    y: u32,
+    last: Option<u32>,
     mark: &RefusalMark,
 )
     requires layout { IsLayout layout }
-    requires mark { IsMarked (length names.now) layout mark.now }
-    requires top { (24 ≤ top) × (top ≤ 1000) }
-    ensures { Puts O.taken O.faults draft.old draft.new sink.old sink.new (refusal_text names.now layout top mark.now) }
+    requires second { (layout.from ≤ mark.now.second) × (mark.now.second ≤ layout.to) }
+    ensures { Puts O.taken O.faults draft.old draft.new sink.old sink.new (next_mark layout y last mark.now) }
 {
-    let tip = mark_y(top, mark.refused);
-    begin_triangle(draft, sink, middle_of(layout, mark.second), tip);
-    begin_title(draft, sink, mark.second);
-    draft.put(sink, b" refused ");
-    put_refused(draft, sink, names, mark.refused);
-    draft.put(sink, b"</title></path>\n");
+    if !is_open(last, mark.second) {
+        close_mark(draft, sink, last);
+        open_mark(draft, sink, layout, y, mark);
+    }
 }
 
-/// Puts the marks of refused commands over the rows of groups that begin at `top`.
-pub fn put_refusals<O: Sink>(
+// Puts the line that tells of a refusal, in the mark of its second.
+fn put_line<O: Sink>(
     draft: &mut Draft,
     sink: &mut O,
-    names: &[ShortName],
     layout: Layout,
-    top: u32,
+    names: &[ShortName],
+    y: u32,
+    last: Option<u32>,
+    mark: &RefusalMark,
+)
+    requires layout { IsLayout layout }
+    requires second { (layout.from ≤ mark.now.second) × (mark.now.second ≤ layout.to) }
+    requires groups { IsRefused (length names.now) mark.now.refused }
+    ensures { Puts O.taken O.faults draft.old draft.new sink.old sink.new (told_line names.now layout y last mark.now) }
+{
+    next_mark(draft, sink, layout, y, last, mark);
+    draft.put(sink, b"\n");
+    put_refused(draft, sink, names, mark.refused);
+}
+
+// Whether a refusal stands in the row of this group, or in that of the stages, and the strip has its second.
+fn is_marked(layout: Layout, group: Option<GroupNo>, mark: &RefusalMark) -> bool
+    ensures marked { result ≡ is_marked layout group mark.now }
+    ensures second { IsTrue result → (layout.from ≤ mark.now.second) × (mark.now.second ≤ layout.to) }
+{
+    is_of(group, mark.refused) && has_second(layout, mark.second)
+}
+
+// Puts what a refusal adds to the marks of a row, where it stands in it.
+fn put_mark<O: Sink>(
+    draft: &mut Draft,
+    sink: &mut O,
+    layout: Layout,
+    names: &[ShortName],
+    group: Option<GroupNo>,
+    y: u32,
+    last: Option<u32>,
+    mark: &RefusalMark,
+)
+    requires layout { IsLayout layout }
+    requires groups { IsRefused (length names.now) mark.now.refused }
+    ensures { Puts O.taken O.faults draft.old draft.new sink.old sink.new (mark_text names.now layout group y last mark.now) }
+{
+    if is_marked(layout, group, mark) {
+        put_line(draft, sink, layout, names, y, last, mark);
+    }
+}
+
+// The second of the last mark of a row behind a refusal.
+fn open_after(
+    layout: Layout,
+    group: Option<GroupNo>,
+    last: Option<u32>,
+    mark: &RefusalMark,
+) -> Option<u32>
+    ensures { result ≡ open_after layout group last mark.now }
+{
+    if is_marked(layout, group, mark) {
+        Some(mark.second)
+    } else {
+        last
+    }
+}
+
+/// Puts the marks of refused stage commands, or of the refused turns of a group: one for each second.
+pub fn put_marks<O: Sink>(
+    draft: &mut Draft,
+    sink: &mut O,
+    layout: Layout,
+    names: &[ShortName],
+    group: Option<GroupNo>,
+    y: u32,
     marks: &[RefusalMark],
 )
     requires layout { IsLayout layout }
-    requires marks { All (IsMarked (length names.now) layout) marks.now }
-    requires top { (24 ≤ top) × (top ≤ 1000) }
-    ensures { Puts O.taken O.faults draft.old draft.new sink.old sink.new (refusals_text names.now layout top marks.now) }
+    requires groups { All (λ m. IsRefused (length names.now) m.refused) marks.now }
+    ensures { Puts O.taken O.faults draft.old draft.new sink.old sink.new (marks_text names.now layout group y marks.now) }
 {
+    let mut last = None;
     for mark in marks {
-        put_refusal(draft, sink, names, layout, top, mark);
+        put_mark(draft, sink, layout, names, group, y, last, mark);
+        last = open_after(layout, group, last, mark);
     }
+    close_mark(draft, sink, last);
 }
 
 /// The name of a kind of fault.
@@ -204,15 +323,33 @@ fn put_fault_mark<O: Sink>(
     mark: &FaultMark,
 )
     requires layout { IsLayout layout }
-    requires mark { IsFaultIn layout mark.now }
+    requires mark { (layout.from ≤ mark.now.second) × (mark.now.second ≤ layout.to) }
     requires y { y ≤ 100000 }
     ensures { Puts O.taken O.faults draft.old draft.new sink.old sink.new (fault_mark_text layout y mark.now) }
 {
-    begin_cross(draft, sink, middle_of(layout, mark.second) - 4, y + 3);
-    begin_title(draft, sink, mark.second);
+    begin_cross(draft, sink, middle_of(layout, mark.second) - 4, y + 5);
+    draft.put(sink, b"><title>");
+    draft.put_number(sink, mark.second);
     draft.put(sink, b" fault ");
     put_fault(draft, sink, mark.fault);
     draft.put(sink, b"</title></path>\n");
+}
+
+// Puts the mark of a fault where its second is in the strip.
+fn put_seen_fault<O: Sink>(
+    draft: &mut Draft,
+    sink: &mut O,
+    layout: Layout,
+    y: u32,
+    mark: &FaultMark,
+)
+    requires layout { IsLayout layout }
+    requires y { y ≤ 100000 }
+    ensures { Puts O.taken O.faults draft.old draft.new sink.old sink.new (seen_fault layout y mark.now) }
+{
+    if has_second(layout, mark.second) {
+        put_fault_mark(draft, sink, layout, y, mark);
+    }
 }
 
 /// Puts the marks of faults, in a row at this height.
@@ -224,11 +361,10 @@ pub fn put_faults<O: Sink>(
     marks: &[FaultMark],
 )
     requires layout { IsLayout layout }
-    requires marks { All (IsFaultIn layout) marks.now }
     requires y { y ≤ 100000 }
     ensures { Puts O.taken O.faults draft.old draft.new sink.old sink.new (faults_text layout y marks.now) }
 {
     for mark in marks {
-        put_fault_mark(draft, sink, layout, y, mark);
+        put_seen_fault(draft, sink, layout, y, mark);
     }
 }

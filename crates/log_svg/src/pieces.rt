@@ -2,7 +2,7 @@
 ghost use Rattle.std.specs.Prelude.{◌+◌, ◌*◌, ◌^◌, ◌<◌, ◌≤◌, ◌++◌, ℕ, List, Option, length};
 ghost use Rattle.std.specs.Fmt.{decimal};
 ghost use Rattle.sig_io.specs.Draft.{Puts};
-ghost use Rattle.log_svg.specs.Svg.{across_text, attribute_text, box_text, cross_text, label_begin, label_text, path_begin, triangle_text, upright_text};
+ghost use Rattle.log_svg.specs.Svg.{across_text, attribute_text, box_begin, box_text, cross_text, label_begin, label_text, path_begin, upright_text};
 
 use sig_io::{Draft, Sink};
 
@@ -18,7 +18,28 @@ pub fn put_attribute<O: Sink>(draft: &mut Draft, sink: &mut O, name: &[u8], n: u
     draft.put(sink, b"\"");
 }
 
-/// Puts a box of a class, by its upper left corner, its width and its height.
+/// Puts the beginning of a box of a class, by its upper left corner, its width and its height.
+pub fn begin_box<O: Sink>(
+    draft: &mut Draft,
+    sink: &mut O,
+    class: &[u8],
+    corner: (u32, u32),
+    width: u32,
+    height: u32,
+)
+    requires { length class.now ≤ 4096 }
+    ensures { Puts O.taken O.faults draft.old draft.new sink.old sink.new (box_begin class.now corner.0 corner.1 width height) }
+{
+    draft.put(sink, b"<rect class=\"");
+    draft.put(sink, class);
+    draft.put(sink, b"\"");
+    put_attribute(draft, sink, b"x", corner.0);
+    put_attribute(draft, sink, b"y", corner.1);
+    put_attribute(draft, sink, b"width", width);
+    put_attribute(draft, sink, b"height", height);
+}
+
+/// Puts a box of which nothing more is told.
 pub fn put_box<O: Sink>(
     draft: &mut Draft,
     sink: &mut O,
@@ -30,13 +51,7 @@ pub fn put_box<O: Sink>(
     requires { length class.now ≤ 4096 }
     ensures { Puts O.taken O.faults draft.old draft.new sink.old sink.new (box_text class.now corner.0 corner.1 width height) }
 {
-    draft.put(sink, b"<rect class=\"");
-    draft.put(sink, class);
-    draft.put(sink, b"\"");
-    put_attribute(draft, sink, b"x", corner.0);
-    put_attribute(draft, sink, b"y", corner.1);
-    put_attribute(draft, sink, b"width", width);
-    put_attribute(draft, sink, b"height", height);
+    begin_box(draft, sink, class, corner, width, height);
     draft.put(sink, b"/>\n");
 }
 
@@ -121,15 +136,6 @@ pub fn put_upright<O: Sink>(draft: &mut Draft, sink: &mut O, class: &[u8], x: u3
     draft.put(sink, b"V");
     draft.put_number(sink, ends.1);
     draft.put(sink, b"\"/>\n");
-}
-
-/// Puts a triangle with this tip, up to the end of its outline.
-pub fn begin_triangle<O: Sink>(draft: &mut Draft, sink: &mut O, x: u32, y: u32)
-    ensures { Puts O.taken O.faults draft.old draft.new sink.old sink.new (triangle_text x y) }
-{
-    begin_path(draft, sink, b"x", x);
-    draft.put_number(sink, y);
-    draft.put(sink, b"l3 -6h-6z\"");
 }
 
 /// Puts a cross with this corner, up to the end of its outline.

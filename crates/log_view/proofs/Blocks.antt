@@ -1,7 +1,5 @@
 -- The texts of a diagram of characters, one part more.
-use Rattle.std.proofs.Common.{◌≡◌, ◌∙◌, ℕ, suc, ◌+◌, ◌<◌, ◌≤◌, List, [], ◌∷◌, ◌++◌, length, replicate, refl, sym, ap, arith, add-one, append_assoc, Option}
-use Rattle.std.specs.Fmt.{decimal}
-use Rattle.std.proofs.lemmas.Fmt.{length-decimal-le}
+use Rattle.std.proofs.Common.{◌≡◌, ◌∙◌, ℕ, suc, ◌+◌, List, [], ◌∷◌, ◌++◌, replicate, refl, sym, ap, arith, add-one, append_assoc, Option}
 use Rattle.std.proofs.lemmas.List.{replicate-append-replicate}
 use Rattle.sig_io.specs.Draft.{Held, Puts}
 use Rattle.sig_io.proofs.Drafts.{same_put, then}

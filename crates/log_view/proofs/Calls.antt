@@ -8,7 +8,7 @@ use Rattle.log_view.specs.declared.form.Window.{Window}
 use Rattle.log_view.specs.declared.stop.Stop.{Stop}
 use Rattle.log_view.specs.declared.stop.Stop.TheVariants.{Memory, Words, TooManySeconds, ReadFault, WriteFault, Line, LogEnds}
 use Rattle.log_view.specs.Call.{IsAnswered, IsStopped, IsTextOf, IsWritten}
-use Rattle.log_view.specs.Form.{Asked, Diagram, Help, Sums, Text, Version, form_of, window_from, window_of, window_to, with_window}
+use Rattle.log_view.specs.Form.{Asked, Diagram, Help, Sums, Text, Version, form_of, strip_by, strip_form, strip_of, strips_form, window_from, window_of, window_to, with_window}
 
 -- a text that is asked for, and is written
 pub answered : (asked : Asked) (file : Contents) (text : List ℕ) (given : Result (Unit {0}) Stop) (old new : Option (List ℕ)) → IsTextOf asked file text → IsWritten text given old new →
@@ -46,6 +46,22 @@ by_window : (make : Window → Asked) (window : Result Window Stop) → IsByWord
 by_window make (Ok window) is = tt
 by_window make (Err stop) is = is
 
+by_strip : (log : List ℕ) (window : Window) (strip : Result ℕ Stop) → IsByWords strip → IsByWords (strip_form log window strip)
+by_strip log window (Ok strip) is = tt
+by_strip log window (Err stop) is = is
+
+by_strips : (log : List ℕ) (window : Result Window Stop) (strip : Result ℕ Stop) → IsByWords window → IsByWords strip → IsByWords (strips_form log window strip)
+by_strips log (Ok window) strip is of_strip = by_strip log window strip of_strip
+by_strips log (Err stop) strip is of_strip = is
+
+strip_said : (strip : Option ℕ) → IsByWords (strip_by strip)
+strip_said None = tt
+strip_said (Some strip) = tt
+
+by_option : (option value : List ℕ) → IsByWords (strip_of option value)
+by_option option value =
+    chosen (bytes_eq option (codes "--strip")) (strip_by (within 30 600 (number_of value))) (Err Words) (strip_said (within 30 600 (number_of value))) tt
+
 pub by_words : (words : List (List ℕ)) → IsByWords (form_of words)
 by_words [] = tt
 by_words (a ∷ []) = chosen (bytes_eq a (codes "--help")) (Ok Help) (if bytes_eq a (codes "--version") then Ok Version else Err Words) tt
@@ -54,7 +70,12 @@ by_words (a ∷ b ∷ []) = chosen (bytes_eq a (codes "sums")) (Ok (Sums b)) (Er
 by_words (a ∷ b ∷ c ∷ []) = tt
 by_words (a ∷ b ∷ c ∷ d ∷ []) =
     let window = by_to d (within 1 604801 (number_of c)) in
-    chosen (bytes_eq a (codes "diagram")) (with_window (Diagram b) (window_of c d)) (if bytes_eq a (codes "text") then with_window (Text b) (window_of c d) else Err Words)
-    (by_window (Diagram b) (window_of c d) window)
+    chosen (bytes_eq a (codes "diagram")) (with_window (λ w. Diagram b w 120) (window_of c d)) (if bytes_eq a (codes "text") then with_window (Text b) (window_of c d) else Err Words)
+    (by_window (λ w. Diagram b w 120) (window_of c d) window)
     (chosen (bytes_eq a (codes "text")) (with_window (Text b) (window_of c d)) (Err Words) (by_window (Text b) (window_of c d) window) tt)
-by_words (a ∷ b ∷ c ∷ d ∷ e ∷ words) = tt
+by_words (a ∷ b ∷ c ∷ d ∷ e ∷ []) = tt
+by_words (a ∷ b ∷ c ∷ d ∷ e ∷ f ∷ []) =
+    let window = by_to d (within 1 604801 (number_of c)) in
+    chosen (bytes_eq a (codes "diagram")) (strips_form b (window_of c d) (strip_of e f)) (Err Words)
+    (by_strips b (window_of c d) (strip_of e f) window (by_option e f)) tt
+by_words (a ∷ b ∷ c ∷ d ∷ e ∷ f ∷ g ∷ words) = tt

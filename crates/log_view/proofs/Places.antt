@@ -1,6 +1,6 @@
 -- The sums of stages and interstages, in a second more.
 use Rattle.std.proofs.Common.{◌≡◌, ◌∙◌, ℕ, ◌+◌, ◌<◌, ◌≤◌, List, [], ◌∷◌, ◌++◌, length, get_or, set, refl, sym, ap, arith, inl, inr, subst, length-append}
-use Rattle.std.specs.Prelude.{All, Contains, map}
+use Rattle.std.specs.Prelude.{All, Contains}
 use Rattle.std.specs.List.{sum_by}
 use Rattle.std.specs.List.Sorted.{IsPermutation}
 use Rattle.std.proofs.lemmas.Bool.{cases_eq, cases_lt}
@@ -13,7 +13,7 @@ use Rattle.sig_types.specs.declared.numbers.StagePlace.{StagePlace}
 use Rattle.log_chart.specs.Stays.{Stay}
 use Rattle.log_view.specs.declared.sums.PlaceSum.{PlaceSum}
 use Rattle.log_view.specs.Adding.{AreApart, IsFirst, IsPlaceAdded, IsPlaceTally, IsRaised}
-use Rattle.log_view.specs.Summed.{AreInOrder, CameBefore, HasPlace, IsPlaceSum, shown_by, stay_seconds}
+use Rattle.log_view.specs.Summed.{AreInOrder, HasPlace, IsPlaceSum, shown_by, stay_seconds}
 use Rattle.log_view.proofs.Tallies.{before_last, before_more}
 
 all_one : {A : Type 0} (P : A → Type 0) (x : A) → P x → All P (x ∷ [])

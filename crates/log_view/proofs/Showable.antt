@@ -1,27 +1,20 @@
 -- What is drawn of records that lines say can be shown.
-use Rattle.std.proofs.Common.{◌≡◌, ℕ, suc, zero, ◌+◌, ◌-◌, ◌*◌, ◌<◌, ◌≤◌, List, [], ◌∷◌, length, get_or, take, drop, map, Option, None, Some, refl, arith, inl, inr, ne_eqb, length-append}
+use Rattle.std.proofs.Common.{◌≡◌, ℕ, suc, zero, ◌+◌, ◌-◌, ◌*◌, ◌<◌, ◌≤◌, List, [], ◌∷◌, length, get_or, take, drop, refl, arith, inl, inr, length-append}
 use Rattle.std.specs.List.{All, flat_map}
 use Rattle.std.proofs.lemmas.Bool.{cases_eq}
-use Rattle.std.proofs.lemmas.List.{length-map, length-take}
 use Rattle.std.proofs.lemmas.List.Elements.{All-append, All-map}
 use Rattle.sig_types.specs.declared.record.Record.{Record}
-use Rattle.sig_types.specs.declared.refused.Fault.{Fault}
 use Rattle.sig_types.specs.declared.refused.StageRefusal.{StageRefusal}
 use Rattle.sig_types.specs.declared.refused.TurnRefusal.{TurnRefusal}
-use Rattle.log_chart.specs.Spans.{AreSpans}
-use Rattle.log_chart.proofs.Tells.{row_is_short}
 use Rattle.log_svg.specs.declared.diagram.Diagram.{Diagram}
-use Rattle.log_svg.specs.declared.layout.Layout.{Layout}
-use Rattle.log_svg.specs.declared.marks.RefusalMark.{RefusalMark}
 use Rattle.log_svg.specs.declared.marks.Refused.TheVariants.{Command, Turn}
 use Rattle.log_svg.specs.Diagram.{IsShowable}
-use Rattle.log_svg.specs.Layout.{layout_of}
-use Rattle.log_svg.specs.Marks.{IsFaultIn, IsFrontIn, IsMarked}
+use Rattle.log_svg.specs.Marks.{IsRefused}
 use Rattle.log_svg.specs.ShownIn.{shown_in}
 use Rattle.log_view.specs.declared.form.Window.{Window}
 use Rattle.log_view.specs.Drawn.{AreSaid, IsDrawn}
 use Rattle.log_view.specs.Form.{IsWindow}
-use Rattle.log_view.specs.Gathered.{fault_by, faults_in, front_by, fronts_from, fronts_in, history_of, places_of, refusals_in, window_in}
+use Rattle.log_view.specs.Gathered.{history_of, refusals_in, window_in}
 use Rattle.log_view.proofs.Ranges.{AreFew, IsRanged, ranged}
 
 none_of : {A : Type 0} (P : A → Type 0) → All P []
@@ -93,30 +86,14 @@ window_ranged names records from to least order said =
     let last : from + (to + 1 - from) - 1 ≡ to = omega arith in
     rw last at (ranged_take (length names) from (to + 1 - from) (drop (from - 1) records) (rw first at (ranged_from (length names) (from - 1) 1 records all)))
 
--- the marks of a record
-fronts_ok : (layout : Layout) (s d : ℕ) (cs : List (ℕ × ℕ)) → layout.from ≤ s → s ≤ layout.to → 1 ≤ d → d + length cs ≤ 65 → All (IsFrontIn layout) (fronts_from s d cs)
-fronts_ok layout s d [] begin end least most = none_of (IsFrontIn layout)
-fronts_ok layout s d (c ∷ cs) begin end least most =
-    All-append (IsFrontIn layout) (front_by s d c.0) (fronts_from s (d + 1) cs) (front_ok c.0) (fronts_ok layout s (d + 1) cs begin end (omega arith) (omega (arith, most)))
-  where
-    front_ok : (fronts : ℕ) → All (IsFrontIn layout) (front_by s d fronts)
-    front_ok fronts = elim (cases_eq fronts 0) [
-      | inl none ↦ rw none (none_of (IsFrontIn layout))
-      | inr some ↦ rw (ne_eqb fronts 0 some)
-          (one_of (IsFrontIn layout) (record { second = s; detector = record { 0 = d }; fronts = fronts }) record { begin = begin; end = end; least = least; most = omega (arith, most) })
-    ]
-
-fault_ok : (layout : Layout) (s : ℕ) (fault : Option Fault) → layout.from ≤ s → s ≤ layout.to → All (IsFaultIn layout) (fault_by s fault)
-fault_ok layout s None begin end = none_of (IsFaultIn layout)
-fault_ok layout s (Some f) begin end = one_of (IsFaultIn layout) _ (begin, end)
-
-refusals_ok : (n : ℕ) (layout : Layout) (r : Record) → layout.from ≤ r.second.0 → r.second.0 ≤ layout.to → AreFew n (r.stages, r.turns) → All (IsMarked n layout) (refusals_in r)
-refusals_ok n layout r begin end few =
-    All-append (IsMarked n layout) _ _
-    (All-map (IsMarked n layout) (λ (x : StageRefusal). record { second = r.second.0; refused = Command x }) r.stages
-    (λ i d lt. record { begin = begin; end = end; groups_are = tt }))
-    (All-map (IsMarked n layout) (λ (x : TurnRefusal). record { second = r.second.0; refused = Turn x }) r.turns
-    (λ i d lt. record { begin = begin; end = end; groups_are = few.groups i d lt }))
+-- the refused turns of a record are of groups that there are
+refusals_ok : (n : ℕ) (r : Record) → AreFew n (r.stages, r.turns) → All (λ m. IsRefused n m.refused) (refusals_in r)
+refusals_ok n r few =
+    All-append (λ m. IsRefused n m.refused) _ _
+    (All-map (λ m. IsRefused n m.refused) (λ (x : StageRefusal). record { second = r.second.0; refused = Command x }) r.stages
+    (λ i d lt. tt))
+    (All-map (λ m. IsRefused n m.refused) (λ (x : TurnRefusal). record { second = r.second.0; refused = Turn x }) r.turns
+    (λ i d lt. few.groups i d lt))
 
 -- a diagram of a whole window can be shown
 pub showable : (names : List (List ℕ)) (records : List Record) (window : Window) (d : Diagram) → IsWindow window → length names ≤ 64 → AreSaid names records → window.to ≤ length records →
@@ -124,22 +101,15 @@ pub showable : (names : List (List ℕ)) (records : List Record) (window : Windo
 showable names records window d is few said long drawn =
     let from = window.from in
     let to = window.to in
-    let layout : Layout = layout_of names from to in
     let past : d.chart.past ≡ to + 1 = omega (arith, drawn.past_is, long, is.order) in
     let inside = window_ranged names records from to is.least is.order said in
-    let stays : AreSpans (places_of records) from (to + 1) d.stays.items = rw past at (drawn.stays (places_of records) (λ t le. refl)) in
-    rw (drawn.names_are, drawn.from_is, drawn.to_is, drawn.fronts, drawn.refusals, drawn.faults) record {
+    rw (drawn.names_are, drawn.from_is, drawn.to_is, drawn.refusals) record {
       order = is.order;
       hour = is.hour;
       last = omega (arith, is.last);
       few = few;
       history = history_of (length names) records;
       chart = rw past at (drawn.chart (history_of (length names) records) (λ t le. refl));
-      stays = λ i s lt. let each = stays.each i s lt in record { begin = each.begin; order = each.order; end = omega (arith, each.end) };
-      fronts = all_added (IsFrontIn layout) fronts_in (window_in from to records) (λ i r lt. let each = inside i r lt in
-          fronts_ok layout (get_or (window_in from to records) i r).second.0 1 (get_or (window_in from to records) i r).frame each.begin each.end (omega arith) (omega (arith, each.frame)));
-      refusals = all_added (IsMarked (length names) layout) refusals_in (window_in from to records) (λ i r lt. let each = inside i r lt in
-          refusals_ok (length names) layout (get_or (window_in from to records) i r) each.begin each.end each.refused);
-      faults = all_added (IsFaultIn layout) faults_in (window_in from to records) (λ i r lt. let each = inside i r lt in
-          fault_ok layout (get_or (window_in from to records) i r).second.0 (get_or (window_in from to records) i r).fault each.begin each.end);
+      refusals = all_added (λ m. IsRefused (length names) m.refused) refusals_in (window_in from to records) (λ i r lt.
+          refusals_ok (length names) (get_or (window_in from to records) i r) (inside i r lt).refused);
     }

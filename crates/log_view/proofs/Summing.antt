@@ -1,5 +1,5 @@
 -- What is read of a log, and summed.
-use Rattle.std.proofs.Common.{◌≡◌, ◌∙◌, ℕ, ◌+◌, ◌*◌, ◌<◌, ◌≤◌, true, false, List, [], ◌∷◌, ◌++◌, length, get_or, map, Option, Ok, Err, refl, sym, arith, inl, inr, subst, length-append}
+use Rattle.std.proofs.Common.{◌≡◌, ◌∙◌, ℕ, ◌+◌, ◌*◌, ◌<◌, ◌≤◌, true, false, List, [], ◌∷◌, ◌++◌, length, get_or, map, Option, Ok, Err, refl, arith, inl, inr, subst, length-append}
 use Rattle.std.specs.Prelude.{All}
 use Rattle.std.specs.List.{flat_map}
 use Rattle.std.specs.Option.{ForSome}
@@ -8,7 +8,6 @@ use Rattle.std.proofs.lemmas.List.Elements.{All-append, All-map}
 use Rattle.sig_io.specs.Outside.{Contents}
 use Rattle.sig_types.specs.declared.numbers.StagePlace.{StagePlace}
 use Rattle.sig_types.specs.declared.record.Record.{Record}
-use Rattle.sig_types.specs.declared.refused.Fault.{Fault}
 use Rattle.sig_types.specs.declared.refused.StageRefusal.{StageRefusal}
 use Rattle.sig_types.specs.declared.refused.TurnRefusal.{TurnRefusal}
 use Rattle.log_chart.specs.Spans.{AreSpans}
@@ -22,7 +21,6 @@ use Rattle.log_records.specs.Records.{IsEntry}
 use Rattle.log_svg.specs.declared.marks.Refused.{Refused}
 use Rattle.log_svg.specs.declared.marks.Refused.TheVariants.{Command, Turn}
 use Rattle.log_svg.specs.Marks.{IsRefused}
-use Rattle.log_view.specs.declared.sums.FaultTally.{FaultTally}
 use Rattle.log_view.specs.declared.sums.PlaceSum.{PlaceSum}
 use Rattle.log_view.specs.declared.sums.RefusalTally.{RefusalTally}
 use Rattle.log_view.specs.declared.sums.Sums.{Sums}
@@ -31,7 +29,7 @@ use Rattle.log_view.specs.Answers.{IsSumsOf, IsUnsummed}
 use Rattle.log_view.specs.Drawn.{AreSaid}
 use Rattle.log_view.specs.Gathered.{history_of, places_of}
 use Rattle.log_view.specs.Notes.{stop_of}
-use Rattle.log_view.specs.Summed.{AreInOrder, HasPlace, IsPlaceSum, IsSummed, IsTextual, fault_items, fault_tallies, refusal_tallies, refused_in}
+use Rattle.log_view.specs.Summed.{AreInOrder, HasPlace, IsPlaceSum, IsSummed, IsTextual, refusal_tallies, refused_in}
 use Rattle.log_view.proofs.Places.{all_behind, closed_sum}
 use Rattle.log_view.proofs.Ranges.{AreFew, IsRanged, ranged}
 use Rattle.log_view.proofs.Reading.{said_more}

@@ -6,7 +6,7 @@ use Rattle.std.specs.List.Sorted.{IsPermutation}
 use Rattle.std.proofs.lemmas.Bool.{cases_eq, cases_lt}
 use Rattle.std.proofs.lemmas.Grind.{flat_map-append}
 use Rattle.std.proofs.lemmas.List.{drop-set, get_or-set_other, get_or-map, get_or-set_same, get_or_append_left, get_or_default, length-map, length-replicate, length-set, length-take, append_assoc, map-append, map-set, set-get_or, take-append-drop, take-set}
-use Rattle.std.proofs.lemmas.List.Elements.{All-append, All-map, All-replicate, All-set, Contains-append_left, Contains-append_right, Contains-get_or}
+use Rattle.std.proofs.lemmas.List.Elements.{All-append, All-map, All-replicate, All-set, Contains-append_left, Contains-append_right}
 use Rattle.std.proofs.lemmas.List.Sorted.{IsPermutation-append_left, IsPermutation-cons, IsPermutation-middle, IsPermutation-refl, IsPermutation-sym, IsPermutation-to_front, IsPermutation-trans, All-permutation, Contains-permutation, length_permutation}
 use Rattle.std.proofs.Math.Seq.{get_or-append_seam}
 use Rattle.log_view.specs.Summed.{AreTallies, CameBefore}

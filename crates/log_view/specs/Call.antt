@@ -22,7 +22,7 @@ use Rattle.log_view.specs.SumsText.{sums_text}
 -- how it is called
 unfoldable pub usage_text : List ℕ
 usage_text =
-    codes "log_report diagram LOG FROM TO   an SVG signal timing diagram of these seconds, at most 3600\n"
+    codes "log_report diagram LOG FROM TO [--strip N]\n                                 an SVG signal timing diagram of these seconds, at most 3600, in strips of N (120)\n"
     ++ codes "log_report text LOG FROM TO      the same as characters\n"
     ++ codes "log_report sums LOG              what groups, stages, refusals, faults and detectors add up to\n"
     ++ codes "log_report breaches LOG PUA TIMES INTERGREENS [--amber-tolerance N] [--csv]\n                                 each breach of the rules by any controller, in words or as a table\n"
@@ -38,7 +38,7 @@ version_text = codes "log_report 0.1.0\n"
 abbrev pub IsTextOf : Asked → Contents → List ℕ → Type 0
 IsTextOf Help file text = text ≡ usage_text
 IsTextOf Version file text = text ≡ version_text
-IsTextOf (Diagram log window) file text = (d : Drawn) × IsDiagramOf (file log) window d × (text ≡ diagram_text (shown_in d))
+IsTextOf (Diagram log window strip) file text = (d : Drawn) × IsDiagramOf (file log) window d × (text ≡ diagram_text (shown_in d) strip)
 IsTextOf (Text log window) file text = (d : Drawn) × IsDiagramOf (file log) window d × (text ≡ letters_text (shown_in d))
 IsTextOf (Sums log) file text = (s : Summed) × IsSumsOf (file log) s × (text ≡ sums_text s)
 
@@ -46,7 +46,7 @@ IsTextOf (Sums log) file text = (s : Summed) × IsSumsOf (file log) s × (text �
 abbrev pub HasNoText : Asked → Contents → Stop → Type 0
 HasNoText Help file stop = ⊥
 HasNoText Version file stop = ⊥
-HasNoText (Diagram log window) file stop = IsUndrawn (file log) window.to stop
+HasNoText (Diagram log window strip) file stop = IsUndrawn (file log) window.to stop
 HasNoText (Text log window) file stop = IsUndrawn (file log) window.to stop
 HasNoText (Sums log) file stop = IsUnsummed (file log) stop
 

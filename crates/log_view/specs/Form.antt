@@ -13,11 +13,11 @@ pub record IsWindow (window : Window) : Type 0 where
   pub hour : window.to < window.from + 3600
   pub last : window.to ≤ 604801
 
--- what is asked for: the usage, the version, a picture of some seconds of a log, the same as characters, or the sums of a log
+-- what is asked for: the usage, the version, a picture of some seconds of a log in strips of so many, the same as characters, or the sums of a log
 pub data Asked : Type 0 where
   Help : Asked
   Version : Asked
-  Diagram : (log : List ℕ) (window : Window) → Asked
+  Diagram : (log : List ℕ) (window : Window) (strip : ℕ) → Asked
   Text : (log : List ℕ) (window : Window) → Asked
   Sums : (log : List ℕ) → Asked
 
@@ -53,15 +53,39 @@ lone_form word =
 abbrev pub sums_form : List ℕ → List ℕ → Result Asked Stop
 sums_form word log = if bytes_eq word (codes "sums") then Ok (Sums log) else Err Words
 
--- diagram LOG FROM TO and text LOG FROM TO
+-- diagram LOG FROM TO and text LOG FROM TO; a strip has 120 seconds where no word says it
 abbrev pub window_form : List ℕ → List ℕ → Result Window Stop → Result Asked Stop
 window_form word log window =
-    if bytes_eq word (codes "diagram") then with_window (Diagram log) window
+    if bytes_eq word (codes "diagram") then with_window (λ w. Diagram log w 120) window
     else (if bytes_eq word (codes "text") then with_window (Text log) window else Err Words)
 
--- --help, --version, sums LOG, diagram LOG FROM TO, text LOG FROM TO
+-- how many seconds a strip is to have, where that is a number
+abbrev pub strip_by : Option ℕ → Result ℕ Stop
+strip_by None = Err Words
+strip_by (Some strip) = Ok strip
+
+-- --strip N
+abbrev pub strip_of : List ℕ → List ℕ → Result ℕ Stop
+strip_of option value = if bytes_eq option (codes "--strip") then strip_by (within 30 600 (number_of value)) else Err Words
+
+-- a diagram in strips of so many seconds
+abbrev pub strip_form : List ℕ → Window → Result ℕ Stop → Result Asked Stop
+strip_form log window (Ok strip) = Ok (Diagram log window strip)
+strip_form log window (Err stop) = Err stop
+
+-- a diagram of these seconds in such strips
+abbrev pub strips_form : List ℕ → Result Window Stop → Result ℕ Stop → Result Asked Stop
+strips_form log (Ok window) strip = strip_form log window strip
+strips_form log (Err stop) strip = Err stop
+
+-- diagram LOG FROM TO --strip N
+abbrev pub option_form : List ℕ → List ℕ → Result Window Stop → Result ℕ Stop → Result Asked Stop
+option_form word log window strip = if bytes_eq word (codes "diagram") then strips_form log window strip else Err Words
+
+-- --help, --version, sums LOG, diagram LOG FROM TO [--strip N], text LOG FROM TO
 abbrev pub form_of : List (List ℕ) → Result Asked Stop
 form_of (word ∷ []) = lone_form word
 form_of (word ∷ log ∷ []) = sums_form word log
 form_of (word ∷ log ∷ from ∷ to ∷ []) = window_form word log (window_of from to)
+form_of (word ∷ log ∷ from ∷ to ∷ option ∷ value ∷ []) = option_form word log (window_of from to) (strip_of option value)
 form_of _ = Err Words

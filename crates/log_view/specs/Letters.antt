@@ -1,6 +1,6 @@
 -- The text of a diagram of characters.
 use Rattle.std.specs.Prelude.{ℕ, zero, suc, ◌+◌, ◌-◌, ◌*◌, ◌/◌, ◌%◌, ◌≤◌, ◌==◌, max, min, nat_lt, nat_le}
-use Rattle.std.specs.Prelude.{Bool, true, false, ◌||◌, ◌&&◌, if◌then◌else◌, Option, Some, None}
+use Rattle.std.specs.Prelude.{Bool, ◌||◌, ◌&&◌, if◌then◌else◌, Option, Some, None}
 use Rattle.std.specs.Prelude.{List, [], ◌++◌, codes, length, replicate, take, slice_index_or, slice_set}
 use Rattle.std.specs.List.{flat_map, fold}
 use Rattle.std.specs.Fmt.{decimal}
@@ -13,10 +13,9 @@ use Rattle.log_chart.specs.declared.span.Span.{Span}
 use Rattle.log_chart.specs.Stays.{Stay}
 use Rattle.log_svg.specs.declared.fronts.FrontMark.{FrontMark}
 use Rattle.log_svg.specs.declared.marks.FaultMark.{FaultMark}
-use Rattle.log_svg.specs.declared.marks.Refused.{Refused}
-use Rattle.log_svg.specs.declared.marks.Refused.TheVariants.{Command, Turn}
 use Rattle.log_svg.specs.declared.marks.RefusalMark.{RefusalMark}
 use Rattle.log_svg.specs.Band.{place_name}
+use Rattle.log_svg.specs.Marks.{is_of, rule_letter, rule_of}
 use Rattle.log_svg.specs.Diagram.{Shown}
 use Rattle.log_view.specs.declared.letters.Block.{Block}
 use Rattle.log_view.specs.declared.letters.MarkRow.{MarkRow}
@@ -141,16 +140,15 @@ with_letter block row t letter =
 unfoldable pub marks_text : Block → List ℕ → MarkRow → List ℕ
 marks_text block name row = if row.end == 0 then [] else name_text block.margin name ++ take row.end row.cells ++ codes "\n"
 
--- a refused stage command where no group is asked for, and else a refused turn of the group
-abbrev pub is_of : Option GroupNo → Refused → Bool
-is_of None (Command r) = true
-is_of None (Turn r) = false
-is_of (Some g) (Command r) = false
-is_of (Some g) (Turn r) = r.group.0 == g.0
+-- the row with a letter in second t, if that is in the block, and nothing stands there yet
+abbrev pub with_first : Block → MarkRow → ℕ → ℕ → MarkRow
+with_first block row t letter =
+    if nat_lt t block.first || nat_le (block.first + block.count) t then row
+    else (if slice_index_or row.cells (t - block.first) 32 == 32 then with_letter block row t letter else row)
 
--- the row with the sign of a refusal, where it is one that the row shows
+-- the row with the letter of the rule of a refusal, where it is one that the row shows, and the first one of its second
 abbrev pub with_refusal : Block → Option GroupNo → MarkRow → RefusalMark → MarkRow
-with_refusal block group row m = if is_of group m.refused then with_letter block row m.second 33 else row
+with_refusal block group row m = if is_of group m.refused then with_first block row m.second (rule_letter (rule_of m.refused)) else row
 
 -- the row of refused stage commands, or of the refused turns of a group
 unfoldable pub refusals_row : Block → List RefusalMark → Option GroupNo → List ℕ
@@ -230,7 +228,9 @@ blocks_to s (suc k) = blocks_to s k ++ block_text (block_at s k) s
 
 -- what the characters mean
 unfoldable pub key_text : List ℕ
-key_text = codes "- red  / red-amber  # green  \\ amber  ! refused  X fault  1 to 9, * fronts\n"
+key_text =
+    codes "- red  / red-amber  # green  \\ amber  X fault  1 to 9, * fronts\n"
+    ++ codes "refused: G minimum green  R minimum red  C conflict  I intergreen  S sequence  r interstage runs  w wrong stage  n no interstage\n"
 
 -- the whole text
 unfoldable pub letters_text : Shown → List ℕ

@@ -4,7 +4,7 @@ ghost use Rattle.std.specs.Option.{ForSome};
 ghost use Rattle.sig_io.specs.Draft.{IsDraft, Puts};
 ghost use Rattle.sig_io.specs.Outside.{Rose};
 ghost use Rattle.sig_io.specs.Seen.{seen};
-ghost use Rattle.log_svg.specs.Diagram.{IsShowable, diagram_text};
+ghost use Rattle.log_svg.specs.Diagram.{IsShowable, IsStrip, diagram_text};
 ghost use Rattle.log_svg.specs.ShownIn.{shown_in};
 ghost use Rattle.log_view.specs.Asked.{IsInOrder, asked_in};
 ghost use Rattle.log_view.specs.Call.{IsAnswered, IsReported, IsWritten, usage_text, version_text};
@@ -30,7 +30,7 @@ fn put_usage<O: Sink>(draft: &mut Draft, sink: &mut O)
 {
     draft.put(
         sink,
-        b"log_report diagram LOG FROM TO   an SVG signal timing diagram of these seconds, at most 3600\n",
+        b"log_report diagram LOG FROM TO [--strip N]\n                                 an SVG signal timing diagram of these seconds, at most 3600, in strips of N (120)\n",
     );
     draft.put(
         sink,
@@ -95,14 +95,15 @@ fn write_version<O: Sink>(out: &mut O) -> Result<(), Stop>
 }
 
 // Writes a diagram.
-fn write_diagram<O: Sink>(diagram: &Diagram, out: &mut O) -> Result<(), Stop>
-    requires { IsShowable (shown_in diagram.now) }
-    ensures written { IsWritten (diagram_text (shown_in diagram.now)) result (O.taken out.old) (O.taken out.new) }
+fn write_diagram<O: Sink>(diagram: &Diagram, strip: u32, out: &mut O) -> Result<(), Stop>
+    requires diagram { IsShowable (shown_in diagram.now) }
+    requires strip { IsStrip strip }
+    ensures written { IsWritten (diagram_text (shown_in diagram.now) strip) result (O.taken out.old) (O.taken out.new) }
     ensures stop { IfErr result (λ stop. stop ≡ Stop.WriteFault) }
     ensures cause { OnErr result (Rose (O.faults out.old) (O.faults out.new)) }
 {
     let mut draft = Draft::new();
-    put_diagram(&mut draft, out, diagram);
+    put_diagram(&mut draft, out, diagram, strip);
     end(draft, out)
 }
 
@@ -148,8 +149,8 @@ fn do_form<F: Files, O: Sink>(
     match form {
         Form::Help => write_usage(out),
         Form::Version => write_version(out),
-        Form::Diagram(log, window) => match gather(alloc, files, log, window) {
-            Ok(diagram) => write_diagram(&diagram, out),
+        Form::Diagram(log, window, strip) => match gather(alloc, files, log, window) {
+            Ok(diagram) => write_diagram(&diagram, strip, out),
             Err(stop) => Err(stop),
         },
         Form::Text(log, window) => match gather(alloc, files, log, window) {
@@ -165,7 +166,7 @@ fn do_form<F: Files, O: Sink>(
 
 /// Does what the words of the command line after the program's name say, and tells in a note why it stopped where it did.
 ///
-/// - `diagram LOG FROM TO` writes an SVG signal timing diagram of 1 to 3,600 seconds of a log.
+/// - `diagram LOG FROM TO [--strip N]` writes an SVG signal timing diagram of 1 to 3,600 seconds of a log, in strips of N seconds.
 /// - `text LOG FROM TO` writes the same as characters.
 /// - `sums LOG` writes what groups, stages, refusals, faults and detectors of a whole log add up to.
 /// - `--help` and `--version` write how it is called, and the version.

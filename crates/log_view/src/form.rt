@@ -1,13 +1,17 @@
 // The words of a call.
 ghost use Rattle.std.specs.Prelude.{◌≡◌, ◌+◌, ◌<◌, ◌≤◌, IfOk, map, string_bytes};
 ghost use Rattle.log_view.specs.Asked.{IsInOrder, asked_by};
-ghost use Rattle.log_view.specs.Form.{IsWindow, form_of, lone_form, sums_form, window_form, window_of};
+ghost use Rattle.log_svg.specs.Diagram.{IsStrip};
+ghost use Rattle.log_view.specs.Form.{IsWindow, form_of, lone_form, option_form, strip_form, strip_of, sums_form, window_form, window_of};
 
 use crate::stop::Stop;
 use sig_types::text::number;
 
 // The most seconds of a diagram.
 const MOST: u32 = 3600;
+
+// How many seconds a strip of a diagram has, where no word says it.
+const STRIP: u32 = 120;
 
 // The last second that a log can have.
 const LAST: u32 = 604_801;
@@ -28,8 +32,8 @@ pub enum Form<'a> {
     Help,
     /// Which version it is.
     Version,
-    /// A signal timing diagram of these seconds.
-    Diagram(&'a str, Window),
+    /// A signal timing diagram of these seconds, in strips of so many.
+    Diagram(&'a str, Window, u32),
     /// The same as characters.
     Text(&'a str, Window),
     /// What a whole log adds up to.
@@ -79,6 +83,56 @@ fn sums_form<'a>(word: &str, log: &'a str) -> Result<Form<'a>, Stop>
     }
 }
 
+// How many seconds a strip is to have.
+fn strip_of(option: &str, value: &str) -> Result<u32, Stop>
+    ensures strip { result ≡ strip_of option.now value.now }
+    ensures order { IfOk result IsStrip }
+{
+    if option == "--strip" {
+        match number(value.as_bytes(), 30, 600) {
+            Some(strip) => Ok(strip),
+            None => Err(Stop::Words),
+        }
+    } else {
+        Err(Stop::Words)
+    }
+}
+
+// A diagram in strips of so many seconds.
+fn strip_form<'a>(log: &'a str, window: Window, strip: Result<u32, Stop>) -> Result<Form<'a>, Stop>
+    requires window { IsWindow window }
+    requires strip { IfOk strip IsStrip }
+    ensures form { asked_by result ≡ strip_form log.now window strip }
+    ensures order { IfOk result IsInOrder }
+{
+    match strip {
+        Ok(strip) => Ok(Form::Diagram(log, window, strip)),
+        Err(stop) => Err(stop),
+    }
+}
+
+// diagram LOG FROM TO --strip N
+fn option_form<'a>(
+    word: &str,
+    log: &'a str,
+    from: &str,
+    to: &str,
+    option: &str,
+    value: &str,
+) -> Result<Form<'a>, Stop>
+    ensures form { asked_by result ≡ option_form word.now log.now (window_of from.now to.now) (strip_of option.now value.now) }
+    ensures order { IfOk result IsInOrder }
+{
+    if word == "diagram" {
+        match window_of(from, to) {
+            Ok(window) => strip_form(log, window, strip_of(option, value)),
+            Err(stop) => Err(stop),
+        }
+    } else {
+        Err(Stop::Words)
+    }
+}
+
 // diagram LOG FROM TO and text LOG FROM TO
 fn window_form<'a>(word: &str, log: &'a str, from: &str, to: &str) -> Result<Form<'a>, Stop>
     ensures form { asked_by result ≡ window_form word.now log.now (window_of from.now to.now) }
@@ -86,7 +140,7 @@ fn window_form<'a>(word: &str, log: &'a str, from: &str, to: &str) -> Result<For
 {
     if word == "diagram" {
         match window_of(from, to) {
-            Ok(window) => Ok(Form::Diagram(log, window)),
+            Ok(window) => Ok(Form::Diagram(log, window, STRIP)),
             Err(stop) => Err(stop),
         }
     } else if word == "text" {
@@ -110,6 +164,14 @@ pub fn form_of(words: &[String]) -> Result<Form<'_>, Stop>
         [word, log, from, to] => {
             window_form(word.as_str(), log.as_str(), from.as_str(), to.as_str())
         }
+        [word, log, from, to, option, value] => option_form(
+            word.as_str(),
+            log.as_str(),
+            from.as_str(),
+            to.as_str(),
+            option.as_str(),
+            value.as_str(),
+        ),
         _ => Err(Stop::Words),
     }
 }

@@ -7,12 +7,12 @@ ghost use Rattle.log_svg.specs.ShownIn.{shown_in};
 ghost use Rattle.log_view.specs.Letters.{IsBlock, block_at, block_head, block_rows, block_text, letters_in, letters_text};
 ghost use Rattle.log_view.specs.Letters.{band_row, faults_row, fronts_row, fronts_rows, group_row, group_rows, groups_rows};
 ghost use Rattle.log_view.specs.Letters.{empty_row, numbers_row, refusals_row, ticks_row, filler_of, free_after, margin_of};
-ghost use Rattle.log_view.specs.Letters.{detector_word, front_letter, is_numbered, is_of, letter_of, number_cell, seconds_in};
-ghost use Rattle.log_view.specs.Letters.{marks_text, name_text, span_text, stay_cells, stay_text, tick_of, with_front, with_letter, with_refusal};
+ghost use Rattle.log_view.specs.Letters.{detector_word, front_letter, is_numbered, key_text, letter_of, number_cell, seconds_in};
+ghost use Rattle.log_view.specs.Letters.{marks_text, name_text, span_text, stay_cells, stay_text, tick_of, with_first, with_front, with_letter, with_refusal};
 
 use itoa::Buffer;
 use log_chart::Span;
-use log_svg::{Diagram, FaultMark, FrontMark, RefusalMark, Refused, put_place};
+use log_svg::{Diagram, FaultMark, FrontMark, RefusalMark, is_of, put_place, rule_letter, rule_of};
 use sig_io::{Draft, Sink};
 use sig_types::{Aspect, GroupNo, ShortName, StagePlace};
 
@@ -299,23 +299,24 @@ fn put_marks<O: Sink>(draft: &mut Draft, sink: &mut O, block: Block, name: &[u8]
     }
 }
 
-// A refused stage command where no group is asked for, and else a refused turn of the group.
-fn is_of(group: Option<GroupNo>, refused: Refused) -> bool
-    ensures { result ≡ is_of group refused }
+// The row with a letter in a second, if that is in the block, and nothing stands there yet.
+fn with_first(block: Block, row: MarkRow, second: u32, letter: u8) -> MarkRow
+    requires block { IsBlock block }
+    requires end { row.end ≤ 60 }
+    ensures row { result ≡ with_first block row second letter }
+    ensures end { result.end ≤ 60 }
 {
-    match group {
-        None => match refused {
-            Refused::Command(_) => true,
-            Refused::Turn(_) => false,
-        },
-        Some(group) => match refused {
-            Refused::Command(_) => false,
-            Refused::Turn(turn) => turn.group.0 == group.0,
-        },
+    if second < block.first || block.first + block.count <= second {
+        return row;
     }
+    let place = (second - block.first) as usize;
+    if row.cells[place] != b' ' {
+        return row;
+    }
+    with_letter(block, row, second, letter)
 }
 
-// The row with the mark of a refusal.
+// The row with the letter of the rule of a refusal, where it is one that the row shows, and the first one of its second.
 fn with_refusal(block: Block, group: Option<GroupNo>, row: MarkRow, mark: &RefusalMark) -> MarkRow
     requires block { IsBlock block }
     requires end { row.end ≤ 60 }
@@ -323,7 +324,7 @@ fn with_refusal(block: Block, group: Option<GroupNo>, row: MarkRow, mark: &Refus
     ensures end { result.end ≤ 60 }
 {
     if is_of(group, mark.refused) {
-        with_letter(block, row, mark.second, b'!')
+        with_first(block, row, mark.second, rule_letter(rule_of(mark.refused)))
     } else {
         row
     }
@@ -518,15 +519,26 @@ fn block_at(diagram: &Diagram, number: u32) -> Block
     }
 }
 
+// Puts what the characters mean.
+fn put_key<O: Sink>(draft: &mut Draft, sink: &mut O)
+    ensures { Puts O.taken O.faults draft.old draft.new sink.old sink.new key_text }
+{
+    draft.put(
+        sink,
+        b"- red  / red-amber  # green  \\ amber  X fault  1 to 9, * fronts\n",
+    );
+    draft.put(
+        sink,
+        b"refused: G minimum green  R minimum red  C conflict  I intergreen  S sequence  r interstage runs  w wrong stage  n no interstage\n",
+    );
+}
+
 /// Puts the diagram as characters, a row for each group, in blocks of 60 seconds.
 pub fn put_text<O: Sink>(draft: &mut Draft, sink: &mut O, diagram: &Diagram)
     requires { IsShowable (shown_in diagram.now) }
     ensures { Puts O.taken O.faults draft.old draft.new sink.old sink.new (letters_text (shown_in diagram.now)) }
 {
-    draft.put(
-        sink,
-        b"- red  / red-amber  # green  \\ amber  ! refused  X fault  1 to 9, * fronts\n",
-    );
+    put_key(draft, sink);
     for number in 0..(diagram.to - diagram.from) / BLOCK + 1 {
         put_block(draft, sink, diagram, block_at(diagram, number));
     }

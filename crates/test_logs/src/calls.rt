@@ -12,15 +12,16 @@ const LOG: &str = "VAPLOG 1 K1 K2\n\
 5|I1-2+1|RU|-|-|Number@7\n\
 6|S2|RG|-|-|-\n";
 
-const TEXT: &str = "- red  / red-amber  # green  \\ amber  ! refused  X fault  1 to 9, * fronts\n\
+const TEXT: &str = "- red  / red-amber  # green  \\ amber  X fault  1 to 9, * fronts\n\
+refused: G minimum green  R minimum red  C conflict  I intergreen  S sequence  r interstage runs  w wrong stage  n no interstage\n\
 \n\
 \x20        1     \n\
 \x20        ....+.\n\
 stage    S1.>>.\n\
-\x20refused !\n\
+\x20refused n\n\
 K1       -/#\\--\n\
 K2       ----/#\n\
-\x20refused ! !\n\
+\x20refused C C\n\
 fault       XX\n\
 D2        1 *\n";
 
@@ -81,10 +82,80 @@ fn a_diagram_ends_whole(rt: HostRuntime) -> Result<(), Fail> {
     Ok(())
 }
 
+// 33 seconds of one group that is green from second 30 to 32.
+const LONGER: &str = "VAPLOG 1 K1\n\
+1|S1|R|-|1-2:Running|-\n\
+2|S1|R|-|1-2:Running|-\n\
+3|S1|R|-|1-2:Running|-\n\
+4|S1|R|-|1-2:Running|-\n\
+5|S1|R|-|1-2:Running|-\n\
+6|S1|R|-|1-2:Running|-\n\
+7|S1|R|-|1-2:Running|-\n\
+8|S1|R|-|1-2:Running|-\n\
+9|S1|R|-|1-2:Running|-\n\
+10|S1|R|-|1-2:Running|-\n\
+11|S1|R|-|1-2:Running|-\n\
+12|S1|R|-|1-2:Running|-\n\
+13|S1|R|-|1-2:Running|-\n\
+14|S1|R|-|1-2:Running|-\n\
+15|S1|R|-|1-2:Running|-\n\
+16|S1|R|-|1-2:Running|-\n\
+17|S1|R|-|1-2:Running|-\n\
+18|S1|R|-|1-2:Running|-\n\
+19|S1|R|-|1-2:Running|-\n\
+20|S1|R|-|1-2:Running|-\n\
+21|S1|R|-|1-2:Running|-\n\
+22|S1|R|-|1-2:Running|-\n\
+23|S1|R|-|1-2:Running|-\n\
+24|S1|R|-|1-2:Running|-\n\
+25|S1|R|-|1-2:Running|-\n\
+26|S1|R|-|1-2:Running|-\n\
+27|S1|R|-|1-2:Running|-\n\
+28|S1|R|-|1-2:Running|-\n\
+29|S1|R|-|1-2:Running|-\n\
+30|S1|G|-|1-2:Running|-\n\
+31|S1|G|-|1-2:Running|-\n\
+32|S1|G|-|1-2:Running|-\n\
+33|S1|R|-|1-2:Running|-\n";
+
+// The second strip of a diagram of these seconds.
+const STRIP: &str = "<g transform=\"translate(0 160)\">\n\
+<path class=\"c\" d=\"M66 46V50\"/>\n\
+<path class=\"c\" d=\"M66 106V110\"/>\n\
+<path class=\"c\" d=\"M86 46V50\"/>\n\
+<path class=\"c\" d=\"M86 106V110\"/>\n\
+<path class=\"c\" d=\"M106 46V50\"/>\n\
+<path class=\"c\" d=\"M106 106V110\"/>\n\
+<text class=\"n\" x=\"54\" y=\"73\">stage</text>\n\
+<rect class=\"s\" x=\"66\" y=\"60\" width=\"60\" height=\"18\"><title>S1</title></rect>\n\
+<text class=\"m\" x=\"96\" y=\"73\">S1</text>\n\
+<text class=\"x\" x=\"76\" y=\"58\">r<title>31 refused\n\
+1-2:Running</title></text>\n\
+<text class=\"x\" x=\"96\" y=\"58\">r<title>32 refused\n\
+1-2:Running</title></text>\n\
+<text class=\"x\" x=\"116\" y=\"58\">r<title>33 refused\n\
+1-2:Running</title></text>\n\
+<text class=\"n\" x=\"54\" y=\"99\">K1</text>\n\
+<rect class=\"g\" x=\"66\" y=\"89\" width=\"40\" height=\"12\"><title>K1 green 30 to 32, 3 s</title></rect>\n\
+<rect class=\"r\" x=\"106\" y=\"94\" width=\"20\" height=\"2\"><title>K1 red from 33</title></rect>\n\
+<path class=\"b\" d=\"M12 104H126\"/>\n\
+</g>\n\
+</svg>\n\
+";
+
+#[test]
+fn a_green_goes_over_the_end_of_a_strip(rt: HostRuntime) -> Result<(), Fail> {
+    let words = ["diagram", "l", "1", "33", "--strip", "30"];
+    let told = call(rt.alloc(), &words, LONGER)?;
+    assert_eq!(rt; told.status, Status::Done);
+    assert!(rt; told.out.bytes().ends_with(STRIP.as_bytes()));
+    Ok(())
+}
+
 // Words of a call over the log, the status and the note.
 type Stopped = (&'static [&'static str], Status, &'static str);
 
-const STOPPED: [Stopped; 6] = [
+const STOPPED: [Stopped; 8] = [
     (&["sum", "l"], Status::Words, "log_report: Words\n"),
     (
         &["text", "l", "0", "6"],
@@ -105,6 +176,16 @@ const STOPPED: [Stopped; 6] = [
         &["text", "l", "1", "7"],
         Status::Refused,
         "log_report: LogEnds 6\n",
+    ),
+    (
+        &["diagram", "l", "1", "6", "--strip", "29"],
+        Status::Words,
+        "log_report: Words\n",
+    ),
+    (
+        &["text", "l", "1", "6", "--strip", "60"],
+        Status::Words,
+        "log_report: Words\n",
     ),
     (&["sums", "m"], Status::ReadFault, "log_report: ReadFault\n"),
 ];

@@ -1,4 +1,3 @@
-use Rattle.std.proofs.Common.{◌+◌, ◌*◌, ◌≤◌, ◌++◌, ℕ, List, Option}
 use Rattle.sig_io.specs.Draft.{Puts}
 use Rattle.log_svg.specs.Axis.{axis_text}
 use Rattle.log_svg.proofs.axis.put_axis.Given as goal

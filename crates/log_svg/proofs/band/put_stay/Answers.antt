@@ -5,5 +5,5 @@ use Rattle.log_svg.proofs.band.put_stay.Goals as goal
 pub returns : goal.returns
 unfolding stay_text
 returns g c =
-    then (rw (c.place_class.ensures.class, c.x_of-x.ensures.x, c.width_of-width.ensures.width) at c.put_box.ensures)
-    c.put_stay_words.ensures
+    then (then (rw (c.place_class.ensures.class, c.begin_of-x.ensures.x, c.width_of-width.ensures.width) at c.begin_box.ensures)
+    c.put_title.ensures) c.put_stay_words.ensures

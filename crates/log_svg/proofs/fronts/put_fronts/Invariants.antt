@@ -1,4 +1,4 @@
-use Rattle.std.proofs.Common.{◌+◌, ◌*◌, ◌≤◌, ◌++◌, ℕ, List, Option, take}
+use Rattle.std.proofs.Common.{take}
 use Rattle.sig_io.specs.Draft.{Puts}
 use Rattle.log_svg.specs.Marks.{fronts_of}
 use Rattle.log_svg.proofs.fronts.put_fronts.Given as goal

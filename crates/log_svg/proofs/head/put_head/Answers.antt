@@ -5,5 +5,6 @@ use Rattle.log_svg.proofs.head.put_head.Goals as goal
 pub returns : goal.returns
 unfolding head_text
 returns g c =
-    then (then (then (then c.open_svg.ensures c.put_looks.ensures)
-    c.put_ground.ensures) c.begin_label.ensures) c.put_title.ensures
+    let height = c.height_of-height.ensures in
+    then (then (then (then (rw height at c.put_size.ensures) c.put_title.ensures) c.put_looks.ensures)
+    (rw height at c.put_ground.ensures)) c.put_heading.ensures

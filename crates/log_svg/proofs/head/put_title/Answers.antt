@@ -1,9 +1,8 @@
-use Rattle.log_svg.specs.Diagram.{seconds_title}
+use Rattle.log_svg.specs.Diagram.{title_text}
 use Rattle.sig_io.proofs.Drafts.{then}
 use Rattle.log_svg.proofs.head.put_title.Goals as goal
 
 pub returns : goal.returns
-unfolding seconds_title
+unfolding title_text
 returns g c =
-    then (then (then (then c.put.ensures c.put_number.ensures)
-    c.put-2.ensures) c.put_number-2.ensures) c.put-3.ensures
+    then (then c.put.ensures c.put_seconds.ensures) c.put-2.ensures

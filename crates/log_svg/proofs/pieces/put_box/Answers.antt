@@ -5,5 +5,4 @@ use Rattle.log_svg.proofs.pieces.put_box.Goals as goal
 pub returns : goal.returns
 unfolding box_text
 returns g c =
-    then (then (then (then (then (then (then c.put.ensures c.put-2.ensures) c.put-3.ensures) c.put_attribute.ensures) c.put_attribute-2.ensures)
-    c.put_attribute-3.ensures) c.put_attribute-4.ensures) c.put-4.ensures
+    then c.begin_box.ensures c.put.ensures

@@ -11,7 +11,7 @@ pub returns-in-Ok-clause-answered : goal.returns-in-Ok-clause-answered
 returns-in-Ok-clause-answered g c file told =
     let d = c.in-Ok.diagram in
     rw c.in-Diagram.is
-    (answered (Diagram c.in-Diagram.log.now c.in-Diagram.window) file (diagram_text (shown_in d)) c.write_diagram.result _ _
+    (answered (Diagram c.in-Diagram.log.now c.in-Diagram.window c.in-Diagram.strip) file (diagram_text (shown_in d) c.in-Diagram.strip) c.write_diagram.result _ _
     (d, c.in-Ok.ensures.gathering file told, refl) c.write_diagram.ensures.written)
 
 pub returns-in-Ok-gather-clause-answered : goal.returns-in-Ok-gather-clause-answered

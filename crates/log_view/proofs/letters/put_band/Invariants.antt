@@ -1,4 +1,4 @@
-use Rattle.std.proofs.Common.{◌++◌, List, take}
+use Rattle.std.proofs.Common.{◌++◌, take}
 use Rattle.std.specs.Prelude.{codes}
 use Rattle.std.specs.List.{flat_map}
 use Rattle.sig_io.specs.Draft.{Puts}

@@ -1,4 +1,3 @@
-use Rattle.std.proofs.Common.{◌+◌, ◌*◌, ◌≤◌, ◌++◌, ℕ, List, Option}
 use Rattle.sig_io.specs.Draft.{Puts}
 use Rattle.log_view.specs.Letters.{fronts_rows}
 use Rattle.log_view.proofs.letters.put_detectors.Given as goal

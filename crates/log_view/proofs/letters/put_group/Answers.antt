@@ -1,7 +1,5 @@
-use Rattle.std.proofs.Common.{◌≡◌, ◌∙◌, ◌+◌, [], ap, arith, get_or, length}
+use Rattle.std.proofs.Common.{◌≡◌, ◌∙◌, [], get_or}
 use Rattle.std.proofs.lemmas.List.{get_or_default}
-use Rattle.sig_types.specs.Turns.{trace}
-use Rattle.log_chart.proofs.Tells.{row_is_short}
 use Rattle.log_view.specs.Letters.{group_rows}
 use Rattle.sig_io.proofs.Drafts.{then}
 use Rattle.log_view.proofs.letters.put_group.Goals as goal

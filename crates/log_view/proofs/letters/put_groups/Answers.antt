@@ -1,4 +1,3 @@
-use Rattle.std.proofs.Common.{arith}
 use Rattle.log_view.specs.Letters.{groups_rows}
 use Rattle.sig_io.proofs.Drafts.{nothing, then}
 use Rattle.log_view.proofs.Blocks.{groups_more}

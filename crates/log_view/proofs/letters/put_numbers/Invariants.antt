@@ -1,4 +1,4 @@
-use Rattle.std.proofs.Common.{◌≡◌, ◌+◌, ◌*◌, ◌≤◌, ◌++◌, ℕ, List, [], Option}
+use Rattle.std.proofs.Common.{◌≡◌, ◌++◌, []}
 use Rattle.sig_io.specs.Draft.{Puts}
 use Rattle.log_view.specs.Letters.{free_to, name_text, numbers_to}
 use Rattle.log_view.proofs.letters.put_numbers.Given as goal

@@ -1,12 +1,12 @@
 use Rattle.std.proofs.Common.{◌≡◌, ◌+◌, ◌-◌, ◌/◌, arith}
-use Rattle.log_view.specs.Letters.{blocks_to, key_text, letters_text}
+use Rattle.log_view.specs.Letters.{blocks_to, letters_text}
 use Rattle.sig_io.proofs.Drafts.{nothing, then}
 use Rattle.log_view.proofs.Blocks.{blocks_more, then_more}
 use Rattle.log_view.proofs.letters.put_text.Goals as goal
 
 pub loop-number-init : goal.loop-number-init
-unfolding blocks_to key_text
-loop-number-init g c = then c.put.ensures nothing
+unfolding blocks_to
+loop-number-init g c = then c.put_key.ensures nothing
 
 pub loop-number-preserved : goal.loop-number-preserved
 loop-number-preserved g c =

@@ -1,4 +1,4 @@
-use Rattle.std.proofs.Common.{◌+◌, ◌*◌, ◌≤◌, ◌++◌, ℕ, List, Option}
+use Rattle.std.proofs.Common.{◌++◌}
 use Rattle.sig_io.specs.Draft.{Puts}
 use Rattle.log_view.specs.Letters.{blocks_to, key_text}
 use Rattle.log_svg.specs.ShownIn.{shown_in}

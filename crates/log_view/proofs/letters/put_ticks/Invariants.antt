@@ -1,4 +1,4 @@
-use Rattle.std.proofs.Common.{◌+◌, ◌*◌, ◌≤◌, ◌++◌, ℕ, List, [], Option}
+use Rattle.std.proofs.Common.{◌++◌, []}
 use Rattle.sig_io.specs.Draft.{Puts}
 use Rattle.log_view.specs.Letters.{name_text, ticks_to}
 use Rattle.log_view.proofs.letters.put_ticks.Given as goal

@@ -1,4 +1,3 @@
-use Rattle.std.proofs.Common.{arith}
 use Rattle.sig_io.proofs.Drafts.{nothing, then}
 use Rattle.log_view.specs.SumsText.{detectors_to}
 use Rattle.log_view.proofs.SumLines.{detectors_more}

@@ -1,4 +1,3 @@
-use Rattle.std.proofs.Common.{◌+◌, ◌*◌, ◌≤◌, ◌++◌, ℕ, List, Option}
 use Rattle.sig_io.specs.Draft.{Puts}
 use Rattle.log_view.specs.SumsText.{detectors_to}
 use Rattle.log_view.proofs.sums_text.put_detectors.Given as goal

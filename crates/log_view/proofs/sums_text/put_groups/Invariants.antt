@@ -1,4 +1,4 @@
-use Rattle.std.proofs.Common.{◌+◌, ◌*◌, ◌≤◌, ◌++◌, ℕ, List, Option, take}
+use Rattle.std.proofs.Common.{take}
 use Rattle.sig_io.specs.Draft.{Puts}
 use Rattle.log_view.specs.SumsText.{groups_text}
 use Rattle.log_view.proofs.sums_text.put_groups.Given as goal

@@ -1,8 +1,0 @@
-use Rattle.std.proofs.Common.{◌+◌, ◌*◌, ◌≤◌, ◌++◌, ℕ, List, Option, take}
-use Rattle.sig_io.specs.Draft.{Puts}
-use Rattle.log_svg.specs.Marks.{refusals_text}
-use Rattle.log_svg.proofs.marks.put_refusals.Given as goal
-
-abbrev pub invariant-loop-mark : goal.invariant-loop-mark
-invariant-loop-mark g l =
-    Puts g.O.Sink.taken g.O.Sink.faults l.fn.draft l.draft l.fn.sink l.sink (refusals_text l.names l.layout l.top (take l.mark-index l.marks))
