@@ -1,0 +1,4 @@
+pub mod Steps
+pub mod Never
+pub mod Seen
+pub mod Shown

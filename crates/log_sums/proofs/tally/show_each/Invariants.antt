@@ -1,0 +1,13 @@
+use Rattle.std.proofs.Common.{◌≡◌, ℕ, ◌+◌, ◌<◌, ◌≤◌, List, get_or, length, map}
+use Rattle.log_sums.specs.declared.tally.Tally.{Tally}
+use Rattle.log_sums.specs.Tallies.{AreCounts, AwaitItems, times_of}
+use Rattle.log_sums.proofs.tally.show_each.Given as goal
+
+abbrev pub invariant-loop-tally : goal.invariant-loop-tally
+invariant-loop-tally g l = record {
+  keys : map (λ (x : Tally g.row.K.Denot). x.key) l.tallies ≡ map (λ (x : Tally g.row.K.Denot). x.key) l.fn.tallies;
+  shown : (a : ℕ → List g.row.K.Denot) (n : ℕ) → l.fn.second ≡ n + 1 → l.fn.second < 2147483648 → a l.fn.second ≡ l.fn.items →
+      AwaitItems g.K.Key.code a l.fn.from n l.fn.items l.fn.tallies → (i : ℕ) (d : Tally g.row.K.Denot) → i < l.tally-index →
+      AreCounts (times_of g.K.Key.code a (g.K.Key.code (get_or l.tallies i d).key)) l.fn.from l.fn.second (get_or l.tallies i d).counts;
+  rest : (i : ℕ) (d : Tally g.row.K.Denot) → l.tally-index ≤ i → get_or l.tallies i d ≡ get_or l.fn.tallies i d;
+}
