@@ -1,0 +1,43 @@
+use Rattle.std.proofs.Common.{◌≡◌, ◌∙◌, ◌++◌, ◌∷◌, [], ap, arith, length, refl, sym}
+use Rattle.sig_types.specs.declared.aspect.Aspect.{Aspect}
+use Rattle.sig_types.specs.declared.aspect.Aspect.TheVariants.{Red}
+use Rattle.sig_types.specs.declared.numbers.StagePlace.{StagePlace}
+use Rattle.sig_types.specs.declared.refused.Fault.{Fault}
+use Rattle.sig_types.specs.declared.refused.StageRefusal.{StageRefusal}
+use Rattle.sig_types.specs.declared.refused.TurnRefusal.{TurnRefusal}
+use Rattle.log_sums.specs.Keys.{command_code, fault_code, place_code, turn_code}
+use Rattle.record_sums.specs.Told.{commands_by, faults_by, fronts_by, places_by, rears_by, rules_by, shown_by, turns_by}
+use Rattle.record_sums.proofs.Added.{size_more, tallies_more}
+use Rattle.record_sums.proofs.Telling.{agrees_last, agrees_still}
+use Rattle.record_sums.proofs.adding.take_second.Goals as goal
+use Rattle.std.proofs.Common.{ℕ}
+
+pub returns-in-Ok-show_refusals-clause-adds : goal.returns-in-Ok-show_refusals-clause-adds
+returns-in-Ok-show_refusals-clause-adds c = λ groups records wide next small is.
+    let rec = c.args.rec.now in
+    let old = c.args.sums.now in
+    let second = rec.second.0 in
+    let refused = c.in-Ok-show_refusals.ensures in
+    let last : length (records ++ rec ∷ []) ≡ second = size_more records rec ∙ sym next in
+    record {
+      seconds_are = refused.seconds ∙ sym last;
+      groups_are = λ g d inside a agrees.
+          rw (last, refused.groups)
+          (c.show_groups.ensures a (length records) g d next small (omega (arith, inside, wide)) (agrees_last Aspect (shown_by g) Red records rec a second next agrees)
+          (is.groups_are g d inside a (agrees_still Aspect (shown_by g) Red records rec a agrees)));
+      detectors_are = λ p d inside f r fronts rears.
+          rw (last, refused.detectors)
+          (c.show_detectors.ensures f r (length records) p d next small inside (agrees_last ℕ (fronts_by p) 0 records rec f second next fronts)
+          (agrees_last ℕ (rears_by p) 0 records rec r second next rears)
+          (is.detectors_are p d inside f r (agrees_still ℕ (fronts_by p) 0 records rec f fronts) (agrees_still ℕ (rears_by p) 0 records rec r rears)));
+      places_are = rw refused.places (tallies_more StagePlace place_code places_by old.from second records rec old.places.items c.show_items.new.tallies.items next small
+          c.in-Ok.ensures is.places_are);
+      commands_are = tallies_more StageRefusal command_code commands_by old.from second records rec old.commands.items c.show_refusals.new.sums.commands.items next small
+          refused.commands is.commands_are;
+      turns_are = tallies_more TurnRefusal turn_code turns_by old.from second records rec old.turns.items c.show_refusals.new.sums.turns.items next small
+          refused.turns is.turns_are;
+      rules_are = tallies_more TurnRefusal turn_code rules_by old.from second records rec old.rules.items c.show_refusals.new.sums.rules.items next small
+          refused.rules is.rules_are;
+      faults_are = rw refused.faults (tallies_more Fault fault_code faults_by old.from second records rec old.faults.items c.show_fault.new.tallies.items next small
+          c.in-Ok-show_fault.ensures is.faults_are);
+    }

@@ -1,0 +1,20 @@
+use Rattle.std.proofs.Common.{◌≡◌, [], arith, refl, sym, le-ltb}
+use Rattle.record_sums.proofs.Added.{no_tallies, take_none}
+use Rattle.record_sums.proofs.sums.LogSums.none.Goals as goal
+
+pub returns : goal.returns
+returns c = λ groups few. record {
+  from_is = refl;
+  to_is = refl;
+  sums = rw (take_none c.args.to [] refl) record {
+    seconds_are = refl;
+    groups_are = λ g d inside a agrees. c.no_groups-groups.ensures g d a c.args.from (omega (arith, inside, few));
+    detectors_are = λ p d inside f r fronts rears. c.no_detectors-detectors.ensures p d f r c.args.from inside;
+    places_are = λ a agrees. rw c.new-places.ensures.items no_tallies;
+    commands_are = λ a agrees. rw c.new-commands.ensures.items no_tallies;
+    turns_are = λ a agrees. rw c.new-turns.ensures.items no_tallies;
+    rules_are = λ a agrees. rw c.new-rules.ensures.items no_tallies;
+    faults_are = λ a agrees. rw c.new-faults.ensures.items no_tallies;
+  };
+  goes_on = sym (le-ltb c.args.to 0 (omega arith));
+}
