@@ -6,6 +6,7 @@
 
 mod adding;
 mod items;
+pub mod laws;
 mod sums;
 
 pub use adding::take_record;
