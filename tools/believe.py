@@ -140,6 +140,7 @@ THEOREMS = [
       ("log_records", "Laws", ["OneAnswer", "OneHeader", "SomeAnswer"])]),
     ("what the records of a log add up to", "`record_sums::take_record`, `laws`",
      [("record_sums", "Adding", ["AddsUpTo"]), ("record_sums", "Summed", ["AreSumsOf"])]),
+    ("the text of these sums", "`sums_text::put_sums`", [("sums_text", "Words", ["sums_text", "AreTextual"])]),
     ("what a run's log says is read of it", "`log_view::a_written_log_is_read_whole`",
      [("log_view", "Laws", ["WrittenIsRead", "OnlyWrittenIsRead"])]),
     ("the log of each run is read whole", "`log_laws::run_logs_are_read_whole`",

@@ -1,0 +1,8 @@
+use Rattle.std.proofs.Common.{◌≡◌, ◌++◌, ℕ, List, codes, append_assoc}
+use Rattle.std.specs.Fmt.{decimal}
+use Rattle.sig_io.proofs.Drafts.{same_put, then}
+use Rattle.sums_text.proofs.names.put_place_name.Goals as goal
+
+pub returns-in-Inter : goal.returns-in-Inter
+returns-in-Inter g c =
+    rw (c.in-Inter.is, ← c.from-in-Inter.ensures, ← c.from-in-Inter-2.ensures) (then c.put_pair-in-Inter.ensures c.put_pair-in-Inter-2.ensures)

@@ -1,0 +1,9 @@
+use Rattle.std.proofs.Common.{◌+◌, ◌*◌, ◌≤◌, ◌++◌, ℕ, List, Option, take}
+use Rattle.sig_io.specs.Draft.{Puts}
+use Rattle.std.specs.List.{flat_map}
+use Rattle.sums_text.specs.Words.{command_text}
+use Rattle.sums_text.proofs.rows.put_commands.Given as goal
+
+abbrev pub invariant-loop-tally : goal.invariant-loop-tally
+invariant-loop-tally g l =
+    Puts g.O.Sink.taken g.O.Sink.faults l.fn.draft l.draft l.fn.sink l.sink (flat_map command_text (take l.tally-index l.tallies))
