@@ -1,7 +1,6 @@
 -- What never comes.
-use Rattle.std.proofs.Common.{◌≡◌, ◌∙◌, ℕ, zero, suc, ◌+◌, ◌-◌, ◌*◌, ◌≤◌, min, Bool, true, false, refl, sym, arith, add-one}
-use Rattle.std.specs.Prelude.{◌==◌, nat_le, not, if◌then◌else◌}
-use Rattle.log_sums.specs.declared.figures.Figures.{Figures}
+use Rattle.std.proofs.Common.{◌≡◌, ℕ, zero, suc, ◌≤◌, Bool, true, false, refl, sym, arith}
+use Rattle.std.specs.Prelude.{nat_le, if◌then◌else◌}
 use Rattle.log_sums.specs.Series.{AreFigures, count_to, first_most, least_to, most_to, since, sum_to}
 use Rattle.log_sums.specs.Spells.{begins, held, run}
 use Rattle.log_sums.specs.Tallies.{came, stretch}

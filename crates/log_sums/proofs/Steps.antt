@@ -2,7 +2,7 @@
 use Rattle.std.proofs.Common.{◌≡◌, ◌∙◌, ℕ, zero, suc, ◌+◌, ◌-◌, ◌≤◌, Bool, true, false, refl, sym, subst, arith, add-one}
 use Rattle.std.specs.Prelude.{◌==◌, ◌&&◌, if◌then◌else◌}
 use Rattle.log_sums.specs.Series.{sum_to}
-use Rattle.log_sums.specs.Spells.{age, begins, gap, last_to, over, run}
+use Rattle.log_sums.specs.Spells.{begins, gap, last_to, over, run}
 
 -- the second after n
 pub after : (n second : ℕ) → second ≡ n + 1 → suc n ≡ second

@@ -1,5 +1,5 @@
 -- What the seconds of a detector add up to. It has fronts and rears in each second from 1 on.
-use Rattle.std.specs.Prelude.{◌≡◌, ℕ, ◌+◌, ◌*◌, ◌<◌, ◌≤◌, ◌==◌, nat_lt, Bool, not, ◌||◌}
+use Rattle.std.specs.Prelude.{◌≡◌, ℕ, ◌*◌, ◌≤◌, ◌==◌, nat_lt, Bool, not, ◌||◌}
 use Rattle.log_sums.specs.declared.detector.DetectorSums.{DetectorSums}
 use Rattle.log_sums.specs.Series.{AreFigures, since, sum_to}
 use Rattle.log_sums.specs.Spells.{AreGaps, AreSpells}

@@ -1,6 +1,6 @@
 -- A condition, which holds in a second or doesn't, from second 1 on. A spell is a run of seconds in which it holds, as long as it
 -- can be: it begins in its first second, and is over in the first second behind it.
-use Rattle.std.specs.Prelude.{◌≡◌, ℕ, zero, suc, ◌+◌, ◌-◌, ◌==◌, nat_le, Bool, true, false, not, ◌&&◌, if◌then◌else◌}
+use Rattle.std.specs.Prelude.{◌≡◌, ℕ, zero, suc, ◌+◌, ◌-◌, ◌==◌, Bool, false, ◌&&◌, if◌then◌else◌}
 use Rattle.log_sums.specs.declared.spells.Spells.{Spells}
 use Rattle.log_sums.specs.declared.gaps.Gaps.{Gaps}
 use Rattle.log_sums.specs.Series.{AreFigures, since}

@@ -3,13 +3,11 @@ use Rattle.std.proofs.Common.{◌≡◌, ◌∙◌, ℕ, zero, suc, ◌+◌, ◌
 use Rattle.std.specs.List.{slice_get}
 use Rattle.std.proofs.lemmas.List.{get_or-set_other, get_or-set_same, get_or_default, take_more}
 use Rattle.std.proofs.lemmas.Option.{get_or_from_slice_get, slice_get_within}
-use Rattle.std.specs.Prelude.{nat_lt}
 use Rattle.sig_types.specs.declared.record.Record.{Record}
 use Rattle.log_sums.specs.declared.tally.Tally.{Tally}
 use Rattle.log_sums.specs.Tallies.{AreTallies}
 use Rattle.sig_types.specs.Counts.{Counts, Kind, count_in, count_of}
 use Rattle.record_sums.specs.Adding.{AddTallies}
-use Rattle.record_sums.specs.Told.{AgreesTo, told}
 use Rattle.record_sums.proofs.Telling.{agrees_last, agrees_still}
 
 pub size_more : (records : List Record) (r : Record) → length (records ++ r ∷ []) ≡ length records + 1

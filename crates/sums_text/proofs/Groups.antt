@@ -1,5 +1,5 @@
 -- The lines of groups and detectors, one after another.
-use Rattle.std.proofs.Common.{◌≡◌, ◌∙◌, ℕ, suc, zero, ◌+◌, ◌<◌, Bool, refl, List, [], ◌∷◌, ◌++◌, length, get_or, take, sym, ap, arith, append_assoc}
+use Rattle.std.proofs.Common.{◌≡◌, ◌∙◌, ℕ, suc, zero, ◌+◌, ◌<◌, Bool, List, [], ◌∷◌, ◌++◌, length, get_or, take, sym, ap, arith, append_assoc}
 use Rattle.std.proofs.lemmas.List.{append-nil}
 use Rattle.log_sums.specs.declared.group.GroupSums.{GroupSums}
 use Rattle.log_sums.specs.declared.detector.DetectorSums.{DetectorSums}

@@ -1,4 +1,4 @@
-use Rattle.std.proofs.Common.{◌≡◌, ◌∙◌, true, false, sym}
+use Rattle.std.proofs.Common.{◌∙◌, sym}
 use Rattle.log_sums.proofs.Seen.{await_known, await_new}
 use Rattle.log_sums.proofs.tally.add_key.Goals as goal
 

@@ -1,4 +1,3 @@
-use Rattle.std.proofs.Common.{length, sym}
 use Rattle.std.proofs.lemmas.List.{take_all, take_more}
 use Rattle.log_sums.proofs.tally.add_keys.Goals as goal
 

@@ -1,5 +1,4 @@
-use Rattle.std.proofs.Common.{◌≡◌, ◌∙◌, ◌<◌, arith, refl, get_or, length}
-use Rattle.log_sums.specs.declared.tally.Tally.{Tally}
+use Rattle.std.proofs.Common.{◌∙◌, ◌<◌, arith, refl, get_or, length}
 use Rattle.log_sums.specs.Tallies.{AreCounts, times_of}
 use Rattle.log_sums.proofs.Shown.{keys_next, rest_more, same_keys, shown_more}
 use Rattle.log_sums.proofs.Steps.{after}

@@ -1,4 +1,4 @@
-use Rattle.std.proofs.Common.{◌≡◌, ℕ, ◌+◌, ◌<◌, ◌≤◌, List, get_or, length, map}
+use Rattle.std.proofs.Common.{◌≡◌, ℕ, ◌+◌, ◌<◌, ◌≤◌, List, get_or, map}
 use Rattle.log_sums.specs.declared.tally.Tally.{Tally}
 use Rattle.log_sums.specs.Tallies.{AreCounts, AwaitItems, times_of}
 use Rattle.log_sums.proofs.tally.show_each.Given as goal

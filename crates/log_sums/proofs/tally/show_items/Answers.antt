@@ -1,4 +1,4 @@
-use Rattle.std.proofs.Common.{◌≡◌, ◌∙◌, ap, length, sym}
+use Rattle.std.proofs.Common.{◌≡◌, ◌∙◌, ap, length}
 use Rattle.log_sums.proofs.Shown.{written_back}
 use Rattle.log_sums.proofs.tally.show_items.Goals as goal
 

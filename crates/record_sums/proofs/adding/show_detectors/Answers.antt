@@ -1,4 +1,4 @@
-use Rattle.std.proofs.Common.{◌≡◌, ◌∙◌, ◌<◌, ℕ, ap, arith, get_or, length, refl, sym}
+use Rattle.std.proofs.Common.{◌∙◌, ◌<◌, ℕ, ap, arith, length, sym}
 use Rattle.std.proofs.lemmas.List.{length-set}
 use Rattle.sig_types.specs.Counts.{fronts, rears}
 use Rattle.log_sums.specs.declared.detector.DetectorSums.{DetectorSums}

@@ -1,6 +1,5 @@
-use Rattle.std.proofs.Common.{◌≡◌, ◌∙◌, ◌≤◌, ◌<◌, ◌++◌, ◌∷◌, [], arith, length, refl, sym, take, le-ltb, lt-ltb}
+use Rattle.std.proofs.Common.{◌∙◌, ◌≤◌, ◌<◌, ◌++◌, ◌∷◌, [], arith, length, sym, le-ltb, lt-ltb}
 use Rattle.std.proofs.lemmas.List.{take-append-le, take_all}
-use Rattle.sig_types.specs.declared.record.Record.{Record}
 use Rattle.record_sums.proofs.Added.{size_more}
 use Rattle.record_sums.proofs.adding.take_record.Goals as goal
 

@@ -1,6 +1,4 @@
-use Rattle.std.proofs.Common.{◌≡◌, ◌++◌, ℕ, List, codes, append_assoc}
-use Rattle.std.specs.Fmt.{decimal}
-use Rattle.sig_io.proofs.Drafts.{same_put, then}
+use Rattle.sig_io.proofs.Drafts.{then}
 use Rattle.sums_text.proofs.names.put_place_name.Goals as goal
 
 pub returns-in-Inter : goal.returns-in-Inter

@@ -1,4 +1,4 @@
-use Rattle.std.proofs.Common.{◌+◌, ◌*◌, ◌≤◌, ◌++◌, ℕ, List, Option, take}
+use Rattle.std.proofs.Common.{take}
 use Rattle.sig_io.specs.Draft.{Puts}
 use Rattle.sums_text.specs.Words.{detectors_text}
 use Rattle.sums_text.proofs.rows.put_detectors.Given as goal

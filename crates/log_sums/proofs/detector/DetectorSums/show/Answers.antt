@@ -1,4 +1,4 @@
-use Rattle.std.proofs.Common.{◌≡◌, ◌+◌, ◌*◌, ◌≤◌, arith, rules}
+use Rattle.std.proofs.Common.{◌≡◌, ◌+◌, arith, rules}
 use Rattle.log_sums.specs.Detectors.{detected, occupied}
 use Rattle.log_sums.specs.Series.{sum_to}
 use Rattle.log_sums.proofs.Steps.{sum_next}

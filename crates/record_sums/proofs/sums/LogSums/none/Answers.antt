@@ -1,4 +1,4 @@
-use Rattle.std.proofs.Common.{◌≡◌, [], arith, refl, sym, le-ltb}
+use Rattle.std.proofs.Common.{[], arith, refl, sym, le-ltb}
 use Rattle.record_sums.proofs.Added.{no_tallies, take_none}
 use Rattle.record_sums.proofs.sums.LogSums.none.Goals as goal
 

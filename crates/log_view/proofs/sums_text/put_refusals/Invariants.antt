@@ -1,9 +1,0 @@
-use Rattle.std.proofs.Common.{take}
-use Rattle.sig_io.specs.Draft.{Puts}
-use Rattle.std.specs.List.{flat_map}
-use Rattle.log_view.specs.SumsText.{refusal_text}
-use Rattle.log_view.proofs.sums_text.put_refusals.Given as goal
-
-abbrev pub invariant-loop-tally : goal.invariant-loop-tally
-invariant-loop-tally g l =
-    Puts g.O.Sink.taken g.O.Sink.faults l.fn.draft l.draft l.fn.sink l.sink (flat_map (refusal_text l.names) (take l.tally-index l.tallies))
