@@ -1,7 +1,8 @@
 //! Draws, sums and judges a log: `diagram LOG FROM TO` writes an SVG signal timing diagram of these seconds, `text LOG FROM TO` the
-//! same as characters, `sums LOG` what groups, stages, refusals, faults and detectors add up to, `breaches LOG PUA TIMES INTERGREENS`
-//! what the log of any controller breaks of the rules of a junction, `protocol LOG PUA TIMES INTERGREENS` what came in it, and
-//! `refusals LOG PUA TIMES INTERGREENS` why commands and turns were refused.
+//! same as characters, `sums LOG [FROM TO]` what groups, stages, refusals, faults and detectors add up to,
+//! `breaches LOG PUA TIMES INTERGREENS` what the log of any controller breaks of the rules of a junction,
+//! `protocol LOG PUA TIMES INTERGREENS` what came in it, and `refusals LOG PUA TIMES INTERGREENS` why commands and turns were
+//! refused.
 #![tactic(auto)]
 
 use breach_view::report_breaches;
@@ -14,6 +15,7 @@ use std::env::Args;
 use std::io::ErrorKind;
 use std::process::ExitCode;
 use std::{env, io};
+use sums_view::report_sums;
 
 // The words after the program's name. A word that is no UTF-8 makes the words no form, and none stand for it.
 fn words_of(alloc: Global, args: io::Result<Args>) -> Result<Vec<String>, AllocError> {
@@ -33,6 +35,9 @@ fn answer<F: Files, O: Sink, N: Sink>(
     notes: &mut N,
 ) -> u8 {
     match words.first() {
+        Some(word) if word.as_str() == "sums" => {
+            exit_status(report_sums(alloc, words, files, out, notes))
+        }
         Some(word) if word.as_str() == "breaches" => {
             judge_notes::exit_status(report_breaches(alloc, words, files, out, notes))
         }

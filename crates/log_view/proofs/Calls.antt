@@ -8,7 +8,7 @@ use Rattle.log_view.specs.declared.form.Window.{Window}
 use Rattle.log_view.specs.declared.stop.Stop.{Stop}
 use Rattle.log_view.specs.declared.stop.Stop.TheVariants.{Memory, Words, TooManySeconds, ReadFault, WriteFault, Line, LogEnds}
 use Rattle.log_view.specs.Call.{IsAnswered, IsStopped, IsTextOf, IsWritten}
-use Rattle.log_view.specs.Form.{Asked, Diagram, Help, Sums, Text, Version, form_of, strip_by, strip_form, strip_of, strips_form, window_from, window_of, window_to, with_window}
+use Rattle.log_view.specs.Form.{Asked, Diagram, Help, Text, Version, form_of, strip_by, strip_form, strip_of, strips_form, window_from, window_of, window_to, with_window}
 
 -- a text that is asked for, and is written
 pub answered : (asked : Asked) (file : Contents) (text : List ℕ) (given : Result (Unit {0}) Stop) (old new : Option (List ℕ)) → IsTextOf asked file text → IsWritten text given old new →
@@ -66,7 +66,7 @@ pub by_words : (words : List (List ℕ)) → IsByWords (form_of words)
 by_words [] = tt
 by_words (a ∷ []) = chosen (bytes_eq a (codes "--help")) (Ok Help) (if bytes_eq a (codes "--version") then Ok Version else Err Words) tt
     (chosen (bytes_eq a (codes "--version")) (Ok Version) (Err Words) tt tt)
-by_words (a ∷ b ∷ []) = chosen (bytes_eq a (codes "sums")) (Ok (Sums b)) (Err Words) tt tt
+by_words (a ∷ b ∷ []) = tt
 by_words (a ∷ b ∷ c ∷ []) = tt
 by_words (a ∷ b ∷ c ∷ d ∷ []) =
     let window = by_to d (within 1 604801 (number_of c)) in

@@ -4,11 +4,6 @@ pub mod Ranges
 pub mod Showable
 pub mod Reading
 pub mod Blocks
-pub mod SumLines
-pub mod Tallies
-pub mod Places
-pub mod Adding
-pub mod Summing
 pub mod Calls
 pub mod NumberTexts
 pub mod CutTexts

@@ -8,9 +8,7 @@ use Rattle.log_view.specs.declared.stop.Stop.{Stop}
 use Rattle.log_view.specs.declared.stop.Stop.TheVariants.{Memory, Words, TooManySeconds, ReadFault, WriteFault, Line, LogEnds}
 use Rattle.log_svg.specs.declared.diagram.Diagram.{Diagram}
 use Rattle.log_svg.specs.ShownIn.{shown_in}
-use Rattle.log_view.specs.declared.sums.Sums.{Sums}
 use Rattle.log_view.specs.Gathered.{IsGathered}
-use Rattle.log_view.specs.Summed.{IsSummed}
 
 -- the log is refused at this line for this reason
 abbrev pub IsRefusedAt : List ℕ → ℕ → LogWhy → Type 0
@@ -53,25 +51,3 @@ pub record IsDiagramOf (bytes : List ℕ) (window : Window) (d : Diagram) : Type
 abbrev pub IsGathering : List ℕ → Window → Result Diagram Stop → Type 0
 IsGathering bytes window (Ok d) = IsDiagramOf bytes window d
 IsGathering bytes window (Err stop) = IsUndrawn bytes window.to stop
-
--- why a log with these bytes is not added up
-abbrev pub IsUnsummed : List ℕ → Stop → Type 0
-IsUnsummed bytes Memory = Unit {0}
-IsUnsummed bytes Words = ⊥
-IsUnsummed bytes TooManySeconds = ⊥
-IsUnsummed bytes ReadFault = Unit {0}
-IsUnsummed bytes WriteFault = ⊥
-IsUnsummed bytes (Line line why) = IsRefusedAt bytes line why
-IsUnsummed bytes (LogEnds last) = ⊥
-
--- the sums of a log with these bytes, all of which is accepted
-pub record IsSumsOf (bytes : List ℕ) (s : Sums) : Type 0 where
-  pub names : List (List ℕ)
-  pub records : List Record
-  pub log : IsLog names bytes records None
-  pub summed : IsSummed names records s
-
--- what the adding up of a log answers
-abbrev pub IsSumming : List ℕ → Result Sums Stop → Type 0
-IsSumming bytes (Ok s) = IsSumsOf bytes s
-IsSumming bytes (Err stop) = IsUnsummed bytes stop

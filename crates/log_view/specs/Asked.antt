@@ -4,7 +4,7 @@ use Rattle.log_svg.specs.Diagram.{IsStrip}
 use Rattle.log_view.specs.declared.form.Form.{Form}
 use Rattle.log_view.specs.declared.form.Form.TheVariants as form
 use Rattle.log_view.specs.declared.stop.Stop.{Stop}
-use Rattle.log_view.specs.Form.{Asked, Diagram, Help, IsWindow, Sums, Text, Version}
+use Rattle.log_view.specs.Form.{Asked, Diagram, Help, IsWindow, Text, Version}
 
 -- what is asked for, as the definition sees it
 abbrev pub asked_in : Form → Asked
@@ -12,7 +12,6 @@ asked_in form.Help = Help
 asked_in form.Version = Version
 asked_in (form.Diagram log window strip) = Diagram log.now window strip
 asked_in (form.Text log window) = Text log.now window
-asked_in (form.Sums log) = Sums log.now
 
 -- what is asked for, or why the words are no call
 abbrev pub asked_by : Result Form Stop → Result Asked Stop
@@ -25,4 +24,3 @@ IsInOrder form.Help = Unit {0}
 IsInOrder form.Version = Unit {0}
 IsInOrder (form.Diagram log window strip) = IsWindow window × IsStrip strip
 IsInOrder (form.Text log window) = IsWindow window
-IsInOrder (form.Sums log) = Unit {0}

@@ -12,19 +12,17 @@ use Rattle.log_view.specs.declared.stop.Status.{Status}
 use Rattle.log_view.specs.declared.stop.Status.TheVariants.{Done}
 use Rattle.log_view.specs.declared.stop.Stop.{Stop}
 use Rattle.log_view.specs.declared.stop.Stop.TheVariants.{Memory, Words, TooManySeconds, ReadFault, WriteFault, Line, LogEnds}
-use Rattle.log_view.specs.declared.sums.Sums.{Sums as Summed}
-use Rattle.log_view.specs.Answers.{IsDiagramOf, IsSumsOf, IsUndrawn, IsUnsummed}
-use Rattle.log_view.specs.Form.{Asked, Diagram, Help, Sums, Text, Version, form_of}
+use Rattle.log_view.specs.Answers.{IsDiagramOf, IsUndrawn}
+use Rattle.log_view.specs.Form.{Asked, Diagram, Help, Text, Version, form_of}
 use Rattle.log_view.specs.Letters.{letters_text}
 use Rattle.log_view.specs.Notes.{status_of, stop_note}
-use Rattle.log_view.specs.SumsText.{sums_text}
 
 -- how it is called
 unfoldable pub usage_text : List ℕ
 usage_text =
     codes "log_report diagram LOG FROM TO [--strip N]\n                                 an SVG signal timing diagram of these seconds, at most 3600, in strips of N (120)\n"
     ++ codes "log_report text LOG FROM TO      the same as characters\n"
-    ++ codes "log_report sums LOG              what groups, stages, refusals, faults and detectors add up to\n"
+    ++ codes "log_report sums LOG [FROM TO]    what groups, stages, refusals, faults and detectors add up to\n"
     ++ codes "log_report breaches LOG PUA TIMES INTERGREENS [--amber-tolerance N] [--csv]\n                                 each breach of the rules by any controller, in words or as a table\n"
     ++ codes "log_report protocol LOG PUA TIMES INTERGREENS [--csv]\n                                 what came in the log of any controller, beside what the tables say\n"
     ++ codes "log_report refusals LOG PUA TIMES INTERGREENS [FROM TO] [--csv]\n                                 why each command and each turn was refused, in numbers\n"
@@ -40,7 +38,6 @@ IsTextOf Help file text = text ≡ usage_text
 IsTextOf Version file text = text ≡ version_text
 IsTextOf (Diagram log window strip) file text = (d : Drawn) × IsDiagramOf (file log) window d × (text ≡ diagram_text (shown_in d) strip)
 IsTextOf (Text log window) file text = (d : Drawn) × IsDiagramOf (file log) window d × (text ≡ letters_text (shown_in d))
-IsTextOf (Sums log) file text = (s : Summed) × IsSumsOf (file log) s × (text ≡ sums_text s)
 
 -- why there is no such text
 abbrev pub HasNoText : Asked → Contents → Stop → Type 0
@@ -48,7 +45,6 @@ HasNoText Help file stop = ⊥
 HasNoText Version file stop = ⊥
 HasNoText (Diagram log window strip) file stop = IsUndrawn (file log) window.to stop
 HasNoText (Text log window) file stop = IsUndrawn (file log) window.to stop
-HasNoText (Sums log) file stop = IsUnsummed (file log) stop
 
 -- a sink has taken the text, or only its first bytes, and failed
 abbrev pub IsWritten : List ℕ → Result (Unit {0}) Stop → Option (List ℕ) → Option (List ℕ) → Type 0

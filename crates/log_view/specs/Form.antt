@@ -13,13 +13,12 @@ pub record IsWindow (window : Window) : Type 0 where
   pub hour : window.to < window.from + 3600
   pub last : window.to ≤ 604801
 
--- what is asked for: the usage, the version, a picture of some seconds of a log in strips of so many, the same as characters, or the sums of a log
+-- what is asked for: the usage, the version, a picture of some seconds of a log in strips of so many, or the same as characters
 pub data Asked : Type 0 where
   Help : Asked
   Version : Asked
   Diagram : (log : List ℕ) (window : Window) (strip : ℕ) → Asked
   Text : (log : List ℕ) (window : Window) → Asked
-  Sums : (log : List ℕ) → Asked
 
 -- at most 3,600 seconds
 abbrev pub window_by : ℕ → ℕ → Result Window Stop
@@ -48,10 +47,6 @@ with_window make (Err stop) = Err stop
 abbrev pub lone_form : List ℕ → Result Asked Stop
 lone_form word =
     if bytes_eq word (codes "--help") then Ok Help else (if bytes_eq word (codes "--version") then Ok Version else Err Words)
-
--- sums LOG
-abbrev pub sums_form : List ℕ → List ℕ → Result Asked Stop
-sums_form word log = if bytes_eq word (codes "sums") then Ok (Sums log) else Err Words
 
 -- diagram LOG FROM TO and text LOG FROM TO; a strip has 120 seconds where no word says it
 abbrev pub window_form : List ℕ → List ℕ → Result Window Stop → Result Asked Stop
@@ -82,10 +77,9 @@ strips_form log (Err stop) strip = Err stop
 abbrev pub option_form : List ℕ → List ℕ → Result Window Stop → Result ℕ Stop → Result Asked Stop
 option_form word log window strip = if bytes_eq word (codes "diagram") then strips_form log window strip else Err Words
 
--- --help, --version, sums LOG, diagram LOG FROM TO [--strip N], text LOG FROM TO
+-- --help, --version, diagram LOG FROM TO [--strip N], text LOG FROM TO
 abbrev pub form_of : List (List ℕ) → Result Asked Stop
 form_of (word ∷ []) = lone_form word
-form_of (word ∷ log ∷ []) = sums_form word log
 form_of (word ∷ log ∷ from ∷ to ∷ []) = window_form word log (window_of from to)
 form_of (word ∷ log ∷ from ∷ to ∷ option ∷ value ∷ []) = option_form word log (window_of from to) (strip_of option value)
 form_of _ = Err Words

@@ -3,10 +3,7 @@ pub mod Asked
 pub mod Notes
 pub mod Gathered
 pub mod Drawn
-pub mod Summed
-pub mod SumsText
 pub mod Letters
 pub mod Answers
 pub mod Call
-pub mod Adding
 pub mod Laws

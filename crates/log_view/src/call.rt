@@ -10,15 +10,11 @@ ghost use Rattle.log_view.specs.Asked.{IsInOrder, asked_in};
 ghost use Rattle.log_view.specs.Call.{IsAnswered, IsReported, IsWritten, usage_text, version_text};
 ghost use Rattle.log_view.specs.Form.{form_of};
 ghost use Rattle.log_view.specs.Letters.{letters_text};
-ghost use Rattle.log_view.specs.Summed.{IsTextual};
-ghost use Rattle.log_view.specs.SumsText.{sums_text};
 
 use crate::form::{Form, form_of};
 use crate::gathering::gather;
 use crate::letters::put_text;
 use crate::stop::{Status, Stop, status_of, write_stop};
-use crate::sums::{Sums, sum_up};
-use crate::sums_text::put_sums;
 use log_svg::{Diagram, put_diagram};
 use sig_io::{Draft, Files, Sink};
 use std::alloc::Global;
@@ -38,7 +34,7 @@ fn put_usage<O: Sink>(draft: &mut Draft, sink: &mut O)
     );
     draft.put(
         sink,
-        b"log_report sums LOG              what groups, stages, refusals, faults and detectors add up to\n",
+        b"log_report sums LOG [FROM TO]    what groups, stages, refusals, faults and detectors add up to\n",
     );
     draft.put(
         sink,
@@ -119,18 +115,6 @@ fn write_letters<O: Sink>(diagram: &Diagram, out: &mut O) -> Result<(), Stop>
     end(draft, out)
 }
 
-// Writes sums.
-fn write_sums<O: Sink>(sums: &Sums, out: &mut O) -> Result<(), Stop>
-    requires { IsTextual sums.now }
-    ensures written { IsWritten (sums_text sums.now) result (O.taken out.old) (O.taken out.new) }
-    ensures stop { IfErr result (λ stop. stop ≡ Stop.WriteFault) }
-    ensures cause { OnErr result (Rose (O.faults out.old) (O.faults out.new)) }
-{
-    let mut draft = Draft::new();
-    put_sums(&mut draft, out, sums);
-    end(draft, out)
-}
-
 // Does what is asked for.
 fn do_form<F: Files, O: Sink>(
     alloc: Global,
@@ -157,10 +141,6 @@ fn do_form<F: Files, O: Sink>(
             Ok(diagram) => write_letters(&diagram, out),
             Err(stop) => Err(stop),
         },
-        Form::Sums(log) => match sum_up(alloc, files, log) {
-            Ok(sums) => write_sums(&sums, out),
-            Err(stop) => Err(stop),
-        },
     }
 }
 
@@ -168,7 +148,6 @@ fn do_form<F: Files, O: Sink>(
 ///
 /// - `diagram LOG FROM TO [--strip N]` writes an SVG signal timing diagram of 1 to 3,600 seconds of a log, in strips of N seconds.
 /// - `text LOG FROM TO` writes the same as characters.
-/// - `sums LOG` writes what groups, stages, refusals, faults and detectors of a whole log add up to.
 /// - `--help` and `--version` write how it is called, and the version.
 ///
 /// A log is read to its end before the first byte is written. Nothing is written where it is refused, or ends before TO. No file is

@@ -2,7 +2,7 @@
 ghost use Rattle.std.specs.Prelude.{◌≡◌, ◌+◌, ◌<◌, ◌≤◌, IfOk, map, string_bytes};
 ghost use Rattle.log_view.specs.Asked.{IsInOrder, asked_by};
 ghost use Rattle.log_svg.specs.Diagram.{IsStrip};
-ghost use Rattle.log_view.specs.Form.{IsWindow, form_of, lone_form, option_form, strip_form, strip_of, sums_form, window_form, window_of};
+ghost use Rattle.log_view.specs.Form.{IsWindow, form_of, lone_form, option_form, strip_form, strip_of, window_form, window_of};
 
 use crate::stop::Stop;
 use sig_types::text::number;
@@ -36,8 +36,6 @@ pub enum Form<'a> {
     Diagram(&'a str, Window, u32),
     /// The same as characters.
     Text(&'a str, Window),
-    /// What a whole log adds up to.
-    Sums(&'a str),
 }
 
 // The seconds that two words ask for.
@@ -66,18 +64,6 @@ fn lone_form(word: &str) -> Result<Form<'_>, Stop>
         Ok(Form::Help)
     } else if word == "--version" {
         Ok(Form::Version)
-    } else {
-        Err(Stop::Words)
-    }
-}
-
-// sums LOG
-fn sums_form<'a>(word: &str, log: &'a str) -> Result<Form<'a>, Stop>
-    ensures form { asked_by result ≡ sums_form word.now log.now }
-    ensures order { IfOk result IsInOrder }
-{
-    if word == "sums" {
-        Ok(Form::Sums(log))
     } else {
         Err(Stop::Words)
     }
@@ -160,7 +146,6 @@ pub fn form_of(words: &[String]) -> Result<Form<'_>, Stop>
 {
     match words {
         [word] => lone_form(word.as_str()),
-        [word, log] => sums_form(word.as_str(), log.as_str()),
         [word, log, from, to] => {
             window_form(word.as_str(), log.as_str(), from.as_str(), to.as_str())
         }

@@ -28,7 +28,7 @@ use sig_types::{
 use std::alloc::Global;
 
 // The same names.
-pub(crate) fn copy_names(alloc: Global, names: &[ShortName]) -> Result<Vec<ShortName>, Memory>
+fn copy_names(alloc: Global, names: &[ShortName]) -> Result<Vec<ShortName>, Memory>
     ensures { IfOk result (λ v. v.items ≡ names.now) }
 {
     let mut copies = Vec::new(alloc);

@@ -1,5 +1,5 @@
-//! What a call of `log_report` does: its words, the log that it reads, the diagram, the text or the sums that it writes, and the
-//! note where it stops.
+//! What a call of `log_report` does: its words, the log that it reads, the diagram or the text that it writes, and the note where it
+//! stops.
 #![tactic(auto)]
 
 mod call;
@@ -8,14 +8,10 @@ mod gathering;
 mod laws;
 mod letters;
 mod stop;
-mod sums;
-mod sums_text;
 
 pub use call::report;
 pub use form::{Form, Window, form_of};
 pub use gathering::gather;
 pub use laws::a_written_log_is_read_whole;
 pub use letters::put_text;
-pub use stop::{Status, Stop, exit_status, status_of, write_stop};
-pub use sums::{FaultTally, PlaceSum, RefusalTally, Sums, sum_up};
-pub use sums_text::put_sums;
+pub use stop::{Status, Stop, exit_status, status_of, stop_of, write_stop};

@@ -14,8 +14,25 @@ use site_check::{check_junction, check_status};
 use std::alloc::Global;
 use std::env;
 use std::process::ExitCode;
+use sums_view::report_sums;
 use test_calls::logs::tells_log;
 use trace_call::trace;
+
+// The exit status of a call of `log_report`.
+fn report_log<F: Files, O: Sink, N: Sink>(
+    alloc: Global,
+    words: &[String],
+    files: &mut F,
+    out: &mut O,
+    notes: &mut N,
+) -> u8 {
+    match words.first() {
+        Some(word) if word.as_str() == "sums" => {
+            log_view::exit_status(report_sums(alloc, words, files, out, notes))
+        }
+        _ => log_view::exit_status(report(alloc, words, files, out, notes)),
+    }
+}
 
 // The exit status of a call.
 fn call<F: Files, O: Sink, N: Sink>(
@@ -30,7 +47,7 @@ fn call<F: Files, O: Sink, N: Sink>(
             check_status(check_junction(alloc, site, files, out, notes))
         }
         [first, asked @ ..] if first.as_str() == "report" => {
-            log_view::exit_status(report(alloc, asked, files, out, notes))
+            report_log(alloc, asked, files, out, notes)
         }
         [first, asked @ ..] if first.as_str() == "trace" => {
             exit_status(trace(alloc, asked, files, out, notes))

@@ -3,6 +3,7 @@ use log_view::{Status, report};
 use sig_io::{MemFiles, MemSink};
 use std::alloc::{AllocError, Global};
 use std::test::Fail;
+use sums_view::report_sums;
 
 const LOG: &str = "VAPLOG 1 K1 K2\n\
 1|S1|RR|-|1-3:NoInterstage K2:Conflict:K1|-\n\
@@ -26,15 +27,32 @@ fault       XX\n\
 D2        1 *\n";
 
 const SUMS: &str = "SECONDS 6\n\
-GROUP K1 greens:1 ended:1 shortest:1 mean:1.0 longest:1 longest_red:2\n\
-GROUP K2 greens:1 ended:0 longest_red:4\n\
+GROUP K1 greens:1 ended:1 shortest:1 mean:1.0 longest:1 longest_red:2 longest_red_from:5 \
+seconds:1 share:16.6 first_green:3 reds:2 reds_ended:1 shortest_red:1 mean_red:1.0 longest_ended_red:1 cycles:0\n\
+GROUP K2 greens:1 ended:0 longest_red:4 longest_red_from:1 \
+seconds:1 share:16.6 first_green:6 reds:1 reds_ended:1 shortest_red:4 mean_red:4.0 longest_ended_red:4 cycles:0\n\
 STAGE 1 times:1 seconds:3\n\
 INTERSTAGE 1-2 times:1 seconds:2\n\
 STAGE 2 times:1 seconds:1\n\
-REFUSED 1-3:NoInterstage times:1\n\
-REFUSED K2:Conflict:K1 times:2\n\
-FAULT Number@7 times:2\n\
-DETECTOR 2 vehicles:13\n";
+REFUSED 1-3:NoInterstage times:1 seconds:1 longest_run:1 longest_run_from:1\n\
+REFUSED K2:Conflict:K1 times:2 seconds:2 longest_run:1 longest_run_from:1\n\
+RULE K2:Conflict times:2 seconds:2 longest_run:1 longest_run_from:1\n\
+FAULT Number@7 times:2 seconds:2 longest_run:2 longest_run_from:4\n\
+DETECTOR 2 vehicles:13 occupied:5 largest_headway:0 headway_after:2\n\
+DETECTOR 3 vehicles:0 occupied:0\n";
+
+const PART: &str = "SECONDS 3\n\
+GROUP K1 greens:1 ended:1 shortest:1 mean:1.0 longest:1 longest_red:0 \
+seconds:1 share:33.3 first_green:3 reds:1 reds_ended:0 cycles:0\n\
+GROUP K2 greens:0 ended:0 longest_red:4 longest_red_from:1 \
+seconds:0 share:0.0 reds:0 reds_ended:1 shortest_red:4 mean_red:4.0 longest_ended_red:4 cycles:0\n\
+STAGE 1 times:0 seconds:1\n\
+INTERSTAGE 1-2 times:1 seconds:2\n\
+REFUSED K2:Conflict:K1 times:1 seconds:1 longest_run:1 longest_run_from:3\n\
+RULE K2:Conflict times:1 seconds:1 longest_run:1 longest_run_from:3\n\
+FAULT Number@7 times:2 seconds:2 longest_run:2 longest_run_from:4\n\
+DETECTOR 2 vehicles:12 occupied:3 largest_headway:0 headway_after:3\n\
+DETECTOR 3 vehicles:0 occupied:0\n";
 
 // What a call told: its status, what it wrote, and its note.
 #[derive(Drop)]
@@ -54,7 +72,12 @@ fn call(alloc: Global, words: &[&str], log: &str) -> Result<Told, Fail> {
     }
     let mut out = MemSink::new(alloc, 65536, Vec::new(alloc))?;
     let mut notes = MemSink::new(alloc, 4096, Vec::new(alloc))?;
-    let status = report(alloc, &list, &mut files, &mut out, &mut notes);
+    let status = match words.first() {
+        Some(word) if *word == "sums" => {
+            report_sums(alloc, &list, &mut files, &mut out, &mut notes)
+        }
+        _ => report(alloc, &list, &mut files, &mut out, &mut notes),
+    };
     Ok(Told { status, out, notes })
 }
 
@@ -71,6 +94,14 @@ fn six_seconds_add_up(rt: HostRuntime) -> Result<(), Fail> {
     let told = call(rt.alloc(), &["sums", "l"], LOG)?;
     assert_eq!(rt; told.status, Status::Done);
     assert_eq!(rt; told.out.bytes(), SUMS.as_bytes());
+    Ok(())
+}
+
+#[test]
+fn three_of_six_seconds_add_up(rt: HostRuntime) -> Result<(), Fail> {
+    let told = call(rt.alloc(), &["sums", "l", "3", "5"], LOG)?;
+    assert_eq!(rt; told.status, Status::Done);
+    assert_eq!(rt; told.out.bytes(), PART.as_bytes());
     Ok(())
 }
 
@@ -155,7 +186,7 @@ fn a_green_goes_over_the_end_of_a_strip(rt: HostRuntime) -> Result<(), Fail> {
 // Words of a call over the log, the status and the note.
 type Stopped = (&'static [&'static str], Status, &'static str);
 
-const STOPPED: [Stopped; 8] = [
+const STOPPED: [Stopped; 10] = [
     (&["sum", "l"], Status::Words, "log_report: Words\n"),
     (
         &["text", "l", "0", "6"],
@@ -188,6 +219,12 @@ const STOPPED: [Stopped; 8] = [
         "log_report: Words\n",
     ),
     (&["sums", "m"], Status::ReadFault, "log_report: ReadFault\n"),
+    (&["sums", "l", "3"], Status::Words, "log_report: Words\n"),
+    (
+        &["sums", "l", "5", "3"],
+        Status::Words,
+        "log_report: Words\n",
+    ),
 ];
 
 #[test]

@@ -1,9 +1,8 @@
 use Rattle.std.proofs.Common.{refl}
 use Rattle.log_svg.specs.Diagram.{diagram_text}
 use Rattle.log_svg.specs.ShownIn.{shown_in}
-use Rattle.log_view.specs.Form.{Diagram, Sums, Text}
+use Rattle.log_view.specs.Form.{Diagram, Text}
 use Rattle.log_view.specs.Letters.{letters_text}
-use Rattle.log_view.specs.SumsText.{sums_text}
 use Rattle.log_view.proofs.Calls.{answered}
 use Rattle.log_view.proofs.call.do_form.Goals as goal
 
@@ -20,10 +19,3 @@ returns-in-Ok-gather-clause-answered g c file told =
     rw c.in-Text.is
     (answered (Text c.in-Text.log.now c.in-Text.window) file (letters_text (shown_in d)) c.write_letters.result _ _
     (d, c.in-Ok-gather.ensures.gathering file told, refl) c.write_letters.ensures.written)
-
-pub returns-in-Ok-sum_up-clause-answered : goal.returns-in-Ok-sum_up-clause-answered
-returns-in-Ok-sum_up-clause-answered g c file told =
-    let s = c.in-Ok-sum_up.sums in
-    rw c.in-Sums.is
-    (answered (Sums c.in-Sums.log.now) file (sums_text s) c.write_sums.result _ _
-    (s, c.in-Ok-sum_up.ensures.summing file told, refl) c.write_sums.ensures.written)

@@ -1,0 +1,31 @@
+use Rattle.std.proofs.Common.{◌≡◌, ◌∙◌, [], refl, ap}
+use Rattle.log_records.specs.Answers.{Reads, name_of, names_of}
+use Rattle.sums_text.specs.Words.{sums_text}
+use Rattle.sums_view.specs.Call.{IsTextOf}
+use Rattle.sums_view.specs.Form.{asked_in}
+use Rattle.sums_view.specs.Summed.{AreSumsIn}
+use Rattle.sums_view.proofs.Calls.{answered, unsummed}
+use Rattle.sums_view.proofs.Reading.{unread}
+use Rattle.sums_view.proofs.call.do_form.Goals as goal
+
+pub returns-in-Err-clause-answered : goal.returns-in-Err-clause-answered
+returns-in-Err-clause-answered g c file told =
+    rw c.stop_of.ensures
+    (unsummed (asked_in c.args.form.now) file _ _ _ (unread [] (file c.args.form.now.log.now) [] c.in-Err.stop (c.in-Err.ensures.opened file told [])) refl)
+
+pub returns-in-Ok-add_up-clause-answered : goal.returns-in-Ok-add_up-clause-answered
+returns-in-Ok-add_up-clause-answered g c file told =
+    let form = c.args.form.now in
+    let first = c.in-Ok.records in
+    let sums = c.in-Ok-add_up.sums in
+    let named : name_of first ≡ form.log.now = c.in-Ok.ensures.name in
+    let begun : Reads first (file form.log.now) [] = c.in-Ok.ensures.opened file told in
+    let is : AreSumsIn (names_of first) (file form.log.now) form.from form.to sums =
+    rw named at (c.in-Ok-add_up.ensures.summing file (c.in-Ok.ensures.contents_stay ∙ told) (rw (← named) at begun)) in
+    let text_of : IsTextOf (asked_in form) file (sums_text c.names.result.now sums) = record {
+      names = names_of first;
+      sums = sums;
+      sums_are = is;
+      text_is = ap (λ names. sums_text names sums) (c.names.ensures.names ∙ c.in-Ok-add_up.ensures.names);
+    } in
+    answered (asked_in form) file (sums_text c.names.result.now sums) c.write_sums.result _ _ text_of c.write_sums.ensures.written

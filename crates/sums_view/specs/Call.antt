@@ -1,0 +1,51 @@
+-- What a call answers.
+use Rattle.std.specs.Prelude.{◌≡◌, ℕ, List, Option, None, Some, Result, Ok, Err}
+use Rattle.std.specs.Option.{ForSome}
+use Rattle.std.specs.Io.KnownBytes.{append_known}
+use Rattle.sig_io.specs.Draft.{IsCut}
+use Rattle.sig_io.specs.Outside.{Contents, Rose}
+use Rattle.sig_io.specs.Seen.{Seen}
+use Rattle.log_view.specs.declared.stop.Status.{Status}
+use Rattle.log_view.specs.declared.stop.Stop.{Stop}
+use Rattle.log_view.specs.declared.stop.Stop.TheVariants.{Memory, Words, TooManySeconds, ReadFault, WriteFault, Line, LogEnds}
+use Rattle.log_view.specs.Call.{IsNoted, status_by}
+use Rattle.record_sums.specs.declared.sums.LogSums.{LogSums}
+use Rattle.sums_text.specs.Words.{sums_text}
+use Rattle.sums_view.specs.Form.{Asked, form_of}
+use Rattle.sums_view.specs.Summed.{AreSumsIn, IsUnsummed}
+
+-- the text that is asked for, of files with these contents: what the seconds of the log add up to, all of whose lines are accepted
+pub record IsTextOf (asked : Asked) (file : Contents) (text : List ℕ) : Type 0 where
+  pub names : List (List ℕ)
+  pub sums : LogSums
+  pub sums_are : AreSumsIn names (file asked.log) asked.from asked.to sums
+  pub text_is : text ≡ sums_text names sums
+
+-- where a call stops: nothing is written, but where the sink fails while the text is written
+abbrev pub IsStopped : Asked → Contents → Stop → Option (List ℕ) → Option (List ℕ) → Type 0
+IsStopped asked file Memory old new = new ≡ old
+IsStopped asked file Words old new = ⊥
+IsStopped asked file TooManySeconds old new = ⊥
+IsStopped asked file ReadFault old new = new ≡ old
+IsStopped asked file WriteFault old new = (text : List ℕ) × IsTextOf asked file text × ((n : ℕ) × IsCut old new n text)
+IsStopped asked file (Line line why) old new = (new ≡ old) × IsUnsummed (file asked.log) (Line line why)
+IsStopped asked file (LogEnds last) old new = ⊥
+
+-- what a call gives that asks for this, of files with these contents
+abbrev pub IsAnswered : Asked → Contents → Result (Unit {0}) Stop → Option (List ℕ) → Option (List ℕ) → Type 0
+IsAnswered asked file (Ok x) old new = (text : List ℕ) × IsTextOf asked file text × (new ≡ append_known old text)
+IsAnswered asked file (Err stop) old new = IsStopped asked file stop old new
+
+-- words that are no form are not answered; what a form asks for is answered where the files tell what they hold
+abbrev pub IsAnswerTo : Option Asked → Seen Contents → Seen (List ℕ) → Result (Unit {0}) Stop → Type 0
+IsAnswerTo None files out given = (given ≡ Err Words) × (out.new ≡ out.old)
+IsAnswerTo (Some asked) files out given = ForSome files.old (λ file. IsAnswered asked file given out.old out.new)
+
+-- what the top call answers to these words, over files, a sink for the text and one for the note
+pub record IsReported (words : List (List ℕ)) (files : Seen Contents) (out notes : Seen (List ℕ)) (status : Status) : Type 0 where
+  pub given : Result (Unit {0}) Stop
+  pub answer : IsAnswerTo (form_of words) files out given
+  pub status_is : status ≡ status_by given
+  pub note : IsNoted given notes
+  pub read_fault : given ≡ Err ReadFault → Rose files.before files.after
+  pub write_fault : given ≡ Err WriteFault → Rose out.before out.after

@@ -1,0 +1,30 @@
+-- What the reading of a log gives.
+use Rattle.std.specs.Prelude.{ℕ, List, length, None, Result, Ok, Err}
+use Rattle.sig_types.specs.declared.record.Record.{Record}
+use Rattle.log_records.specs.Log.{IsLog}
+use Rattle.log_view.specs.declared.stop.Stop.{Stop}
+use Rattle.log_view.specs.declared.stop.Stop.TheVariants.{Memory, Words, TooManySeconds, ReadFault, WriteFault, Line, LogEnds}
+use Rattle.log_view.specs.Answers.{IsRefusedAt}
+use Rattle.record_sums.specs.declared.sums.LogSums.{LogSums}
+use Rattle.record_sums.specs.Summed.{AreSumsOf}
+
+-- what the seconds from `from` to `to` of a log with these bytes add up to, of groups with these names; all its lines are accepted
+pub record AreSumsIn (names : List (List ℕ)) (bytes : List ℕ) (from to : ℕ) (sums : LogSums) : Type 0 where
+  pub records : List Record
+  pub log : IsLog names bytes records None
+  pub summed : AreSumsOf (length names) from to records sums
+
+-- why a log with these bytes is not added up
+abbrev pub IsUnsummed : List ℕ → Stop → Type 0
+IsUnsummed bytes Memory = Unit {0}
+IsUnsummed bytes Words = ⊥
+IsUnsummed bytes TooManySeconds = ⊥
+IsUnsummed bytes ReadFault = Unit {0}
+IsUnsummed bytes WriteFault = ⊥
+IsUnsummed bytes (Line line why) = IsRefusedAt bytes line why
+IsUnsummed bytes (LogEnds last) = ⊥
+
+-- what the adding up of a log answers
+abbrev pub IsSumming : (names : List (List ℕ)) (bytes : List ℕ) (from to : ℕ) → Result LogSums Stop → Type 0
+IsSumming names bytes from to (Ok sums) = AreSumsIn names bytes from to sums
+IsSumming names bytes from to (Err stop) = IsUnsummed bytes stop

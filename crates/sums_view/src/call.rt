@@ -1,0 +1,104 @@
+// The call.
+ghost use Rattle.std.specs.Prelude.{◌≡◌, ◌≤◌, ◌⊎◌, ℕ, IsTrue, List, None, Option, Err, IfErr, OnErr, length, map, string_bytes};
+ghost use Rattle.std.specs.Option.{ForSome};
+ghost use Rattle.sig_io.specs.Draft.{IsDraft};
+ghost use Rattle.sig_io.specs.Outside.{Rose};
+ghost use Rattle.sig_io.specs.Seen.{seen};
+ghost use Rattle.log_view.specs.Call.{IsWritten};
+ghost use Rattle.sums_text.specs.Words.{AreTextual, sums_text};
+ghost use Rattle.sums_view.specs.Form.{asked_in, form_of};
+ghost use Rattle.sums_view.specs.Call.{IsAnswered, IsReported};
+
+use crate::form::{SumsForm, form_of};
+use crate::summing::add_up;
+use log_records::LogRecords;
+use log_view::{Status, Stop, status_of, stop_of, write_stop};
+use record_sums::LogSums;
+use sig_io::{Draft, Files, Sink};
+use sig_types::ShortName;
+use std::alloc::Global;
+use sums_text::put_sums;
+
+// Gives a sink the rest of a text.
+fn end<O: Sink>(draft: Draft, out: &mut O) -> Result<(), Stop>
+    ensures written { (start : Option (List ℕ)) (text : List ℕ) → IsDraft start (O.taken out.old) draft text →
+        IsWritten text result start (O.taken out.new) }
+    ensures stop { IfErr result (λ stop. stop ≡ Stop.WriteFault) }
+    ensures later { O.faults out.old ≤ O.faults out.new }
+    ensures cause { OnErr result (IsTrue draft.failed ⊎ Rose (O.faults out.old) (O.faults out.new)) }
+{
+    match draft.finish(out) {
+        Ok(()) => Ok(()),
+        Err(_fault) => Err(Stop::WriteFault),
+    }
+}
+
+// Writes sums, of groups with these names.
+fn write_sums<O: Sink>(names: &[ShortName], sums: &LogSums, out: &mut O) -> Result<(), Stop>
+    requires { AreTextual (length names.now) sums.now }
+    ensures written { IsWritten (sums_text names.now sums.now) result (O.taken out.old) (O.taken out.new) }
+    ensures stop { IfErr result (λ stop. stop ≡ Stop.WriteFault) }
+    ensures cause { OnErr result (Rose (O.faults out.old) (O.faults out.new)) }
+{
+    let mut draft = Draft::new();
+    put_sums(&mut draft, out, names, sums);
+    end(draft, out)
+}
+
+// Does what is asked for.
+fn do_form<F: Files, O: Sink>(
+    alloc: Global,
+    form: &SumsForm<'_>,
+    files: &mut F,
+    out: &mut O,
+) -> Result<(), Stop>
+    ensures answered { ForSome (F.told files.old) (λ file.
+        IsAnswered (asked_in form.now) file result (O.taken out.old) (O.taken out.new)) }
+    ensures unwritten { IfErr result (λ stop. (stop ≡ Stop.WriteFault → ⊥) → out.new ≡ out.old) }
+    ensures contents_stay { F.told files.new ≡ F.told files.old }
+    ensures read { result ≡ Err Stop.ReadFault → Rose (F.faults files.old) (F.faults files.new) }
+    ensures write { result ≡ Err Stop.WriteFault → Rose (O.faults out.old) (O.faults out.new) }
+{
+    let mut records = match LogRecords::open(alloc, files, form.log) {
+        Ok(records) => records,
+        Err(stop) => return Err(stop_of(stop)),
+    };
+    match add_up(alloc, &mut records, form.from, form.to, files) {
+        Ok(sums) => write_sums(records.names(), &sums, out),
+        Err(stop) => Err(stop),
+    }
+}
+
+/// Does what the words `sums LOG [FROM TO]` say, and tells in a note why it stopped where it did.
+///
+/// It writes what groups, stages, refusals, faults and detectors of a log add up to, in all its seconds or in those from FROM to TO.
+/// The log is read to its end before the first byte is written; nothing is written where it is refused. No file is touched where
+/// the words are no form.
+pub fn report_sums<F: Files, O: Sink, N: Sink>(
+    alloc: Global,
+    words: &[String],
+    files: &mut F,
+    out: &mut O,
+    notes: &mut N,
+) -> Status
+    ensures reported { IsReported (map string_bytes words.now)
+        (seen (F.told files.old) (F.told files.new) (F.faults files.old) (F.faults files.new))
+        (seen (O.taken out.old) (O.taken out.new) (O.faults out.old) (O.faults out.new))
+        (seen (N.taken notes.old) (N.taken notes.new) (N.faults notes.old) (N.faults notes.new))
+        result }
+    ensures unread { form_of (map string_bytes words.now) ≡ None → files.new ≡ files.old }
+    ensures unwritten { (result ≡ Status.Done → ⊥) → (result ≡ Status.WriteFault → ⊥) → out.new ≡ out.old }
+    ensures contents_stay { F.told files.new ≡ F.told files.old }
+{
+    let Some(form) = form_of(words) else {
+        write_stop(notes, &Stop::Words);
+        return Status::Words;
+    };
+    match do_form(alloc, &form, files, out) {
+        Ok(()) => Status::Done,
+        Err(stop) => {
+            write_stop(notes, &stop);
+            status_of(&stop)
+        }
+    }
+}

@@ -1,0 +1,10 @@
+//! The form `sums` of `log_report`: what groups, stages, refusals, faults and detectors of some seconds of a log add up to.
+#![tactic(auto)]
+
+mod call;
+mod form;
+mod summing;
+
+pub use call::report_sums;
+pub use form::{SumsForm, form_of};
+pub use summing::add_up;

@@ -1,0 +1,50 @@
+// The sums of a log.
+ghost use Rattle.std.specs.Prelude.{◌≡◌, ◌≤◌, ◌<◌, ◌+◌, ◌^◌, ℕ, List, [], true, Err, IfErr, IfOk, length};
+ghost use Rattle.std.specs.Option.{ForSome};
+ghost use Rattle.sig_io.specs.Outside.{Rose};
+ghost use Rattle.log_records.specs.Answers.{Reads, is_live, name_of, names_of, records_given};
+ghost use Rattle.log_view.specs.Answers.{IsOfReading};
+ghost use Rattle.sums_text.specs.Words.{AreTextual};
+ghost use Rattle.sums_view.specs.Summed.{IsSumming};
+
+use log_records::LogRecords;
+use log_view::{Stop, stop_of};
+use record_sums::laws::sums_are_of_records;
+use record_sums::{LogSums, take_record};
+use sig_io::Files;
+use std::alloc::Global;
+
+/// What the seconds from `from` to `to` of a log add up to, of which no record was given yet. It is read to its end.
+pub fn add_up<F: Files>(
+    alloc: Global,
+    records: &mut LogRecords,
+    from: u32,
+    to: u32,
+    files: &mut F,
+) -> Result<LogSums, Stop>
+    requires live { is_live records.old ≡ true }
+    requires none { records_given records.old ≡ 0 }
+    requires few { length (names_of records.old) ≤ 64 }
+    ensures summing { ForSome (F.told files.old) (λ file. Reads records.old (file (name_of records.old)) [] →
+        IsSumming (names_of records.old) (file (name_of records.old)) from to result) }
+    ensures textual { IfOk result (λ sums. AreTextual (length (names_of records.old)) sums) }
+    ensures of_reading { IfErr result (λ stop. IsOfReading stop) }
+    ensures names { names_of records.new ≡ names_of records.old }
+    ensures contents_stay { F.told files.new ≡ F.told files.old }
+    ensures later { F.faults files.old ≤ F.faults files.new }
+    ensures cause { result ≡ Err Stop.ReadFault → Rose (F.faults files.old) (F.faults files.new) }
+{
+    sums_are_of_records();
+    let mut sums = LogSums::none(alloc, from, to);
+    'records: loop {
+        match records.next_record(files) {
+            Ok(true) => {}
+            Ok(false) => return Ok(sums),
+            Err(stop) => return Err(stop_of(stop)),
+        }
+        match take_record(alloc, &mut sums, records.current()) {
+            Ok(()) => {}
+            Err(_memory) => return Err(Stop::Memory),
+        }
+    }
+}
