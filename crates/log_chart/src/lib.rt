@@ -6,17 +6,11 @@
 
 mod chart;
 pub mod laws;
-mod past;
 mod row;
 mod span;
 mod stay;
-mod sums;
-mod totals;
 
 pub use chart::Chart;
-pub use past::GroupPast;
 pub use row::{Shown, show, spans_of};
 pub use span::Span;
 pub use stay::{add_stay, without_second};
-pub use sums::with_span;
-pub use totals::Totals;
