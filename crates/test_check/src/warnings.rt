@@ -81,6 +81,7 @@ to stage: 1\n\
 K2 -127 0\n\
 K1 2 127\n\
 $STAGE\n\
+$STAEGS\n\
 $END\n";
 
 const OF_PLANS: Case<'static> = Case {
@@ -90,6 +91,9 @@ const OF_PLANS: Case<'static> = Case {
     text: b"p.pua:23: misspelt-section: this line is a comment, since the word is none of a section; is `$STAGES` meant?
   $STAGE
   ^^^^^^
+p.pua:24: misspelt-section: this line is a comment, since the word is none of a section; is `$STAGES` meant?
+  $STAEGS
+  ^^^^^^^
 p.pua:8: stage-without-way: no interstage leads from or to stage 3, so a run never comes to it
   S3 K2
   ^^
@@ -112,7 +116,7 @@ p.pua:17: interstage-not-clean: the interstage from stage 2 to stage 1 is not ca
   $INTERSTAGE2
   ^^^^^^^^^^^^
 worst case: 16 s from a wish to what is shown (K2: minimum green of K1 and intergreen from it)
-files refused: 0, warnings: 8
+files refused: 0, warnings: 9
 ",
     ..WARNED
 };
