@@ -32,7 +32,7 @@ THEOREMS = [
      [("sig_response", "Rest", ["ShowsSoonerAtRest", "ComesToRest"])]),
     ("of two groups in conflict the one that has started stays", "`sig_response::the_first_of_two_in_conflict_stays`",
      [("sig_response", "Laws", ["FirstStays"])]),
-    ("no controller that keeps the rules is faster", "`sig_response::no_controller_is_faster`",
+    ("in no safe history does a turn come sooner than its bound", "`sig_response::no_controller_is_faster`",
      [("sig_response", "Fastest", ["NotRedSooner", "NotGreenSooner", "NotFreeSooner", "BoundIsReached"])]),
     ("each wished turn is made, or refused by a rule that it would break", "`sig_response::nothing_is_blocked_without_need`",
      [("sig_response", "Refusals", ["NeverBlocksWithoutNeed"])]),
