@@ -1,0 +1,100 @@
+#!/usr/bin/env python3
+"""checking.py PROGRAM: processor time and peak memory of a built `junction_check` over files at their limits.
+
+The site is the four-arm junction of crates/junction/examples/four_arms with one of its files in the place of another: much that is
+warned of, in many lines and in one; a plan of many parts; tables of records that are refused; a detector file beyond 16 MiB. Each
+workload stands at half and at whole size, so that a time which grows faster than its file shows. A row is the workload, the
+bytes of its file, the warnings and refusals by the last line, processor seconds and megabytes (millions of bytes).
+"""
+import os
+import resource
+import shutil
+import subprocess
+import sys
+import tempfile
+
+HERE = os.path.dirname(os.path.abspath(__file__))
+EXAMPLE = os.path.join(HERE, "../crates/junction/examples/four_arms")
+FILES = {
+    "program": "four_arms.vap",
+    "plan": "junction.pua",
+    "times": "times.csv",
+    "intergreens": "intergreens.csv",
+    "detectors": "traffic.txt",
+}
+MOST = 1_000_000
+
+
+def unused(count, gap):
+    """Returns a program that declares so many constants and uses none, with this between two of them."""
+    names = f",{gap}".join(f"c{number:06} = 1" for number in range(count))
+    return f"PROGRAM unused;\nCONST\n{names};\nPROG_ENDE: .\n"
+
+
+def wrong_numbers(count, gap):
+    """Returns a program that asks so often for a stage that isn't there, with this between two questions."""
+    asked = gap.join("IF Stage_active(99) THEN x := 1 END;" for _ in range(count))
+    return f"PROGRAM numbers;\n{asked}\nPROG_ENDE: .\n"
+
+
+def misspelt(count):
+    """Returns the example's plan behind so many section words that are nearly right."""
+    with open(os.path.join(EXAMPLE, FILES["plan"]), encoding="utf-8") as file:
+        return "$STAGE\n" * count + file.read()
+
+
+def refused(count):
+    """Returns a table of times with so many records of a group that isn't there."""
+    with open(os.path.join(EXAMPLE, FILES["times"]), encoding="utf-8") as file:
+        return file.read() + "NONE,1,1,1\n" * count
+
+
+def lines(count):
+    """Returns a detector file of so many lines, of which the last is refused."""
+    return "1:1:0 1:0:1\n" * count + "wrong\n"
+
+
+WORKLOADS = {
+    "constants, a line each": ("program", lambda part: unused(MOST // 14 // part, "\n")),
+    "constants, one line": ("program", lambda part: unused(MOST // 14 // part, " ")),
+    "numbers, a line each": ("program", lambda part: wrong_numbers(16_000 // part, "\n")),
+    "numbers, one line": ("program", lambda part: wrong_numbers(16_000 // part, " ")),
+    "section words": ("plan", lambda part: misspelt(MOST // 7 // part)),
+    "records": ("times", lambda part: refused(MOST // 11 // part)),
+    "detector lines": ("detectors", lambda part: lines(600_000 // part)),
+    "empty lines": ("program", lambda part: "\n" * (MOST // part) + unused(1, "\n")),
+}
+
+
+def measured(program, folder):
+    """Runs the program over the files of a folder, and returns its last line, its processor seconds and its most megabytes."""
+    script = (
+        "import resource, subprocess, sys\n"
+        "ran = subprocess.run(sys.argv[1:], stdout=subprocess.PIPE, stderr=subprocess.DEVNULL)\n"
+        "last = ran.stdout.decode('latin-1').splitlines()[-1:]\n"
+        "used = resource.getrusage(resource.RUSAGE_CHILDREN)\n"
+        "print(used.ru_utime + used.ru_stime, used.ru_maxrss, *last)\n"
+    )
+    words = [sys.executable, "-c", script, program, *FILES.values()]
+    said = subprocess.run(words, cwd=folder, stdout=subprocess.PIPE, text=True, check=True).stdout.split(None, 2)
+    return (said[2].strip() if len(said) > 2 else ""), float(said[0]), int(said[1]) * 1024 / 1e6
+
+
+def main(program):
+    """Prints a row for each workload at half and at whole size."""
+    for name, (which, text) in WORKLOADS.items():
+        for part in (2, 1):
+            with tempfile.TemporaryDirectory() as folder:
+                for file in FILES.values():
+                    shutil.copy(os.path.join(EXAMPLE, file), folder)
+                path = os.path.join(folder, FILES[which])
+                with open(path, "w", encoding="utf-8") as file:
+                    file.write(text(part))
+                last, seconds, most = measured(os.path.abspath(program), folder)
+                print(f"{name:24} {os.path.getsize(path):10,} {seconds:8.2f} s {most:7.1f} MB  {last}", flush=True)
+
+
+if __name__ == "__main__":
+    if len(sys.argv) != 2:
+        sys.exit(__doc__)
+    main(sys.argv[1])
