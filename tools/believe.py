@@ -126,6 +126,8 @@ THEOREMS = [
      [("site_check", "Examined", ["IsExamined"])]),
     ("the text of what is found in the files of a junction", "`site_findings::write_findings`",
      [("site_findings", "Text", ["findings_text"])]),
+    ("all records of a table that are refused", "`table_check::refused_records`",
+     [("table_check", "Refused", ["refused_records"])]),
     ("the plan's lines are its parts, a near word is one slip, an interstage has one end",
      "`pua_lines::laws`, `plan_check::laws`",
      [("pua_lines", "Laws", ["NearIsOneSlip", "StageLinesNameStages", "GroupLinesNameGroups", "InterstageLinesBeginThem"]),

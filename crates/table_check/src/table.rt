@@ -1,0 +1,8 @@
+// The two tables of a site.
+
+/// Which table it is.
+#[derive(Clone, Copy, Debug, PartialEq, Eq)]
+pub enum Table {
+    Times,
+    Intergreens,
+}
