@@ -29,7 +29,8 @@ pub fn is_same_command(kind: CommandKind, wanted: CommandKind) -> bool
     kind == wanted
 }
 
-fn is_command(kind: CallKind, wanted: CommandKind) -> bool
+/// Whether this is a command of this kind.
+pub fn is_command(kind: CallKind, wanted: CommandKind) -> bool
     ensures { result ≡ counted.is_command wanted kind }
 {
     match kind {

@@ -63,7 +63,8 @@ pub fn timer_use(kind: TimerKind) -> Use
     }
 }
 
-fn is_variable(meaning: Option<Meaning>) -> bool
+/// Whether a name is a variable.
+pub fn is_variable(meaning: Option<Meaning>) -> bool
     ensures { result ≡ names_of.is_of Sort.Variable meaning }
 {
     match meaning {

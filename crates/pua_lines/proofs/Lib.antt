@@ -3,6 +3,7 @@ pub mod UpToEnd
 pub mod Slips
 pub mod EndsRows
 pub mod PartLines
+pub mod OtherLines
 pub mod NearSlips
 pub mod StageLines
 pub mod GroupNames

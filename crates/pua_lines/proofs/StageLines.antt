@@ -1,6 +1,6 @@
 -- The line of a stage begins with its name.
 use Rattle.std.proofs.Common.{◌≡◌, ℕ, suc, ◌+◌, ◌-◌, ◌<◌, ◌≤◌, ◌==◌, ◌⊎◌, inl, inr, Bool, true, false, not, ◌&&◌, List, [], ◌∷◌, ◌++◌, length, map, get_or, refl, sym, ap, ◌∙◌, arith, Option, Some, None, if◌then◌else◌}
-use Rattle.std.specs.List.{find}
+use Rattle.std.specs.List.{find, filter_map, cons_option}
 use Rattle.std.specs.Option.{option_map, option_and_then}
 use Rattle.std.proofs.lemmas.Bool.{eqb-true, eqb-false, cases_Bool, true≢false}
 use Rattle.pua_model.specs.declared.parts.Group.{Group}
@@ -22,6 +22,7 @@ use Rattle.pua_lines.specs.declared.part.Part.TheVariants.{Stage, Interstage, Gr
 use Rattle.pua_lines.specs.declared.spot.Spot.{Spot}
 use Rattle.pua_lines.specs.Sections.{first_spot}
 use Rattle.pua_lines.specs.Parts.{PlaceOf, start, gives_stage, more_if, next, placed_from, row_part, kind_part, line_part, is_part, line_spot, part_spot, stage_spot, ends_part, ends_name, group_at}
+use Rattle.pua_lines.specs.StageWords.{stage_word, stage_words, StageWordsAreNames}
 use Rattle.pua_lines.specs.Laws.{BeginsWith, StageLinesNameStages}
 
 -- the names of the stages of rows
@@ -244,3 +245,24 @@ stage_lines_name_stages = λ text s accepted least most.
     (spot_line text lines (find (λ p. is_part (Stage s) (line_part plan p)) (placed_from start lines)) (get_or named (s - 1) [])
     (stage_spot plan text s) refl refl
     (rw (← same) it))
+
+-- the words of the lines that give stages are the names of the stages
+word_by : (b : Bool) (w : Text) (xs ys : List Text) → xs ≡ ys →
+    cons_option (if b then Some w else None) xs ≡ (if b then w ∷ ys else ys)
+word_by true w xs ys same = ap (λ (l : List Text). w ∷ l) same
+word_by false w xs ys same = same
+
+words_from : (groups : List Group) (at : PlaceOf) (lines : List Text) →
+    filter_map stage_word (placed_from at lines) ≡ names_of groups (rows_from section.Stages at.section lines)
+unfolding placed_from rows_from next stages_from
+words_from groups at [] = refl
+words_from groups at (line ∷ more) =
+    let now = section_with at.section line in
+    word_by (gives_stage now line) (word (words false line) 0) (filter_map stage_word (placed_from (next at line) more))
+    (names_of groups (rows_from section.Stages now more)) (words_from groups (next at line) more)
+    ∙ sym (row_more groups now line (rows_from section.Stages now more))
+
+pub stage_words_are_names : StageWordsAreNames
+unfolding stage_words file_stages
+stage_words_are_names = λ text accepted.
+    words_from (file_groups (lines_in text)) start (lines_in text) ∙ sym (plan_says_its_rows text accepted).stage_names

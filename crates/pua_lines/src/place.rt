@@ -69,8 +69,8 @@ fn section_after(section: Option<SectionWord>, line: &[u8]) -> Option<SectionWor
     }
 }
 
-// Whether a line of this section is a row that gives a stage.
-fn gives_stage(section: Option<SectionWord>, line: &[u8]) -> bool
+/// Whether a line of this section is a row that gives a stage.
+pub(crate) fn gives_stage(section: Option<SectionWord>, line: &[u8]) -> bool
     ensures { result ≡ gives_stage (section_value section) line.now }
 {
     match kind_of(line) {

@@ -268,6 +268,10 @@ fn named_spot(text: &[u8], tokens: &[Token], line: u32, warning: &ProgramWarning
     match warning {
         ProgramWarning::Lacking(_, name) => name_spot(text, tokens, line, name.bytes()),
         ProgramWarning::NoSetCycle(kind) => name_spot(text, tokens, line, reading_word(*kind)),
+        ProgramWarning::NameAsNumber(_, name)
+        | ProgramWarning::ConstantIndex(_, name)
+        | ProgramWarning::CycleNameAssigned(name)
+        | ProgramWarning::EndlessLoop(name) => name_spot(text, tokens, line, name.bytes()),
         ProgramWarning::UnknownGroup(_)
         | ProgramWarning::UnknownStage(_)
         | ProgramWarning::UnknownDetector(_)
@@ -277,7 +281,9 @@ fn named_spot(text: &[u8], tokens: &[Token], line: u32, warning: &ProgramWarning
         | ProgramWarning::UnreadDetector(_)
         | ProgramWarning::WrongStage(_, _)
         | ProgramWarning::ConstantCondition
-        | ProgramWarning::NeverTrue => Spot::line(line),
+        | ProgramWarning::NeverTrue
+        | ProgramWarning::ConstantArgument(_)
+        | ProgramWarning::DivisionByZero => Spot::line(line),
     }
 }
 

@@ -2,7 +2,7 @@
 use crate::cases::{Case, PROGRAM, WARNED, found};
 use std::test::Fail;
 
-const OF_PROGRAMS: [Case<'static>; 10] = [
+const OF_PROGRAMS: [Case<'static>; 13] = [
     Case {
         program: b"PROGRAM p;\nwish := 0;\nIF wihs THEN\n  Interstage(1, 2) END;\nIF Detection(1) AND wihs THEN Interstage(2, 1) END;\nPROG_ENDE: .\n",
         text: b"p.vap:3: unassigned-variable: the variable `wihs` is read and never assigned, so it is always 0\n  IF wihs THEN\n     ^^^^\np.vap:2: never-read: the variable `wish` is assigned and never read\n  wish := 0;\n  ^^^^\nworst case: 16 s from a wish to what is shown (K2: minimum green of K1 and intergreen from it)\nfiles refused: 0, warnings: 2\n",
@@ -54,6 +54,21 @@ const OF_PROGRAMS: [Case<'static>; 10] = [
         text: b"p.vap:3: constant-condition: two numbers or constants are compared, so this is always true or always false\n  IF night = day OR Detection(1) AND Headway(1) > 9 AND Headway(1) <= 8 THEN Sg_red(1) END;\n  ^^^^^^^^^^^^^^^^^^^^^^^^^^^^^^^^^^^^^^^^^^^^^^^^^^^^^^^^^^^^^^^^^^^^^^^^^^^^^^^^^^^^^^^^^\np.vap:3: never-true: two conditions that are joined by `AND` never hold at once: the one's bound is above the other's\n  IF night = day OR Detection(1) AND Headway(1) > 9 AND Headway(1) <= 8 THEN Sg_red(1) END;\n  ^^^^^^^^^^^^^^^^^^^^^^^^^^^^^^^^^^^^^^^^^^^^^^^^^^^^^^^^^^^^^^^^^^^^^^^^^^^^^^^^^^^^^^^^^\nworst case: 16 s from a wish to what is shown (K2: minimum green of K1 and intergreen from it)\nfiles refused: 0, warnings: 2\n",
         ..WARNED
     },
+    Case {
+        program: b"PROGRAM p;\ns2 := 2;\nIF Stage_active(s2) AND T_green(k1) > 0 AND Detection(1) THEN\n  Interstage(S2, 1) END;\nPROG_ENDE: .\n",
+        text: b"p.vap:3: unassigned-variable: the variable `k1` is read and never assigned, so it is always 0\n  IF Stage_active(s2) AND T_green(k1) > 0 AND Detection(1) THEN\n                                  ^^\np.vap:3: name-as-number: `s2` is a variable here, and not the stage of this name; stages go by their places in the PUA file, from 1\n  IF Stage_active(s2) AND T_green(k1) > 0 AND Detection(1) THEN\n                  ^^\np.vap:3: name-as-number: `k1` is a variable here, and not the signal group of this name; groups go by their numbers in the PUA file\n  IF Stage_active(s2) AND T_green(k1) > 0 AND Detection(1) THEN\n                                  ^^\np.vap:4: name-as-number: `s2` is a variable here, and not the stage of this name; stages go by their places in the PUA file, from 1\n    Interstage(S2, 1) END;\n               ^^\nworst case: 16 s from a wish to what is shown (K2: minimum green of K1 and intergreen from it)\nfiles refused: 0, warnings: 4\n",
+        ..WARNED
+    },
+    Case {
+        program: b"PROGRAM p;\nARRAY a[2] = [1, 2];\nIF Detection(1) AND a[3] > 4 / (2 - 2) THEN\n  Set_cycle(5000 + 5000);\n  a[0] := 1 END;\nPROG_ENDE: .\n",
+        text: b"p.vap:3: constant-index: the array `a` has no cell 3; they are counted from 1 to its size: the fault `Index` in each pass that comes here\n  IF Detection(1) AND a[3] > 4 / (2 - 2) THEN\n                      ^\np.vap:3: division-by-zero: a number is divided by 0: the fault `ZeroDivisor` in each pass that comes here\n  IF Detection(1) AND a[3] > 4 / (2 - 2) THEN\n  ^^^^^^^^^^^^^^^^^^^^^^^^^^^^^^^^^^^^^^^^^^^\np.vap:4: constant-argument: `Set_cycle` takes 0 to 9999 seconds, and this is 10000: the fault `Number` in each pass that comes here\n    Set_cycle(5000 + 5000);\n              ^^^^^^^^^^^\np.vap:5: constant-index: the array `a` has no cell 0; they are counted from 1 to its size: the fault `Index` in each pass that comes here\n    a[0] := 1 END;\n    ^\nworst case: 16 s from a wish to what is shown (K2: minimum green of K1 and intergreen from it)\nfiles refused: 0, warnings: 4\n",
+        ..WARNED
+    },
+    Case {
+        program: b"PROGRAM p;\nt := Detection(1);\nagain:\nt := t + 1;\nGOTO again;\nPROG_ENDE: .\n",
+        text: b"p.vap:2: cycle-name-assigned: `t` is assigned here, so in the whole program it is a variable, and does not read the cycle\n  t := Detection(1);\n  ^\np.vap:4: cycle-name-assigned: `t` is assigned here, so in the whole program it is a variable, and does not read the cycle\n  t := t + 1;\n  ^\np.vap:5: endless-loop: this `GOTO` leads back to `again`, and nothing between leads out: the fault `Budget` in each pass that comes here\n  GOTO again;\n       ^^^^^\nworst case: 16 s from a wish to what is shown (K2: minimum green of K1 and intergreen from it)\nfiles refused: 0, warnings: 3\n",
+        ..WARNED
+    },
 ];
 
 // Three groups, of which no stage has K3 green; a third stage without ways; and interstages whose K2 is late, and whose K1 is early.
@@ -82,7 +97,9 @@ K2 -127 0\n\
 K1 2 127\n\
 $STAGE\n\
 $STAEGS\n\
-$END\n";
+$END\n\
+rows that nothing reads\n\
+$STAGES\n";
 
 const OF_PLANS: Case<'static> = Case {
     program: PROGRAM,
@@ -93,6 +110,9 @@ const OF_PLANS: Case<'static> = Case {
   ^^^^^^
 p.pua:24: misspelt-section: this line is a comment, since the word is none of a section; is `$STAGES` meant?
   $STAEGS
+  ^^^^^^^
+p.pua:27: after-end: this section stands behind `$END`, where nothing is read
+  $STAGES
   ^^^^^^^
 p.pua:8: stage-without-way: no interstage leads from or to stage 3, so a run never comes to it
   S3 K2
@@ -116,7 +136,7 @@ p.pua:17: interstage-not-clean: the interstage from stage 2 to stage 1 is not ca
   $INTERSTAGE2
   ^^^^^^^^^^^^
 worst case: 16 s from a wish to what is shown (K2: minimum green of K1 and intergreen from it)
-files refused: 0, warnings: 9
+files refused: 0, warnings: 10
 ",
     ..WARNED
 };

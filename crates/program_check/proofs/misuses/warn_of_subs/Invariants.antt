@@ -1,0 +1,12 @@
+use Rattle.std.proofs.Common.{◌≡◌, ◌++◌, drop, map}
+use Rattle.std.specs.Prelude.{flat_map}
+use Rattle.vap_ast.specs.Tree.{program_of, routine_of}
+use Rattle.program_check.specs.Misuses.{items_misuses}
+use Rattle.program_check.proofs.misuses.warn_of_subs.Given as goal
+
+abbrev pub invariant-loop-sub : goal.invariant-loop-sub
+invariant-loop-sub l =
+    l.warned.items ++ flat_map (items_misuses l.checked.names (program_of l.checked.tree).arrays l.plan (map (λ v. v.items) l.stages))
+    (map (λ r. r.body) (map routine_of (drop l.sub-index l.subs)))
+    ≡ l.fn.warned.items ++ flat_map (items_misuses l.checked.names (program_of l.checked.tree).arrays l.plan (map (λ v. v.items) l.stages))
+    (map (λ r. r.body) (map routine_of l.subs))
