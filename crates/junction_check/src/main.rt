@@ -1,11 +1,12 @@
 //! Checks the files of a junction before they are run: for each file its first refusal, and warnings for what a run accepts in
 //! silence.
 //!
-//! Its exit status is the number of the `CheckStatus` that `check_junction` answers, or of `Memory` where the words can't be had.
+//! Its exit status is the number of the `CheckStatus` that `check_junction` answers, or of `Memory` where the words can't be
+//! had, which is noted.
 #![tactic(auto)]
 
 use sig_io::{DiskFiles, ErrSink, OutSink};
-use site_check::{CheckStatus, check_junction, check_status};
+use site_check::{check_junction, check_status, refuse_for_memory};
 use std::alloc::{AllocError, Global};
 use std::env::Args;
 use std::io::ErrorKind;
@@ -30,7 +31,7 @@ fn main(rt: HostRuntime) -> ExitCode {
     let mut notes = ErrSink::new(&stderr);
     let status = match words_of(alloc, env::args(&rt)) {
         Ok(words) => check_junction(alloc, &words, &mut files, &mut out, &mut notes),
-        Err(_) => CheckStatus::Memory,
+        Err(_) => refuse_for_memory(&mut notes),
     };
     ExitCode::from(check_status(status))
 }

@@ -1,5 +1,5 @@
 -- Findings as lines of JSON, for tools.
-use Rattle.std.specs.Prelude.{ℕ, ◌+◌, ◌==◌, nat_lt, if◌then◌else◌, List, [], ◌∷◌, ◌++◌, codes}
+use Rattle.std.specs.Prelude.{ℕ, ◌==◌, nat_lt, if◌then◌else◌, List, [], ◌∷◌, ◌++◌, codes}
 use Rattle.std.specs.Fmt.{decimal}
 use Rattle.pua_lines.specs.declared.spot.Spot.{Spot}
 use Rattle.site_findings.specs.declared.finding.Examined.{Examined}
@@ -8,11 +8,12 @@ use Rattle.site_findings.specs.declared.finding.Finding.{Finding}
 use Rattle.site_findings.specs.declared.finding.SiteNames.{SiteNames}
 use Rattle.site_findings.specs.declared.finding.Told.{Told}
 use Rattle.site_findings.specs.declared.finding.Told.TheVariants.{Refused, Unread, NotJudged, Warned}
+use Rattle.site_findings.specs.Cures.{warning_cure}
 use Rattle.site_findings.specs.Escaped.{escaped}
 use Rattle.site_findings.specs.ReasonProse.{unread_prose}
 use Rattle.site_findings.specs.Reasons.{refusal_subject, refusal_word}
 use Rattle.site_findings.specs.Slips.{refusal_prose}
-use Rattle.site_findings.specs.Text.{file_name, line_of_finding}
+use Rattle.site_findings.specs.Text.{column_of, editor_line_of, file_name, line_of_finding, record_text}
 use Rattle.site_findings.specs.Warnings.{warning_name, warning_text}
 
 -- a text of JSON
@@ -22,10 +23,6 @@ json_string bytes = codes "\"" ++ escaped bytes ++ codes "\""
 -- a number that counts from 1; null where it isn't known
 unfoldable pub json_number : ℕ → List ℕ
 json_number n = if n == 0 then codes "null" else decimal n
-
--- the column at which begins what is meant, from 1; 0 where it isn't known
-unfoldable pub column_of : Spot → ℕ
-column_of spot = if nat_lt spot.from spot.to then spot.from + 1 else 0
 
 -- the last column of what is meant; 0 where it isn't known
 unfoldable pub end_of : Spot → ℕ
@@ -46,23 +43,29 @@ word_text examined NotJudged = codes "not-judged"
 word_text examined (Warned warning) = warning_name warning
 
 -- what is told of a line of a file, in a sentence
-abbrev pub sentence_text : Examined → FileKind → Told → List ℕ → List ℕ
-sentence_text examined file (Refused refusal) line = (refusal_prose file refusal examined.program.items line).means
-sentence_text examined file Unread line = unread_prose.means
-sentence_text examined file NotJudged line = codes "not judged, since the PUA file is not accepted"
-sentence_text examined file (Warned warning) line = warning_text examined.plan warning
+abbrev pub line_sentence : Examined → FileKind → Told → List ℕ → List ℕ
+line_sentence examined file (Refused refusal) line = (refusal_prose file refusal examined.program.items line).means
+line_sentence examined file Unread line = unread_prose.means
+line_sentence examined file NotJudged line = codes "not judged, since the PUA file is not accepted"
+line_sentence examined file (Warned warning) line = warning_text examined.plan warning
 
--- what to do; nothing of a warning
+-- the same with the number of the record, where the line is that of a table and has another one
+unfoldable pub sentence_text : Examined → Finding → List ℕ
+sentence_text examined finding =
+    line_sentence examined finding.file finding.told (line_of_finding examined finding)
+    ++ record_text (editor_line_of examined finding) finding.spot.line
+
+-- what to do; nothing of a table that wasn't judged
 abbrev pub cure_text : Examined → FileKind → Told → List ℕ → List ℕ
 cure_text examined file (Refused refusal) line = (refusal_prose file refusal examined.program.items line).cure
 cure_text examined file Unread line = unread_prose.cure
 cure_text examined file NotJudged line = []
-cure_text examined file (Warned warning) line = []
+cure_text examined file (Warned warning) line = warning_cure warning
 
 -- where a finding stands
-unfoldable pub json_place : List ℕ → Spot → List ℕ
-json_place name spot =
-    codes "{\"file\":" ++ json_string name ++ codes ",\"line\":" ++ json_number spot.line ++ codes ",\"column\":"
+unfoldable pub json_place : List ℕ → ℕ → Spot → List ℕ
+json_place name line spot =
+    codes "{\"file\":" ++ json_string name ++ codes ",\"line\":" ++ json_number line ++ codes ",\"column\":"
     ++ json_number (column_of spot) ++ codes ",\"end\":" ++ json_number (end_of spot)
 
 -- what is told of it
@@ -74,9 +77,8 @@ json_told severity word sentence cure =
 -- the line of a finding
 unfoldable pub json_line : SiteNames → Examined → Finding → List ℕ
 json_line names examined finding =
-    json_place (file_name names finding.file) finding.spot
-    ++ json_told (severity_text finding.told) (word_text examined finding.told)
-    (sentence_text examined finding.file finding.told (line_of_finding examined finding))
+    json_place (file_name names finding.file) (editor_line_of examined finding) finding.spot
+    ++ json_told (severity_text finding.told) (word_text examined finding.told) (sentence_text examined finding)
     (cure_text examined finding.file finding.told (line_of_finding examined finding))
 
 -- the lines of findings, one after the other

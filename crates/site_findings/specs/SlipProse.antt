@@ -100,27 +100,27 @@ table_slip_prose table.NoSuchGroup = record {
   cure = codes "names as in `$SIGNAL_GROUPS`, in upper and lower case too";
 }
 table_slip_prose table.MinimumGreen = record {
-  means = codes "the minimum green has to be a whole number, 1 to 255";
+  means = codes "where the minimum green has to be a whole number, 1 to 255";
   often = codes "`05`, a decimal, a blank, 0";
   cure = codes "the second field: 1 to 255";
 }
 table_slip_prose table.RedAmber = record {
-  means = codes "the red-amber has to be a whole number, 0 to 9";
+  means = codes "where the red-amber has to be a whole number, 0 to 9";
   often = codes "a decimal; the columns exchanged";
   cure = codes "the third field: 0 to 9";
 }
 table_slip_prose table.Amber = record {
-  means = codes "the amber has to be a whole number, 0 to 9";
+  means = codes "where the amber has to be a whole number, 0 to 9";
   often = codes "a decimal; the columns exchanged";
   cure = codes "the fourth field: 0 to 9";
 }
 table_slip_prose table.MinimumRed = record {
-  means = codes "the minimum red has to be a whole number, 1 to 255";
+  means = codes "where the minimum red has to be a whole number, 1 to 255";
   often = codes "`05`, a decimal, a blank, 0";
   cure = codes "the fifth field: 1 to 255";
 }
 table_slip_prose table.Intergreen = record {
-  means = codes "the intergreen has to be a whole number, 0 to 99";
+  means = codes "where the intergreen has to be a whole number, 0 to 99";
   often = codes "a decimal, a blank, `05`";
   cure = codes "the third field: 0 to 99";
 }

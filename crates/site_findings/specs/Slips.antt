@@ -1,5 +1,6 @@
 -- What is told of a refusal: the slip that its line shows, or else what its reason means.
-use Rattle.std.specs.Prelude.{ℕ, List, [], Option, Some, None, unwrap_or}
+use Rattle.std.specs.Prelude.{ℕ, ◌==◌, List, [], slice_index_or, Option, Some, None, unwrap_or}
+use Rattle.std.specs.List.{slice_split}
 use Rattle.std.specs.Option.{option_map}
 use Rattle.pua_reader.specs.declared.refusal.PuaWhy.{PuaWhy}
 use Rattle.pua_reader.specs.declared.refusal.PuaWhy.TheVariants as pua
@@ -78,7 +79,11 @@ table_slip (why.Missing group) table record' = None
 table_slip (why.OneWay a b) table record' = None
 table_slip why.SelfConflict table record' = None
 
--- what of the record stands before what is told of its slip: names that are no groups'
+-- the field at a place of a record, from 0, which commas part; no bytes where there is none
+abbrev pub field_in : List ℕ → ℕ → List ℕ
+field_in record' place = slice_index_or (slice_split (λ b. b == 44) record') place []
+
+-- what of the record stands before what is told of its slip: names that are no groups', or the field that is no number
 abbrev pub quoted_names : TableSlip → List ℕ → List ℕ
 quoted_names slip.Semicolons record' = []
 quoted_names slip.Matrix record' = []
@@ -87,11 +92,11 @@ quoted_names slip.TimesAsPairs record' = []
 quoted_names slip.OtherWords record' = []
 quoted_names slip.BlankInRecord record' = []
 quoted_names slip.NoSuchGroup record' = names_in record'
-quoted_names slip.MinimumGreen record' = []
-quoted_names slip.RedAmber record' = []
-quoted_names slip.Amber record' = []
-quoted_names slip.MinimumRed record' = []
-quoted_names slip.Intergreen record' = []
+quoted_names slip.MinimumGreen record' = field_in record' 1
+quoted_names slip.RedAmber record' = field_in record' 2
+quoted_names slip.Amber record' = field_in record' 3
+quoted_names slip.MinimumRed record' = field_in record' 4
+quoted_names slip.Intergreen record' = field_in record' 2
 
 -- what is told of a slip of a record
 abbrev pub told_of_table : TableSlip → List ℕ → Prose

@@ -1,17 +1,20 @@
 // Findings as lines of JSON, for tools.
-ghost use Rattle.std.specs.Prelude.{◌≡◌, IfOk, OnOk};
-ghost use Rattle.site_findings.specs.Json.{column_of, cure_text, end_of, json_line, json_number, json_place, json_string};
-ghost use Rattle.site_findings.specs.Json.{json_text, json_told, sentence_text, severity_text, word_text};
+ghost use Rattle.std.specs.Prelude.{◌≡◌, ◌++◌, IfOk, OnOk};
+ghost use Rattle.site_findings.specs.Json.{cure_text, end_of, json_line, json_number, json_place, json_string};
+ghost use Rattle.site_findings.specs.Json.{json_text, json_told, line_sentence, severity_text, word_text};
 ghost use Rattle.site_findings.specs.Put.{Puts};
 ghost use Rattle.site_findings.specs.Sheets.{AreSheetsOf};
-ghost use Rattle.site_findings.specs.Text.{line_at};
+ghost use Rattle.site_findings.specs.Text.{editor_line, line_at, record_text};
 
+use crate::cures::warning_cure;
 use crate::escaped::put_escaped;
 use crate::finding::{Examined, FileKind, Finding, SiteNames, Told};
 use crate::reasons::put_refusal;
 use crate::sentences::unread;
 use crate::slips::said_of;
-use crate::text::{Sheets, Text, file_name, line_at, put_means, sheets_of};
+use crate::text::{
+    Sheets, Text, column_of, editor_line, file_name, line_at, put_means, put_record, sheets_of,
+};
 use crate::warned::{put_warning, warning_name};
 use pua_lines::Spot;
 use std::alloc::{AllocError, Global};
@@ -35,18 +38,6 @@ fn put_json_number(text: &mut Text, n: usize) -> Result<(), AllocError>
         text.put(b"null")
     } else {
         text.put_count(n)
-    }
-}
-
-// The column at which begins what is meant, from 1; 0 where it isn't known.
-#[tactic(auto, unfolding(crate::specs::Json::column_of))]
-fn column_of(spot: Spot) -> usize
-    ensures { result ≡ column_of spot }
-{
-    if spot.from < spot.to {
-        spot.from + 1
-    } else {
-        0
     }
 }
 
@@ -81,14 +72,14 @@ fn put_word(text: &mut Text, examined: &Examined, told: &Told) -> Result<(), All
 
 // Puts what is told of a line, in a sentence.
 #[tactic(auto, unfolding(crate::specs::Prose::quote_text))]
-fn put_sentence(
+fn put_line_sentence(
     text: &mut Text,
     examined: &Examined,
     file: FileKind,
     told: &Told,
     line: &[u8],
 ) -> Result<(), AllocError>
-    ensures { OnOk result (Puts text.old text.new (sentence_text examined.now file told.now line.now)) }
+    ensures { OnOk result (Puts text.old text.new (line_sentence examined.now file told.now line.now)) }
 {
     match told {
         Told::Refused(refusal) => {
@@ -101,7 +92,7 @@ fn put_sentence(
     }
 }
 
-// What to do; nothing of a warning.
+// What to do.
 fn cure_of(examined: &Examined, file: FileKind, told: &Told, line: &[u8]) -> &'static [u8]
     ensures { result.now ≡ cure_text examined.now file told.now line.now }
 {
@@ -112,19 +103,20 @@ fn cure_of(examined: &Examined, file: FileKind, told: &Told, line: &[u8]) -> &'s
                 .cure
         }
         Told::Unread => unread().cure,
-        Told::NotJudged | Told::Warned(_) => &[],
+        Told::NotJudged => &[],
+        Told::Warned(warning) => warning_cure(warning),
     }
 }
 
 // Puts where a finding stands.
 #[tactic(auto, unfolding(crate::specs::Json::json_place))]
-fn put_json_place(text: &mut Text, name: &[u8], spot: Spot) -> Result<(), AllocError>
-    ensures { OnOk result (Puts text.old text.new (json_place name.now spot)) }
+fn put_json_place(text: &mut Text, name: &[u8], at: usize, spot: Spot) -> Result<(), AllocError>
+    ensures { OnOk result (Puts text.old text.new (json_place name.now at spot)) }
 {
     text.put(b"{\"file\":")?;
     put_json(text, name)?;
     text.put(b",\"line\":")?;
-    put_json_number(text, spot.line as usize)?;
+    put_json_number(text, at)?;
     text.put(b",\"column\":")?;
     put_json_number(text, column_of(spot))?;
     text.put(b",\"end\":")?;
@@ -162,23 +154,26 @@ fn word_in(alloc: Global, examined: &Examined, told: &Told) -> Result<Vec<u8>, A
     Ok(word.bytes)
 }
 
-// The sentence of what is told.
+// The sentence of a finding, with the number of the record that isn't that of its line.
+#[tactic(auto, unfolding(crate::specs::Json::sentence_text))]
 fn sentence_in(
     alloc: Global,
     examined: &Examined,
-    file: FileKind,
-    told: &Told,
+    finding: &Finding,
     line: &[u8],
+    at: usize,
 ) -> Result<Vec<u8>, AllocError>
-    ensures { IfOk result (λ v. v.items ≡ sentence_text examined.now file told.now line.now) }
+    ensures { IfOk result (λ v. v.items ≡ line_sentence examined.now finding.now.file finding.now.told line.now
+        ++ record_text at finding.now.spot.line) }
 {
     let mut sentence = Text::new(alloc);
-    put_sentence(&mut sentence, examined, file, told, line)?;
+    put_line_sentence(&mut sentence, examined, finding.file, &finding.told, line)?;
+    put_record(&mut sentence, at, finding.spot.line)?;
     Ok(sentence.bytes)
 }
 
 // Puts the line of a finding.
-#[tactic(auto, unfolding(crate::specs::Json::json_line))]
+#[tactic(auto, unfolding(crate::specs::Json::json_line, crate::specs::Json::sentence_text))]
 fn put_json_line(
     alloc: Global,
     text: &mut Text,
@@ -193,8 +188,9 @@ fn put_json_line(
     let Finding { file, spot, told } = finding;
     let line = line_at(sheets, *file, spot.line);
     let word = word_in(alloc, examined, told)?;
-    let sentence = sentence_in(alloc, examined, *file, told, line)?;
-    put_json_place(text, file_name(names, *file).as_bytes(), *spot)?;
+    let at = editor_line(sheets, *file, spot.line);
+    let sentence = sentence_in(alloc, examined, finding, line, at)?;
+    put_json_place(text, file_name(names, *file).as_bytes(), at, *spot)?;
     let cure = cure_of(examined, *file, told, line);
     put_json_told(text, severity_text(told), &word, &sentence, cure)
 }

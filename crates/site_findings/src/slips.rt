@@ -3,7 +3,7 @@ ghost use Rattle.std.specs.Prelude.{◌≡◌};
 ghost use Rattle.std.specs.Option.{option_map};
 ghost use Rattle.site_findings.specs.Put.{prose_in, said_prose};
 ghost use Rattle.site_findings.specs.SlipProse.{byte_slip_prose, entry_slip_prose, plan_slip_prose, table_slip_prose, token_slip_prose};
-ghost use Rattle.site_findings.specs.Slips.{plan_slip, quoted_names, quoted_row, refusal_prose, slip_prose, table_in, table_slip};
+ghost use Rattle.site_findings.specs.Slips.{field_in, plan_slip, quoted_names, quoted_row, refusal_prose, slip_prose, table_in, table_slip};
 ghost use Rattle.site_findings.specs.Slips.{told_of_byte, told_of_entry, told_of_plan, told_of_record, told_of_token};
 
 use crate::finding::{FileKind, Refusal};
@@ -118,31 +118,31 @@ static NO_SUCH_GROUP: Sentences = Sentences {
 };
 
 static MINIMUM_GREEN: Sentences = Sentences {
-    means: b"the minimum green has to be a whole number, 1 to 255",
+    means: b"where the minimum green has to be a whole number, 1 to 255",
     often: b"`05`, a decimal, a blank, 0",
     cure: b"the second field: 1 to 255",
 };
 
 static RED_AMBER: Sentences = Sentences {
-    means: b"the red-amber has to be a whole number, 0 to 9",
+    means: b"where the red-amber has to be a whole number, 0 to 9",
     often: b"a decimal; the columns exchanged",
     cure: b"the third field: 0 to 9",
 };
 
 static AMBER: Sentences = Sentences {
-    means: b"the amber has to be a whole number, 0 to 9",
+    means: b"where the amber has to be a whole number, 0 to 9",
     often: b"a decimal; the columns exchanged",
     cure: b"the fourth field: 0 to 9",
 };
 
 static MINIMUM_RED: Sentences = Sentences {
-    means: b"the minimum red has to be a whole number, 1 to 255",
+    means: b"where the minimum red has to be a whole number, 1 to 255",
     often: b"`05`, a decimal, a blank, 0",
     cure: b"the fifth field: 1 to 255",
 };
 
 static INTERGREEN: Sentences = Sentences {
-    means: b"the intergreen has to be a whole number, 0 to 99",
+    means: b"where the intergreen has to be a whole number, 0 to 99",
     often: b"a decimal, a blank, `05`",
     cure: b"the third field: 0 to 99",
 };
@@ -492,7 +492,17 @@ fn table_slip(why: TableWhy, table: Table, row: &[u8]) -> Option<TableSlip>
     }
 }
 
-// What of a record stands before what is told of its slip: names that are no groups'.
+// The field at a place of a record, from 0; no bytes where there is none.
+fn field_in(row: &[u8], place: usize) -> &[u8]
+    ensures { result.now ≡ field_in row.now place }
+{
+    match row.split(|b| *b == b',').nth(place) {
+        Some(field) => field,
+        None => &[],
+    }
+}
+
+// What of a record stands before what is told of its slip: names that are no groups', or the field that is no number.
 fn quoted_names(slip: TableSlip, row: &[u8]) -> &[u8]
     ensures { result.now ≡ quoted_names slip row.now }
 {
@@ -503,12 +513,11 @@ fn quoted_names(slip: TableSlip, row: &[u8]) -> &[u8]
         | TableSlip::PairsAsTimes
         | TableSlip::TimesAsPairs
         | TableSlip::OtherWords
-        | TableSlip::BlankInRecord
-        | TableSlip::MinimumGreen
-        | TableSlip::RedAmber
-        | TableSlip::Amber
-        | TableSlip::MinimumRed
-        | TableSlip::Intergreen => &[],
+        | TableSlip::BlankInRecord => &[],
+        TableSlip::MinimumGreen => field_in(row, 1),
+        TableSlip::RedAmber | TableSlip::Intergreen => field_in(row, 2),
+        TableSlip::Amber => field_in(row, 3),
+        TableSlip::MinimumRed => field_in(row, 4),
     }
 }
 

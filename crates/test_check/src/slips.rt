@@ -60,12 +60,12 @@ const OF_TABLES: [Case<'static>; 7] = [
     },
     Case {
         times: b"group,min_green,red_amber,amber\nK1,10,10,3\n",
-        text: b"t.csv:2: Number: the red-amber has to be a whole number, 0 to 9\n",
+        text: b"t.csv:2: Number: `10` where the red-amber has to be a whole number, 0 to 9\n",
         ..REFUSED
     },
     Case {
         intergreens: b"from,to,seconds\nK1,K2,5.5\n",
-        text: b"g.csv:2: Number: the intergreen has to be a whole number, 0 to 99\n",
+        text: b"g.csv:2: Number: `5.5` where the intergreen has to be a whole number, 0 to 99\n",
         ..REFUSED
     },
     Case {
@@ -83,47 +83,47 @@ const OF_PROGRAMS: [Case<'static>; 10] = [
     },
     Case {
         program: b"PROGRAM p;\nx := 1;\n",
-        text: b"p.vap:2: Unexpected: the text ends here, and a `PROG_ENDE: .` is missing or not whole\n",
+        text: b"p.vap:2:8: Unexpected: the text ends here, and a `PROG_ENDE: .` is missing or not whole\n",
         ..REFUSED
     },
     Case {
         program: b"PROGRAM p;\nIF x = 1 THEN y := 1 ELSEIF x = 2 THEN y := 2 END;\nPROG_ENDE: .\n",
-        text: b"p.vap:2: Unexpected: `ELSEIF` and the like are no words of the language\n",
+        text: b"p.vap:2:29: Unexpected: `ELSEIF` and the like are no words of the language\n",
         ..REFUSED
     },
     Case {
         program: b"PROGRAM p;\nIF x == 1 THEN y := 1 END;\nPROG_ENDE: .\n",
-        text: b"p.vap:2: Unexpected: `==` is no sign; two values are compared with `=`\n",
+        text: b"p.vap:2:7: Unexpected: `==` is no sign; two values are compared with `=`\n",
         ..REFUSED
     },
     Case {
         program: b"PROGRAM p;\nIF x = 1\n  y := 1 END;\nPROG_ENDE: .\n",
-        text: b"p.vap:3: Unexpected: the `THEN` of the `IF` before is missing\n    y := 1 END;\n    ^\n",
+        text: b"p.vap:3:3: Unexpected: the `THEN` of the `IF` before is missing\n    y := 1 END;\n    ^\n",
         ..REFUSED
     },
     Case {
         program: b"PROGRAM p;\nIF x = 1 THEN y := 1;\nPROG_ENDE: .\n",
-        text: b"p.vap:3: Unexpected: an `IF` above has no `END`: it is open where the program ends\n",
+        text: b"p.vap:3:1: Unexpected: an `IF` above has no `END`: it is open where the program ends\n",
         ..REFUSED
     },
     Case {
         program: b"PROGRAM p;\nIF x = THEN y := 1 END;\nPROG_ENDE: .\n",
-        text: b"p.vap:2: Unexpected: a value is wanted here, behind an operator or a bracket:",
+        text: b"p.vap:2:8: Unexpected: a value is wanted here, behind an operator or a bracket:",
         ..REFUSED
     },
     Case {
         program: b"PROGRAM p;\nx := Anforderung(3);\nPROG_ENDE: .\n",
-        text: b"p.vap:2: Unexpected: the word before the bracket is no command and no reading\n",
+        text: b"p.vap:2:17: Unexpected: the word before the bracket is no command and no reading\n",
         ..REFUSED
     },
     Case {
         program: b"PROGRAM p;\n/*/ IF x then */\nloop = 3;\nPROG_ENDE: .\n",
-        text: b"p.vap:3: Unexpected: `=` compares; a variable is assigned with `:=`\n",
+        text: b"p.vap:3:6: Unexpected: `=` compares; a variable is assigned with `:=`\n",
         ..REFUSED
     },
     Case {
         program: b"PROGRAM p;\nx := 1; // once\nPROG_ENDE: .\n",
-        text: b"p.vap:2: Unexpected: `//` begins no comment; a comment is written `/* .. */`\n",
+        text: b"p.vap:2:9: Unexpected: `//` begins no comment; a comment is written `/* .. */`\n",
         ..REFUSED
     },
 ];
