@@ -133,7 +133,7 @@ class Events(unittest.TestCase):
 
 
 class Reasons(unittest.TestCase):
-    """Each reason, rule and fault that the sources can write has its row in docs/reasons.md, A to Z in its part."""
+    """Each reason, rule, fault and warning that the sources can write has its row in docs/reasons.md, A to Z in its part."""
 
     def words_of(self, source):
         text = (HERE.parent / "crates" / source).read_text(encoding="utf-8")
@@ -141,12 +141,14 @@ class Reasons(unittest.TestCase):
 
     def test_each_has_its_row(self):
         page = (HERE.parent / "docs" / "reasons.md").read_text(encoding="utf-8")
-        parts = [re.findall(r"^\| `([A-Za-z]+)", part, re.MULTILINE) for part in page.split("\n## ")]
-        _, notes, rules, faults = parts
-        self.assertEqual(parts, [[], sorted(notes), sorted(rules), sorted(faults)])
+        parts = [re.findall(r"^\| `([A-Za-z-]+)", part, re.MULTILINE) for part in page.split("\n## ")]
+        _, notes, rules, faults, warnings = parts
+        self.assertEqual(parts, [[], sorted(notes), sorted(rules), sorted(faults), sorted(warnings)])
         limits = {"Variables", "Timers", "Arrays", "Cells", "Subroutines", "Labels"}
         self.assertEqual(self.words_of("junction_run/src/reasons.rt") - set(notes) - limits, set())
         self.assertEqual(self.words_of("signal_log/src/words.rt") - set(rules) - set(faults), set())
+        told = (HERE.parent / "crates" / "site_findings" / "src" / "warned.rt").read_text(encoding="utf-8")
+        self.assertEqual(set(re.findall(r'b"([a-z]+(?:-[a-z]+)+)"', told)), set(warnings))
 
 
 class Sentences(unittest.TestCase):
