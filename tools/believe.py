@@ -116,7 +116,7 @@ THEOREMS = [
     ("a live run without watchers writes the log alone, and its status is that of its answer", "`junction_live::laws`",
      [("junction_live", "Laws", ["IsComplete", "TextIsLog"])]),
     ("feeders, controller and watchers beside each other make the seconds", "`play`, `play_watched`",
-     [("junction_live", "Outcome", ["SecondsGiven", "SecondsMade"]), ("junction_live", "Watch", ["SecondsShown", "HaveLooked"])]),
+     [("junction_live", "Outcome", ["SecondsMade"]), ("junction_live", "Watch", ["SecondsShown", "HaveLooked"])]),
     ("the whole contract of `net`", "`junction_net::net`", [("junction_net", "NetAnswers", ["NetAnswers"])]),
     ("a list with its files has one answer, and the status is its own", "`junction_net::laws::net_answers_are_right`",
      [("junction_net", "Laws", ["GivesOnce", "GivesAlways", "EndsAlways", "IsComplete"])]),

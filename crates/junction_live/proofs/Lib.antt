@@ -1,5 +1,4 @@
 pub mod Answering
-pub mod Audiences
 pub mod Bridge
 pub mod ClosingSecond
 pub mod Ended

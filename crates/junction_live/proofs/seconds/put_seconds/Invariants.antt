@@ -5,7 +5,6 @@ use Rattle.junction_live.proofs.seconds.put_seconds.Given as goal
 
 abbrev pub invariant-loop-k : goal.invariant-loop-k
 invariant-loop-k g l =
-    (l.side.tick.table ≡ l.fn.side.tick.table)
-    × Running (g.A.Audience.given l.fn.side.audience l.side.audience) l.k l.side.tick l.fn.side.controller l.side.controller
-    (g.O.Sink.taken l.fn.out) (g.O.Sink.taken l.out) l.fn.draft l.draft
+    (l.tick.table ≡ l.fn.tick.table)
+    × Running l.k l.tick l.fn.controller l.controller (g.O.Sink.taken l.fn.out) (g.O.Sink.taken l.out) l.fn.draft l.draft
     × FailsOnly (g.O.Sink.faults l.fn.out) (g.O.Sink.faults l.out) l.fn.draft.failed l.draft.failed
