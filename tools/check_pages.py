@@ -2,7 +2,7 @@
 """tools/check_pages.py FOLDER
 
 Runs what the pages show: README, CONTRIBUTING, those of docs/ and of the examples. FOLDER has the built programs junction,
-junction_check and log_report, as tools/install.py lays them. Of each page
+junction_check, junction_trace and log_report, as tools/install.py lays them. Of each page
 
 - an indented block that begins with PROGRAM is a program, and must compile;
 - an indented block that begins with a command is run as it stands, all of a page in one shell, from the top of a copy of the
@@ -26,7 +26,7 @@ from pathlib import Path
 
 ROOT = Path(__file__).resolve().parent.parent
 JUNCTION = ROOT / "crates" / "junction"
-PROGRAMS = ["junction", "junction_check", "log_report"]
+PROGRAMS = ["junction", "junction_check", "junction_trace", "log_report"]
 WORDS = ["rt", "cut", "tr", "tail", "awk", "cd", "grep", "head", "cat", "mkdir", "cmp", "python3", *PROGRAMS, r"tools/\S+"]
 COMMAND = re.compile(rf"({'|'.join(WORDS)}) |[A-Z]+=")
 DRAWING = re.compile(r"(\w+ )?(\w+) +([.UGA]+)")

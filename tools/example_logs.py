@@ -1,10 +1,11 @@
 #!/usr/bin/env python3
-"""tools/example_logs.py PROGRAM CHECK REPORT
+"""tools/example_logs.py PROGRAM CHECK REPORT TRACE
 
 Writes what the gate compares of the examples, after a change of an example or of what a log says: in the crate test_examples, which
 checks, runs and judges them all, copies of their files, their logs, the words and the output. Beside each example it draws its
-diagram.svg. PROGRAM is a built `junction`, and CHECK and REPORT are a built `junction_check` and `log_report`. It stops where a call
-fails, a log isn't safe, or something is found in the files. Look at the difference before it is committed."""
+diagram.svg. PROGRAM is a built `junction`, and CHECK, REPORT and TRACE are a built `junction_check`, `log_report` and
+`junction_trace`. It stops where a call fails, a log isn't safe, or something is found in the files. Look at the difference before it
+is committed."""
 import argparse
 import shutil
 import subprocess
@@ -19,6 +20,25 @@ TABLES = ["times.csv", "intergreens.csv"]
 
 # The seconds of a diagram, where they are not the first hundred.
 DRAWN = {"four_arms": (1, 60), "green_wave/west": (61, 175), "green_wave/east": (61, 175)}
+
+# What is told of the inside of some examples: form, example, and the words behind its files.
+TRACED = [
+    ("how-ended", "left_turn", []),
+    ("how-ended", "coordinated", ["--csv"]),
+    ("lines", "left_turn", ["--csv"]),
+    ("lines", "coordinated", ["--lcov"]),
+    ("lines", "four_arms", ["--csv"]),
+    ("lines", "left_turn", []),
+    ("lines", "coordinated", []),
+    ("lines", "four_arms", []),
+    ("second", "left_turn", ["20"]),
+    ("second", "coordinated", ["52"]),
+    ("second", "four_arms", ["30"]),
+]
+
+# A program that prints, which is no example, at the site of one.
+SITE = [f"two_stages/{name}" for name in ["junction.pua", *TABLES]]
+TRACING = ["trace", "trace", "tracing/tracing.vap", *SITE, "tracing/detectors.txt"]
 
 
 def call(program, words):
@@ -43,12 +63,20 @@ def calls_of(folder):
     return ["check", *words], ["run", *words], ["audit", str(example / "log.txt"), *site]
 
 
+def traced(runs, form, example, behind):
+    """The words that tell of the inside of an example, of which `run` has the files."""
+    (run,) = (run for run in runs if run[1].startswith(f"{example}/"))
+    return ["trace", form, *run[1:], *behind]
+
+
 def main():
     words = argparse.ArgumentParser(description=__doc__, formatter_class=argparse.RawDescriptionHelpFormatter)
-    for name in ("PROGRAM", "CHECK", "REPORT"):
+    for name in ("PROGRAM", "CHECK", "REPORT", "TRACE"):
         words.add_argument(name.lower(), metavar=name)
-    program, checker, reporter = (str(Path(word).resolve()) for word in vars(words.parse_args()).values())
-    shutil.rmtree(DATA, ignore_errors=True)
+    program, checker, reporter, tracer = (str(Path(word).resolve()) for word in vars(words.parse_args()).values())
+    for folder in DATA.iterdir():
+        if folder.name != "tracing":
+            shutil.rmtree(folder)
     calls, output = [], b""
     for plan in sorted(EXAMPLES.glob("**/junction.pua")):
         check, run, audit = calls_of(plan.parent)
@@ -65,6 +93,10 @@ def main():
         reports = [["report", "text", audit[1], "1", "40"], ["report", "sums", audit[1]]]
         output += found + log + verdict + b"".join(call(reporter, words[1:]) for words in reports)
         calls += [check, run, audit, *reports]
+    traces = [traced([words for words in calls if words[0] == "run"], *one) for one in TRACED]
+    traces.append(TRACING)
+    output += b"".join(call(tracer, words[1:]) for words in traces)
+    calls += traces
     (CRATE / "args").write_text("\n--\n".join("\n".join(words) for words in calls) + "\n", encoding="utf-8")
     (CRATE / "stdout").write_bytes(output)
 

@@ -48,7 +48,7 @@ _vantulig_junction_trace()
 {
     local cur=${COMP_WORDS[COMP_CWORD]}
     case $COMP_CWORD in
-        1) COMPREPLY=($(compgen -W "values how-ended lines --help --version" -- "$cur")) ;;
+        1) COMPREPLY=($(compgen -W "values how-ended lines second trace --help --version" -- "$cur")) ;;
         [2-6]) _vantulig_site "$((COMP_CWORD - 1))" ;;
         *)
             case ${COMP_WORDS[1]} in

@@ -1,4 +1,5 @@
-//! Tells what a program does inside: its `values` in each second of a run, `how-ended` each stage, and which of its `lines` ran.
+//! Tells what a program does inside: its `values` in each second of a run, `how-ended` each stage, which of its `lines` ran,
+//! all that one `second` did, and what its `TRACE` statements print.
 #![tactic(auto)]
 
 use junction_run::{LoadStop, Status, Stop as RunStop, exit_status};

@@ -152,18 +152,19 @@ module _ (asked : LinesWords) (file : Contents) (site : Loaded) (program : Progr
     (loads : LoadsProgram asked.run.program asked.run.site file (Ok (program_at (site_in site) program))) where
   -- the text of what was counted
   abbrev text : List Counts → List ℕ
-  text frames = lines_text asked.style asked.run.program (counted_of (code_for program) (site_in site) frames)
+  text frames = lines_text asked.style asked.run.program (file asked.run.program) (counted_of (code_for program) (site_in site) frames)
 
   -- what was counted was written
-  pub lines_written : (lines : Vec Line Global) (name : List ℕ) (slice : List Line) (r : Result (Unit {0}) Stop) (old now new : Option (List ℕ)) →
+  pub lines_written : (lines : Vec Line Global) (name bytes : List ℕ) (slice : List Line) (r : Result (Unit {0}) Stop) (old now new : Option (List ℕ)) →
       IsCountedAt site asked.run.detectors (stream_of (file asked.run.detectors)) (Ok lines) → now ≡ old →
-      name ≡ asked.run.program → slice ≡ lines.items →
-      IsWritten (lines_text asked.style name (map line_in slice)) r now new → IsLines asked file r old new
-  lines_written lines name slice r old now new counted none named taken written =
-      ended r (subst (λ (ls : List LineOf). IsWritten (lines_text asked.style asked.run.program ls) r old new)
+      name ≡ asked.run.program → bytes ≡ file asked.run.program → slice ≡ lines.items →
+      IsWritten (lines_text asked.style name bytes (map line_in slice)) r now new → IsLines asked file r old new
+  lines_written lines name bytes slice r old now new counted none named spelled taken written =
+      ended r (subst (λ (ls : List LineOf). IsWritten (lines_text asked.style asked.run.program (file asked.run.program) ls) r old new)
       (ap (map line_in) taken ∙ counted.2 ∙ ap (λ code. counted_of code (site_in site) counted.0) code_is)
-      (subst (λ (n : List ℕ). IsWritten (lines_text asked.style n (map line_in slice)) r old new) named
-      (subst (λ o. IsWritten (lines_text asked.style name (map line_in slice)) r o new) none written)))
+      (subst (λ (b : List ℕ). IsWritten (lines_text asked.style asked.run.program b (map line_in slice)) r old new) spelled
+      (subst (λ (n : List ℕ). IsWritten (lines_text asked.style n bytes (map line_in slice)) r old new) named
+      (subst (λ o. IsWritten (lines_text asked.style name bytes (map line_in slice)) r o new) none written))))
     where
       failed : (stop : Stop) → stop ≡ Run (Play play.WriteFault) → ((n : ℕ) × IsCut old new n (text counted.0)) → IsLines {A = Unit {0}} asked file (Err stop) old new
       failed stop is cut = subst (λ s. IsLines {A = Unit {0}} asked file (Err s) old new) (sym is) (record {

@@ -64,6 +64,11 @@ pub rose_later : {a b d : ℕ} {x y : Bool} → y ≡ false → FailsOnly a b x 
 rose_later whole one (inl t) = absurd (no_truth (subst (λ (z : Bool). IsTrue z) whole t))
 rose_later whole one (inr r) = omega (arith, r, one.later)
 
+-- or of one that is new
+pub rose_new : {C : Type 0} {y : Bool} → y ≡ false → IsTrue y ⊎ C → C
+rose_new whole (inl t) = absurd (no_truth (subst (λ (z : Bool). IsTrue z) whole t))
+rose_new whole (inr r) = r
+
 -- six pieces, two of which are one
 pub six : (a b c d e f de : List ℕ) → d ++ e ≡ de → a ++ (b ++ (c ++ (d ++ (e ++ (f ++ []))))) ≡ a ++ b ++ c ++ de ++ f
 six a b c d e f de same = subst (λ t. a ++ (b ++ (c ++ (d ++ (e ++ (f ++ []))))) ≡ a ++ b ++ c ++ t ++ f) same flat

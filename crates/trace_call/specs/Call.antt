@@ -9,10 +9,12 @@ use Rattle.junction_run.specs.declared.status.Status.TheVariants.{Done, ReadFaul
 use Rattle.junction_run.specs.Stop.{StopsWith}
 use Rattle.trace_call.specs.declared.stop.Stop.{Stop}
 use Rattle.trace_call.specs.declared.stop.Stop.TheVariants.{Words}
-use Rattle.trace_call.specs.Form.{Asked, Help, HowEnded, Lines, Version, Values, form_of}
+use Rattle.trace_call.specs.Form.{Asked, Help, HowEnded, Lines, Second, Trace, Version, Values, form_of}
 use Rattle.trace_call.specs.HowEnded.{IsHowEnded}
 use Rattle.trace_call.specs.Lines.{IsLines}
 use Rattle.trace_call.specs.Notes.{status_of, stop_note}
+use Rattle.trace_call.specs.Prints.{IsTrace}
+use Rattle.trace_call.specs.Second.{IsSecond}
 use Rattle.trace_call.specs.Values.{IsValues}
 use Rattle.trace_call.specs.Written.{IsWritten}
 
@@ -23,8 +25,12 @@ usage_text =
     ++ codes "    a table of the program's variables, timers and cells after each second, as CSV\n"
     ++ codes "junction_trace how-ended PROGRAM PUA TIMES INTERGREENS DETECTORS [--csv]\n"
     ++ codes "    for each end of a stage the line of the command that ended it, in words or as CSV\n"
-    ++ codes "junction_trace lines PROGRAM PUA TIMES INTERGREENS DETECTORS --csv | --lcov\n"
-    ++ codes "    how often its lines ran, and how their tests were answered, as CSV or for lcov\n"
+    ++ codes "junction_trace lines PROGRAM PUA TIMES INTERGREENS DETECTORS [--csv | --lcov]\n"
+    ++ codes "    how often its lines ran and its tests were answered: beside its text, as CSV or for lcov\n"
+    ++ codes "junction_trace second PROGRAM PUA TIMES INTERGREENS DETECTORS N\n"
+    ++ codes "    the listing of second N: what ran, was read, tested, assigned and commanded, in order\n"
+    ++ codes "junction_trace trace PROGRAM PUA TIMES INTERGREENS DETECTORS\n"
+    ++ codes "    what its TRACE statements print, a line for each call\n"
     ++ codes "junction_trace --help | --version\n    this text; the version\n"
 
 -- which version it is
@@ -38,6 +44,8 @@ IsDone Version file r old new = IsWritten version_text r old new
 IsDone (Values asked) file r old new = IsValues asked file r old new
 IsDone (HowEnded asked) file r old new = IsHowEnded asked file r old new
 IsDone (Lines asked) file r old new = IsLines asked file r old new
+IsDone (Second asked) file r old new = IsSecond asked file r old new
+IsDone (Trace run) file r old new = IsTrace run file r old new
 
 -- how a call ends that gives this
 abbrev pub status_by : Result (Unit {0}) Stop → Status

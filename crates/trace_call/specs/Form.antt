@@ -5,7 +5,7 @@ use Rattle.std.specs.Str.{bytes_eq}
 use Rattle.sig_types.specs.Text.{number_of, within}
 use Rattle.junction_run.specs.Form.{SiteWords}
 use Rattle.trace_call.specs.declared.form.Style.{Style}
-use Rattle.trace_call.specs.declared.form.Style.TheVariants.{Csv, Lcov}
+use Rattle.trace_call.specs.declared.form.Style.TheVariants.{Table, Csv, Lcov}
 
 -- the names of the files of a run
 pub record RunWords : Type 0 where
@@ -30,6 +30,11 @@ pub record LinesWords : Type 0 where
   pub run : RunWords
   pub style : Style
 
+-- the listing of this second
+pub record SecondWords : Type 0 where
+  pub run : RunWords
+  pub second : ℕ
+
 -- what the words ask for
 pub data Asked : Type 0 where
   Help : Asked
@@ -37,6 +42,8 @@ pub data Asked : Type 0 where
   Values : (asked : ValuesWords) → Asked
   HowEnded : (asked : EndsWords) → Asked
   Lines : (asked : LinesWords) → Asked
+  Second : (asked : SecondWords) → Asked
+  Trace : (run : RunWords) → Asked
 
 -- words, and a number
 pub record Numbered : Type 0 where
@@ -89,10 +96,26 @@ abbrev pub lines_in : RunWords → Option Style → Option Asked
 lines_in run None = None
 lines_in run (Some style) = Some (Lines (record { run = run; style = style }))
 
--- --csv or --lcov
+-- --csv or --lcov, or no word
 abbrev pub lines_form : RunWords → List (List ℕ) → Option Asked
+lines_form run [] = Some (Lines (record { run = run; style = Table }))
 lines_form run (word ∷ []) = lines_in run (style_of word)
 lines_form run _ = None
+
+-- the listing of the second of this number, if it is one
+abbrev pub second_in : RunWords → Option ℕ → Option Asked
+second_in run None = None
+second_in run (Some n) = Some (Second (record { run = run; second = n }))
+
+-- N
+abbrev pub second_form : RunWords → List (List ℕ) → Option Asked
+second_form run (word ∷ []) = second_in run (within 1 604800 (number_of word))
+second_form run _ = None
+
+-- no word
+abbrev pub trace_form : RunWords → List (List ℕ) → Option Asked
+trace_form run [] = Some (Trace run)
+trace_form run (word ∷ words) = None
 
 -- --help and --version
 abbrev pub lone_form : List ℕ → Option Asked
@@ -105,7 +128,9 @@ abbrev pub run_form : (form : List ℕ) → RunWords → List (List ℕ) → Opt
 run_form form run words =
     if bytes_eq form (codes "values") then values_form run words
     else (if bytes_eq form (codes "how-ended") then ends_form run words
-    else (if bytes_eq form (codes "lines") then lines_form run words else None))
+    else (if bytes_eq form (codes "lines") then lines_form run words
+    else (if bytes_eq form (codes "second") then second_form run words
+    else (if bytes_eq form (codes "trace") then trace_form run words else None))))
 
 -- what the words after the program's name ask for; None where they are no form
 abbrev pub form_of : List (List ℕ) → Option Asked

@@ -5,6 +5,8 @@ pub mod FormWords
 pub mod HowEnded
 pub mod Lines
 pub mod Notes
+pub mod Prints
+pub mod Second
 pub mod ToldAt
 pub mod Values
 pub mod Written

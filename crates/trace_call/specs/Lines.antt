@@ -24,12 +24,13 @@ use Rattle.trace_lines.specs.declared.line.Line.{Line}
 use Rattle.trace_lines.specs.Csv.{csv_text}
 use Rattle.trace_lines.specs.Lcov.{lcov_text}
 use Rattle.trace_lines.specs.Lines.{LineOf, line_in, lines_counted}
+use Rattle.trace_lines.specs.Table.{table_text}
 use Rattle.trace_load.specs.Loaded.{code_for}
 use Rattle.trace_tally.specs.declared.tally.Tally.{Tally}
 use Rattle.trace_tally.specs.Seconds.{sights_by}
 use Rattle.trace_tally.specs.Tallied.{HasTallied}
 use Rattle.trace_call.specs.declared.form.Style.{Style}
-use Rattle.trace_call.specs.declared.form.Style.TheVariants.{Csv, Lcov}
+use Rattle.trace_call.specs.declared.form.Style.TheVariants.{Table, Csv, Lcov}
 use Rattle.trace_call.specs.declared.stop.Stop.{Stop}
 use Rattle.trace_call.specs.declared.stop.Stop.TheVariants.{Words, NoName, Run}
 use Rattle.trace_call.specs.Form.{LinesWords}
@@ -38,10 +39,11 @@ use Rattle.trace_call.specs.Form.{LinesWords}
 unfoldable pub counted_of : CodeOf → Site → List Counts → List LineOf
 counted_of code site frames = lines_counted code.instrs (sights_by code site (opening site (first_store code)) frames)
 
--- what is written of the lines of a program with this name
-abbrev pub lines_text : Style → List ℕ → List LineOf → List ℕ
-lines_text Csv name lines = csv_text lines
-lines_text Lcov name lines = lcov_text name lines
+-- what is written of the lines of a program with this name and this text
+abbrev pub lines_text : Style → (name text : List ℕ) → List LineOf → List ℕ
+lines_text Table name text lines = table_text text lines
+lines_text Csv name text lines = csv_text lines
+lines_text Lcov name text lines = lcov_text name lines
 
 -- how the seconds ended: all were made where only writing failed
 abbrev pub made_by : {A : Type 0} → Result A PlayStop → Result (Unit {0}) PlayStop
@@ -64,7 +66,7 @@ pub record WasCounted {A : Type 0} (asked : LinesWords) (file : Contents) (r : R
   pub loads : LoadsProgram asked.run.program asked.run.site file (Ok (program_at site program))
   pub frames : List Counts
   pub given : IsPlayed asked.run.detectors (made_by r) (stream_of (file asked.run.detectors)) frames
-  pub written : IsWholeWritten r (lines_text asked.style asked.run.program (counted_of (code_for program) site frames)) old new
+  pub written : IsWholeWritten r (lines_text asked.style asked.run.program (file asked.run.program) (counted_of (code_for program) site frames)) old new
 
 -- `lines` ended so, over files that tell this
 abbrev pub IsLines : {A : Type 0} → LinesWords → Contents → Result A Stop → Option (List ℕ) → Option (List ℕ) → Type 0

@@ -15,6 +15,8 @@ use crate::end::end;
 use crate::form::{Form, form_of};
 use crate::how_ended::how_ended;
 use crate::lines::lines;
+use crate::prints::prints;
+use crate::second::second;
 use crate::stop::{Stop, status_of, write_stop};
 use crate::values::values;
 use junction_run::Status;
@@ -44,11 +46,27 @@ fn put_usage<O: Sink>(draft: &mut Draft, sink: &mut O)
     );
     draft.put(
         sink,
-        b"junction_trace lines PROGRAM PUA TIMES INTERGREENS DETECTORS --csv | --lcov\n",
+        b"junction_trace lines PROGRAM PUA TIMES INTERGREENS DETECTORS [--csv | --lcov]\n",
     );
     draft.put(
         sink,
-        b"    how often its lines ran, and how their tests were answered, as CSV or for lcov\n",
+        b"    how often its lines ran and its tests were answered: beside its text, as CSV or for lcov\n",
+    );
+    draft.put(
+        sink,
+        b"junction_trace second PROGRAM PUA TIMES INTERGREENS DETECTORS N\n",
+    );
+    draft.put(
+        sink,
+        b"    the listing of second N: what ran, was read, tested, assigned and commanded, in order\n",
+    );
+    draft.put(
+        sink,
+        b"junction_trace trace PROGRAM PUA TIMES INTERGREENS DETECTORS\n",
+    );
+    draft.put(
+        sink,
+        b"    what its TRACE statements print, a line for each call\n",
     );
     draft.put(
         sink,
@@ -95,6 +113,8 @@ fn do_form<'a, F: Files, O: Sink>(
         Form::Values { run, names, window } => values(alloc, run, names, window, files, out),
         Form::HowEnded { run, csv } => how_ended(alloc, run, csv, files, out),
         Form::Lines { run, style } => lines(alloc, run, style, files, out),
+        Form::Second { run, second: n } => second(alloc, run, n, files, out),
+        Form::Trace(run) => prints(alloc, run, files, out),
     }
 }
 
@@ -105,8 +125,12 @@ fn do_form<'a, F: Files, O: Sink>(
 ///   `junction run`, and then the names. All memory is taken before the first byte is written.
 /// - `how-ended PROGRAM PUA TIMES INTERGREENS DETECTORS --csv` writes for each end of a stage in the run the line of the command
 ///   that ended it, in words where `--csv` is left out.
-/// - `lines PROGRAM PUA TIMES INTERGREENS DETECTORS --csv` writes how often the statements of each line of the program began
-///   and how its tests were answered, once all seconds are made; `--lcov` writes it as a tracefile of LCOV.
+/// - `lines PROGRAM PUA TIMES INTERGREENS DETECTORS` writes how often the statements of each line of the program began and how
+///   its tests were answered, once all seconds are made: beside the program's text, with `--csv` as a table, with `--lcov` as a
+///   tracefile of LCOV.
+/// - `second PROGRAM PUA TIMES INTERGREENS DETECTORS N` writes the listing of second N: what its pass did, in order, with what
+///   became of each command, what the second changed, and its record; nothing where DETECTORS has fewer seconds.
+/// - `trace PROGRAM PUA TIMES INTERGREENS DETECTORS` writes what the TRACE statements of the program print, a line for each call.
 /// - `--help` and `--version` write how it is called, and the version.
 pub fn trace<F: Files, O: Sink, N: Sink>(
     alloc: Global,

@@ -1,6 +1,6 @@
 // The words of a call.
 ghost use Rattle.std.specs.Prelude.{◌≡◌, None, Some, MatchOption, map, string_bytes};
-ghost use Rattle.trace_call.specs.Form.{cut_option, ends_form, form_of, lines_form, lone_form, run_form, style_of, values_form};
+ghost use Rattle.trace_call.specs.Form.{cut_option, ends_form, form_of, lines_form, lone_form, run_form, second_form, style_of, trace_form, values_form};
 ghost use Rattle.trace_call.specs.FormWords.{asked_in, run_named};
 
 use junction_run::SiteWords;
@@ -27,6 +27,8 @@ pub struct Window {
 /// How counts of lines are written.
 #[derive(Clone, Copy, Debug, PartialEq, Eq)]
 pub enum Style {
+    /// Beside the text of the program.
+    Table,
     /// As CSV.
     Csv,
     /// As a tracefile of LCOV.
@@ -56,6 +58,13 @@ pub enum Form<'a> {
         run: RunNames<'a>,
         style: Style,
     },
+    /// The listing of this second, from 1.
+    Second {
+        run: RunNames<'a>,
+        second: u32,
+    },
+    /// What the TRACE statements print.
+    Trace(RunNames<'a>),
 }
 
 // The words before an option that stands behind them with its number, and the number; where it doesn't stand there
@@ -125,16 +134,46 @@ fn ends_form<'a>(run: RunNames<'a>, words: &'a [String]) -> Option<Form<'a>>
     }
 }
 
-// --csv or --lcov
+// --csv or --lcov, or no word
 fn lines_form<'a>(run: RunNames<'a>, words: &'a [String]) -> Option<Form<'a>>
     ensures { MatchOption result (lines_form (run_named run.entry) (map string_bytes words.now) ≡ None)
         (λ form. lines_form (run_named run.entry) (map string_bytes words.now) ≡ Some (asked_in form)) }
 {
+    match words {
+        [] => Some(Form::Lines {
+            run,
+            style: Style::Table,
+        }),
+        [word] => {
+            let style = style_of(word.as_str())?;
+            Some(Form::Lines { run, style })
+        }
+        _ => None,
+    }
+}
+
+// N
+fn second_form<'a>(run: RunNames<'a>, words: &'a [String]) -> Option<Form<'a>>
+    ensures { MatchOption result (second_form (run_named run.entry) (map string_bytes words.now) ≡ None)
+        (λ form. second_form (run_named run.entry) (map string_bytes words.now) ≡ Some (asked_in form)) }
+{
     let [word] = words else {
         return None;
     };
-    let style = style_of(word.as_str())?;
-    Some(Form::Lines { run, style })
+    let second = number(word.as_bytes(), 1, MOST_LINES)?;
+    Some(Form::Second { run, second })
+}
+
+// no word
+fn trace_form<'a>(run: RunNames<'a>, words: &'a [String]) -> Option<Form<'a>>
+    ensures { MatchOption result (trace_form (run_named run.entry) (map string_bytes words.now) ≡ None)
+        (λ form. trace_form (run_named run.entry) (map string_bytes words.now) ≡ Some (asked_in form)) }
+{
+    if words.is_empty() {
+        Some(Form::Trace(run))
+    } else {
+        None
+    }
 }
 
 // --help and --version
@@ -161,6 +200,10 @@ fn run_form<'a>(form: &str, run: RunNames<'a>, words: &'a [String]) -> Option<Fo
         ends_form(run, words)
     } else if form == "lines" {
         lines_form(run, words)
+    } else if form == "second" {
+        second_form(run, words)
+    } else if form == "trace" {
+        trace_form(run, words)
     } else {
         None
     }

@@ -6,6 +6,8 @@ mod end;
 mod form;
 mod how_ended;
 mod lines;
+mod prints;
+mod second;
 mod stop;
 mod values;
 

@@ -30,7 +30,7 @@ use det_stream::Lines;
 use junction_run::{LoadStop, PlayStop, Site, Stop as RunStop};
 use sig_io::{Draft, Files, Sink};
 use std::alloc::Global;
-use trace_lines::{Line, put_csv, put_lcov};
+use trace_lines::{Line, put_csv, put_lcov, put_table};
 use trace_load::{Loaded, load_program, start};
 use trace_run::tell_all;
 use trace_tally::Tally;
@@ -127,28 +127,37 @@ fn count_lines<'a, F: Files, O: Sink>(
     }
 }
 
-// Puts the counts of lines in a style.
-fn put_lines<O: Sink>(style: Style, name: &[u8], lines: &[Line], draft: &mut Draft, out: &mut O)
-    ensures { Puts O.taken O.faults draft.old draft.new out.old out.new (lines_text style name.now (map line_in lines.now)) }
+// Puts the counts of the lines of a program with this name and this text in a style.
+fn put_lines<O: Sink>(
+    style: Style,
+    name: &[u8],
+    text: &[u8],
+    lines: &[Line],
+    draft: &mut Draft,
+    out: &mut O,
+)
+    ensures { Puts O.taken O.faults draft.old draft.new out.old out.new (lines_text style name.now text.now (map line_in lines.now)) }
 {
     match style {
+        Style::Table => put_table(text, lines, draft, out),
         Style::Csv => put_csv(lines, draft, out),
         Style::Lcov => put_lcov(name, lines, draft, out),
     }
 }
 
-// Writes the counts of lines in a style.
+// Writes the counts of the lines of a program with this name and this text in a style.
 fn write_lines<'a, O: Sink>(
     style: Style,
     name: &[u8],
+    text: &[u8],
     lines: &[Line],
     out: &mut O,
 ) -> Result<(), Stop<'a>>
-    ensures written { IsWritten (lines_text style name.now (map line_in lines.now)) result (O.taken out.old) (O.taken out.new) }
+    ensures written { IsWritten (lines_text style name.now text.now (map line_in lines.now)) result (O.taken out.old) (O.taken out.new) }
     ensures cause { OnErr result (Rose (O.faults out.old) (O.faults out.new)) }
 {
     let mut draft = Draft::new();
-    put_lines(style, name, lines, &mut draft, out);
+    put_lines(style, name, text, lines, &mut draft, out);
     end(draft, out)
 }
 
@@ -167,12 +176,12 @@ pub(crate) fn lines<'a, F: Files, O: Sink>(
     ensures read { StopsWith status_of status.ReadFault result → Rose (F.faults files.old) (F.faults files.new) }
     ensures write { StopsWith status_of status.WriteFault result → Rose (O.faults out.old) (O.faults out.new) }
 {
-    let Loaded { site, .. } = match load_program(alloc, run.program, &run.site, files) {
+    let Loaded { site, text, .. } = match load_program(alloc, run.program, &run.site, files) {
         Ok(loaded) => loaded,
         Err(stop) => return Err(Stop::Run(RunStop::Load(stop))),
     };
     match count_lines(alloc, site, run.detectors, files, out) {
-        Ok(lines) => write_lines(style, run.program.as_bytes(), &lines, out),
+        Ok(lines) => write_lines(style, run.program.as_bytes(), &text, &lines, out),
         Err(stop) => Err(Stop::Run(stop)),
     }
 }

@@ -65,6 +65,7 @@ pub fn load_program<'a, F: Files>(
 ) -> Result<Loaded, LoadStop<'a>>
     // Where the files tell what they hold, they give this program at this site, or they are refused so.
     ensures loaded { ForSome (F.told files.old) (λ file. IsToldLoad program.now (site_in words.now) file result) }
+    ensures short { IfOk result (λ l. length l.text.items ≤ 1048576) }
     ensures times { IfOk result (λ l. length l.site.times ≡ groups_in l.site.plan) }
     ensures intergreens { IfOk result (λ l. l.site.intergreens.count ≡ groups_in l.site.plan) }
     ensures word { IfErr result (λ stop. IsAmong (site_files (site_in words.now) ++ program.now ∷ []) stop) }

@@ -1,5 +1,5 @@
 // A program that is told of.
-ghost use Rattle.std.specs.Prelude.{◌≡◌, ◌≤◌, IfErr, length};
+ghost use Rattle.std.specs.Prelude.{◌≡◌, ◌≤◌, IfErr, IfOk, length};
 ghost use Rattle.std.specs.Option.{ForSome};
 ghost use Rattle.sig_io.specs.Outside.{Rose};
 ghost use Rattle.junction_run.specs.Stop.{IsAt, StopsWith, load_status};
@@ -48,6 +48,7 @@ pub(crate) fn take_program<'a, F: Files>(
     files: &mut F,
 ) -> Result<Program, LoadStop<'a>>
     ensures program { ForSome (F.told files.old) (λ file. IsToldFile word.now (file word.now) result) }
+    ensures short { IfOk result (λ taken. length taken.text.items ≤ 1048576) }
     ensures word { IfErr result (λ stop. IsAt word.now stop) }
     ensures contents_stay { F.told files.new ≡ F.told files.old }
     ensures later { F.faults files.old ≤ F.faults files.new }

@@ -9,9 +9,9 @@ pub returns-in-Ok-count_lines-clause-lines : goal.returns-in-Ok-count_lines-clau
 returns-in-Ok-count_lines-clause-lines g c = λ file e.
     let loaded = c.in-Ok.ensures.loaded file e in
     let asked : LinesWords = record { run = run_named c.args.run; style = c.args.style } in
-    lines_written asked file c.in-Ok.loaded.site (program_of c.in-Ok.loaded.checked.tree) loaded.code_is loaded.given c.in-Ok-count_lines.lines _ _ _ _ _ _
+    lines_written asked file c.in-Ok.loaded.site (program_of c.in-Ok.loaded.checked.tree) loaded.code_is loaded.given c.in-Ok-count_lines.lines _ _ _ _ _ _ _
     (c.in-Ok-count_lines.ensures.counted file (c.load_program.ensures.contents_stay ∙ e)) c.count_lines.ensures.nothing
-    c.as_bytes.ensures.value c.deref.ensures.value c.write_lines.ensures.written
+    c.as_bytes.ensures.value (c.deref.ensures.value ∙ loaded.text) c.deref-2.ensures.value c.write_lines.ensures.written
 
 pub returns-in-Ok-count_lines-clause-read : goal.returns-in-Ok-count_lines-clause-read
 returns-in-Ok-count_lines-clause-read g c = λ is. written_no_read _ _ _ _ c.write_lines.ensures.written is
