@@ -34,6 +34,7 @@ TRACED = [
     ("second", "left_turn", ["20"]),
     ("second", "coordinated", ["52"]),
     ("second", "four_arms", ["30"]),
+    ("lines", "crossing_on_demand", ["--add", "left_turn/detectors.txt"]),
 ]
 
 # A program that prints, which is no example, at the site of one.

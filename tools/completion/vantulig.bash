@@ -54,7 +54,12 @@ _vantulig_junction_trace()
             case ${COMP_WORDS[1]} in
                 values) COMPREPLY=($(compgen -W "--from --to" -- "$cur")) ;;
                 how-ended) COMPREPLY=($(compgen -W "--csv" -- "$cur")) ;;
-                lines) COMPREPLY=($(compgen -W "--csv --lcov" -- "$cur")) ;;
+                lines)
+                    case ${COMP_WORDS[COMP_CWORD - 1]} in
+                        --add) _vantulig_files txt ;;
+                        *) COMPREPLY=($(compgen -W "--csv --lcov --add" -- "$cur")) ;;
+                    esac
+                    ;;
             esac
             ;;
     esac

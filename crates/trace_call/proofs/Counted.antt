@@ -1,5 +1,5 @@
 -- What was counted and written of lines.
-use Rattle.std.proofs.Common.{◌≡◌, ◌∙◌, [], ◌∷◌, ◌<◌, ◌≤◌, ℕ, List, Option, None, Some, Result, Ok, Err, Vec, Global, Bor, map, ap, sym, subst, refl, arith}
+use Rattle.std.proofs.Common.{◌≡◌, ◌∙◌, [], ◌∷◌, ◌++◌, ◌<◌, ◌≤◌, ℕ, List, Option, None, Some, Result, Ok, Err, Vec, Global, Bor, inl, inr, append_assoc, map, ap, sym, subst, refl, arith}
 use Rattle.std.proofs.lemmas.List.{append-nil}
 use Rattle.std.specs.Io.KnownBytes.{append_known}
 use Rattle.sig_io.specs.Draft.{IsCut}
@@ -22,10 +22,14 @@ use Rattle.junction_run.specs.declared.stop.PlayStop.{PlayStop}
 use Rattle.junction_run.specs.declared.stop.PlayStop.TheVariants as play
 use Rattle.junction_run.specs.declared.stop.Stop.{Stop as RunStop}
 use Rattle.junction_run.specs.declared.stop.Stop.TheVariants.{Load, Play}
-use Rattle.junction_run.specs.Loading.{LoadsProgram, ReachedAfterSite, program_at}
+use Rattle.junction_run.specs.declared.stop.LoadStop.TheVariants as load
+use Rattle.junction_run.specs.Form.{SiteWords, ProgramFile}
+use Rattle.junction_run.specs.Loading as loading
+use Rattle.junction_run.specs.Loading.{LoadsProgram, Playing, ReachedInSite, Unloaded, played_at, program_at}
+use Rattle.junction_run.proofs.Texts.{no_site}
 use Rattle.junction_run.specs.Played as run
 use Rattle.junction_run.specs.Sites.{site_in}
-use Rattle.junction_run.specs.Stop.{IsUnloadedBy, StopsWith, play_status}
+use Rattle.junction_run.specs.Stop.{IsLoadStop, StopsWith, play_status}
 use Rattle.junction_run.specs.declared.status.Status.TheVariants as status
 use Rattle.trace_lines.specs.declared.line.Line.{Line}
 use Rattle.trace_lines.specs.Lines.{LineOf, line_in, lines_counted}
@@ -41,7 +45,24 @@ use Rattle.trace_call.specs.declared.stop.Stop.{Stop}
 use Rattle.trace_call.specs.declared.stop.Stop.TheVariants.{Run}
 use Rattle.trace_call.specs.Chosen.{play_stop_of}
 use Rattle.trace_call.specs.Form.{LinesWords}
-use Rattle.trace_call.specs.Lines.{IsCountedAt, IsLines, IsMakingStop, IsTalliedAt, counted_of, lines_text}
+use Rattle.trace_call.specs.Lines.{
+  AreAddedRuns,
+  AreCountedRuns,
+  AreMade,
+  AreStopped,
+  IsAddedRun,
+  IsLines,
+  IsMakingStop,
+  IsRun,
+  IsStoppedRun,
+  IsTalliedRun,
+  WereCounted,
+  counted_of,
+  detectors_of,
+  lines_text,
+  sights_in_runs,
+  sights_of,
+}
 use Rattle.trace_call.specs.Notes.{status_of}
 use Rattle.trace_call.specs.Written.{IsWritten}
 use Rattle.trace_call.proofs.Ends.{read_no_write, refused_no_write}
@@ -97,7 +118,7 @@ tallied_first started instrs code same none = subst (λ is. HasTallied started i
 pub tallied_all : (site : Loaded) (name read : List ℕ) (file : Contents) (ended : Tally) (c : Controller) (frames : List Counts) →
     code_of c ≡ site.code → site_of c ≡ site_in site → read ≡ name →
     HasTallied ended (code_of c).instrs (sights_by (code_of c) (site_of c) (opening (site_of c) (first_store site.code)) frames) →
-    run.IsPlayed {A = Unit {0}} name (Ok tt) (stream_of (file read)) frames → IsTalliedAt site name (stream_of (file name)) ended (Ok tt)
+    run.IsPlayed {A = Unit {0}} name (Ok tt) (stream_of (file read)) frames → IsTalliedRun site.code (site_in site) [] name file ended (Ok tt)
 tallied_all site name read file ended c frames code at named knows played = (
   frames,
   subst (λ n. run.IsPlayed {A = Unit {0}} name (Ok tt) (stream_of (file n)) frames) named played,
@@ -107,31 +128,162 @@ tallied_all site name read file ended c frames code at named knows played = (
 
 -- or not all were made
 pub tallied_some : (site : Loaded) (name read : List ℕ) (file : Contents) (ended : Tally) (stop : PlayStop) (frames : List Counts) → read ≡ name →
-    (play_status stop ≡ status.WriteFault → ⊥) →
-    run.IsPlayed {A = Unit {0}} name (Err stop) (stream_of (file read)) frames → IsTalliedAt site name (stream_of (file name)) ended (Err (Play stop))
+    (play_status stop ≡ status.WriteFault → ⊥) → run.IsPlayed {A = Unit {0}} name (Err stop) (stream_of (file read)) frames →
+    IsTalliedRun site.code (site_in site) [] name file ended (Err (Play stop))
 tallied_some site name read file ended stop frames named made played = (
-  frames,
-  subst (λ n. run.IsPlayed {A = Unit {0}} name (Err stop) (stream_of (file n)) frames) named played,
+  (frames, subst (λ n. run.IsPlayed {A = Unit {0}} name (Err stop) (stream_of (file n)) frames) named played),
   makes stop made,
 )
 
--- what was tallied was counted
-pub counted_all : (site : Loaded) (name : List ℕ) (file : Contents) (ended : Tally) (lines : Vec Line Global) →
-    IsTalliedAt site name (stream_of (file name)) ended (Ok tt) →
-    ((is : List Instr) (seconds : List (List Sight)) → HasTallied ended is seconds → map line_in lines.items ≡ lines_counted is seconds) →
-    IsCountedAt site name (stream_of (file name)) (Ok lines)
-unfolding counted_of
-counted_all site name file ended lines tallied of = (
-  tallied.0,
-  tallied.1,
-  of site.code.instrs (sights_by site.code (site_in site) (opening (site_in site) (first_store site.code)) tallied.0) tallied.2,
-)
+-- a run that stopped
+pub run_stopped : (code : CodeOf) (site : Site) (name : List ℕ) (file : Contents) (ended : Tally) (stop : RunStop) →
+    IsTalliedRun code site [] name file ended (Err stop) → IsRun code site name file (Err stop)
+run_stopped code site name file ended (Load stop) is = is
+run_stopped code site name file ended (Play stop) is = is
 
--- where not all were made nothing was counted
-pub counted_stop : (site : Loaded) (name : List ℕ) (file : Contents) (ended : Tally) (stop : RunStop) →
-    IsTalliedAt site name (stream_of (file name)) ended (Err stop) → IsCountedAt site name (stream_of (file name)) (Err stop)
-counted_stop site name file ended (Load stop) is = is
-counted_stop site name file ended (Play stop) is = is
+-- what a site is read as
+same_site : (r : Result Site Unloaded) (a b : Site) → r ≡ Ok a → r ≡ Ok b → a ≡ b
+same_site r a b first second = let same : Result.Ok {T = Site} {E = Unloaded} a ≡ Ok b = sym first ∙ second in cc
+
+-- a run of a code at a site is one of the code and the site that are the same
+same_run : (code read : CodeOf) (site at : Site) (name : List ℕ) (file : Contents) (r : Result Tally RunStop) → read ≡ code → at ≡ site →
+    IsRun read at name file r → IsRun code site name file r
+same_run code read site at name file r agrees here is =
+    subst (λ (k : CodeOf). IsRun k site name file r) agrees (subst (λ (s : Site). IsRun read s name file r) here is)
+
+-- one run more was tallied
+pub run_added : (words : SiteWords) (code read : CodeOf) (site at : Site) (seconds : List (List Sight)) (name : List ℕ) (file : Contents)
+    (one then now : Tally) → loading.site_of words file ≡ Ok at → loading.site_of words file ≡ Ok site → read ≡ code →
+    IsRun read at name file (Ok one) → HasTallied then code.instrs seconds →
+    ((instrs : List Instr) (seconds more : List (List Sight)) → HasTallied then instrs seconds → HasTallied one instrs more →
+    HasTallied now instrs (seconds ++ more)) → IsAddedRun words code site seconds name file now (Ok tt)
+run_added words code read site at seconds name file one then now given here agrees is tallied add =
+    let made = same_run code read site at name file (Ok one) agrees (same_site (loading.site_of words file) at site given here) is in
+    (made.0, made.1, add code.instrs seconds (sights_of code site made.0) tallied made.2)
+
+-- or not all of its seconds were made
+pub run_not_added : (words : SiteWords) (code read : CodeOf) (site at : Site) (seconds : List (List Sight)) (name : List ℕ) (file : Contents)
+    (now : Tally) (stop : RunStop) → IsRun read at name file (Err stop) → IsAddedRun words code site seconds name file now (Err stop)
+run_not_added words code read site at seconds name file now (Load stop) is =
+    subst (λ s. IsLoadStop (ReachedInSite words file) s (loading.site_of words file)) (sym is) tt
+run_not_added words code read site at seconds name file now (Play stop) is = is
+
+-- ---- several runs
+
+-- runs of some detector files were tallied after these seconds, and these files are left
+pub record HasAdded (code : CodeOf) (site : Site) (seconds : List (List Sight)) (left all : List (List ℕ)) (file : Contents) (total : Tally) : Type 0 where
+  pub done : List (List ℕ)
+  pub runs : List (List Counts)
+  pub made : AreMade done file runs
+  pub then_left : done ++ left ≡ all
+  pub tallied : HasTallied total code.instrs (seconds ++ sights_in_runs code site runs)
+
+made-more : (names : List (List ℕ)) (name : List ℕ) (file : Contents) (runs : List (List Counts)) (frames : List Counts) → AreMade names file runs →
+    run.IsPlayed {A = Unit {0}} name (Ok tt) (stream_of (file name)) frames → AreMade (names ++ name ∷ []) file (runs ++ frames ∷ [])
+made-more [] name file [] frames made one = (one, tt)
+made-more [] name file (r ∷ rs) frames made one = absurd made
+made-more (n ∷ ns) name file [] frames made one = absurd made
+made-more (n ∷ ns) name file (r ∷ rs) frames made one = (made.0, made-more ns name file rs frames made.1 one)
+
+sights-more : (code : CodeOf) (site : Site) (runs : List (List Counts)) (frames : List Counts) →
+    sights_in_runs code site (runs ++ frames ∷ []) ≡ sights_in_runs code site runs ++ sights_of code site frames
+sights-more code site [] frames = append-nil (sights_of code site frames)
+sights-more code site (r ∷ rs) frames =
+    ap (λ (l : List (List Sight)). sights_of code site r ++ l) (sights-more code site rs frames)
+    ∙ sym (append_assoc (sights_of code site r) (sights_in_runs code site rs) (sights_of code site frames))
+
+stopped_after : (names : List (List ℕ)) (name : List ℕ) (left : List (List ℕ)) (file : Contents) (runs : List (List Counts)) (stop : PlayStop) →
+    AreMade names file runs → IsStoppedRun name file stop → AreStopped (names ++ name ∷ left) file stop
+stopped_after [] name left file runs stop made stopped = inl stopped
+stopped_after (n ∷ ns) name left file [] stop made stopped = absurd made
+stopped_after (n ∷ ns) name left file (r ∷ rs) stop made stopped = inr (r, made.0, stopped_after ns name left file rs stop made.1 stopped)
+
+-- before the first of them
+pub none_added : (code : CodeOf) (site : Site) (seconds : List (List Sight)) (all : List (List ℕ)) (file : Contents) (total : Tally) →
+    HasTallied total code.instrs seconds → HasAdded code site seconds all all file total
+none_added code site seconds all file total tallied = record {
+  done = [];
+  runs = [];
+  made = tt;
+  then_left = refl;
+  tallied = subst (λ (s : List (List Sight)). HasTallied total code.instrs s) (sym (append-nil seconds)) tallied;
+}
+
+-- one more
+pub added_more : (words : SiteWords) (code : CodeOf) (site : Site) (seconds : List (List Sight)) (name : List ℕ) (left all : List (List ℕ)) (file : Contents)
+    (then now : Tally) → HasAdded code site seconds (name ∷ left) all file then →
+    ((seconds : List (List Sight)) → HasTallied then code.instrs seconds → IsAddedRun words code site seconds name file now (Ok tt)) →
+    HasAdded code site seconds left all file now
+added_more words code site seconds name left all file then now has add =
+    let one = add (seconds ++ sights_in_runs code site has.runs) has.tallied in record {
+      done = has.done ++ name ∷ [];
+      runs = has.runs ++ one.0 ∷ [];
+      made = made-more has.done name file has.runs one.0 has.made one.1;
+      then_left = append_assoc has.done (name ∷ []) left ∙ has.then_left;
+      tallied = subst (λ (s : List (List Sight)). HasTallied now code.instrs s)
+          (append_assoc seconds (sights_in_runs code site has.runs) (sights_of code site one.0)
+          ∙ ap (λ (l : List (List Sight)). seconds ++ l) (sym (sights-more code site has.runs one.0))) one.2;
+    }
+
+-- all of them
+pub added_all : (words : SiteWords) (code : CodeOf) (site : Site) (seconds : List (List Sight)) (left all : List (List ℕ)) (file : Contents) (total : Tally) →
+    left ≡ [] → HasAdded code site seconds left all file total → AreAddedRuns words code site seconds all file total (Ok tt)
+added_all words code site seconds left all file total none has =
+    let same : has.done ≡ all = sym (append-nil has.done) ∙ ap (λ (l : List (List ℕ)). has.done ++ l) (sym none) ∙ has.then_left in
+    (has.runs, subst (λ (names : List (List ℕ)). AreMade names file has.runs) same has.made, has.tallied)
+
+-- one of them stopped
+pub added_stopped : (words : SiteWords) (code : CodeOf) (site : Site) (seconds : List (List Sight)) (name : List ℕ) (left all : List (List ℕ))
+    (file : Contents) (then now : Tally) (stop : RunStop) → HasAdded code site seconds (name ∷ left) all file then →
+    ((seconds : List (List Sight)) → HasTallied then code.instrs seconds → IsAddedRun words code site seconds name file now (Err stop)) →
+    AreAddedRuns words code site seconds all file now (Err stop)
+added_stopped words code site seconds name left all file then now (Load stop) has add = add (seconds ++ sights_in_runs code site has.runs) has.tallied
+added_stopped words code site seconds name left all file then now (Play stop) has add =
+    let one = add (seconds ++ sights_in_runs code site has.runs) has.tallied in (
+      subst (λ (names : List (List ℕ)). AreStopped names file stop) has.then_left (stopped_after has.done name left file has.runs stop has.made one.0),
+      one.1,
+    )
+
+-- ---- what was counted of all of them
+
+-- the first run stopped
+pub first_stopped : (words : SiteWords) (code read : CodeOf) (site : Site) (name : List ℕ) (names : List (List ℕ)) (file : Contents) (stop : RunStop) →
+    IsRun read site name file (Err stop) → AreCountedRuns words code site (name ∷ names) file (Err stop)
+first_stopped words code read site name names file (Load stop) is =
+    subst (λ s. IsLoadStop (ReachedInSite words file) s (loading.site_of words file)) (sym is) tt
+first_stopped words code read site name names file (Play stop) is = (inl is.0, is.1)
+
+-- what the first run is tallied as
+pub first_tallied : (code read : CodeOf) (site : Site) (name : List ℕ) (file : Contents) (total : Tally) → read ≡ code →
+    IsRun read site name file (Ok total) → IsRun code site name file (Ok total)
+first_tallied code read site name file total agrees is = same_run code read site site name file (Ok total) agrees refl is
+
+-- an added one stopped
+pub later_stopped : (words : SiteWords) (code : CodeOf) (site : Site) (name : List ℕ) (names : List (List ℕ)) (file : Contents) (first now : Tally)
+    (stop : RunStop) → IsRun code site name file (Ok first) →
+    ((seconds : List (List Sight)) → HasTallied first code.instrs seconds → AreAddedRuns words code site seconds names file now (Err stop)) →
+    AreCountedRuns words code site (name ∷ names) file (Err stop)
+later_stopped words code site name names file first now (Load stop) is add = add (sights_of code site is.0) is.2
+later_stopped words code site name names file first now (Play stop) is add =
+    let rest = add (sights_of code site is.0) is.2 in (inr (is.0, is.1, rest.0), rest.1)
+
+-- all were counted
+pub all_counted : (words : SiteWords) (code : CodeOf) (site : Site) (name : List ℕ) (names : List (List ℕ)) (file : Contents) (first now : Tally)
+    (lines : Vec Line Global) → IsRun code site name file (Ok first) →
+    ((seconds : List (List Sight)) → HasTallied first code.instrs seconds → AreAddedRuns words code site seconds names file now (Ok tt)) →
+    ((is : List Instr) (seconds : List (List Sight)) → HasTallied now is seconds → map line_in lines.items ≡ lines_counted is seconds) →
+    AreCountedRuns words code site (name ∷ names) file (Ok lines)
+unfolding counted_of
+all_counted words code site name names file first now lines is add of =
+    let rest = add (sights_of code site is.0) is.2 in (
+      is.0 ∷ rest.0,
+      (is.1, rest.1),
+      of code.instrs (sights_in_runs code site (is.0 ∷ rest.0)) rest.2,
+    )
+
+-- or memory was wanted
+pub memory_wanted : (words : SiteWords) (file : Contents) → IsLoadStop (ReachedInSite words file) load.Memory (loading.site_of words file)
+memory_wanted words file = tt
 
 -- a fault of the sink behind what was made
 pub rose_written : {a b d : ℕ} (r : Result (Unit {0}) Stop) → a ≤ b → OnErr r (Rose b d) → StopsWith status_of status.WriteFault r → Rose a d
@@ -148,67 +300,65 @@ written_no_read text (Err stop) old new written is =
     write_no_read : status.WriteFault ≡ status.ReadFault → ⊥
     write_no_read is = absurd cc
 
-module _ (asked : LinesWords) (file : Contents) (site : Loaded) (program : Program) (code_is : site.code ≡ code_for program)
-    (loads : LoadsProgram asked.run.program asked.run.site file (Ok (program_at (site_in site) program))) where
+-- the site of what the files give
+pub site_is : (program : List ℕ) (words : SiteWords) (file : Contents) (site : Site) (value : Program) →
+    LoadsProgram program words file (Ok (program_at site value)) → loading.site_of words file ≡ Ok site
+site_is program words file site value loads = at (loading.site_of words file) loads
+  where
+    given : (s : Site) (v : Result Program Unloaded) →
+        Result.Ok {T = Playing} {E = Unloaded} (program_at site value) ≡ loading.map_ok (played_at (ProgramFile program) s) v → s ≡ site
+    given s (Ok p) is = let same : program_at site value ≡ program_at s p = cc in sym (ap (λ (p : Playing). p.site) same)
+    given s (Err u) is = absurd cc
+
+    at : (r : Result Site Unloaded) →
+        loading.AfterSite (played_at (ProgramFile program)) r (loading.IsSource (ProgramFile program) (file program)) (Ok (program_at site value)) → r ≡ Ok site
+    at (Ok s) is = ap Ok (given s is.0 is.2)
+    at (Err u) is = absurd cc
+
+module _ (asked : LinesWords) (file : Contents) (site : Site) (program : Program)
+    (loads : LoadsProgram asked.run.program asked.run.site file (Ok (program_at site program))) where
   -- the text of what was counted
-  abbrev text : List Counts → List ℕ
-  text frames = lines_text asked.style asked.run.program (file asked.run.program) (counted_of (code_for program) (site_in site) frames)
+  abbrev text : List (List Counts) → List ℕ
+  text runs = lines_text asked.style asked.run.program (file asked.run.program) (counted_of (code_for program) site runs)
 
   -- what was counted was written
   pub lines_written : (lines : Vec Line Global) (name bytes : List ℕ) (slice : List Line) (r : Result (Unit {0}) Stop) (old now new : Option (List ℕ)) →
-      IsCountedAt site asked.run.detectors (stream_of (file asked.run.detectors)) (Ok lines) → now ≡ old →
+      AreCountedRuns asked.run.site (code_for program) site (detectors_of asked) file (Ok lines) → now ≡ old →
       name ≡ asked.run.program → bytes ≡ file asked.run.program → slice ≡ lines.items →
       IsWritten (lines_text asked.style name bytes (map line_in slice)) r now new → IsLines asked file r old new
-  lines_written lines name bytes slice r old now new counted none named spelled taken written =
+  lines_written lines name bytes slice r old now new counted none named read taken written =
       ended r (subst (λ (ls : List LineOf). IsWritten (lines_text asked.style asked.run.program (file asked.run.program) ls) r old new)
-      (ap (map line_in) taken ∙ counted.2 ∙ ap (λ code. counted_of code (site_in site) counted.0) code_is)
-      (subst (λ (b : List ℕ). IsWritten (lines_text asked.style asked.run.program b (map line_in slice)) r old new) spelled
+      (ap (map line_in) taken ∙ counted.2)
+      (subst (λ (b : List ℕ). IsWritten (lines_text asked.style asked.run.program b (map line_in slice)) r old new) read
       (subst (λ (n : List ℕ). IsWritten (lines_text asked.style n bytes (map line_in slice)) r old new) named
       (subst (λ o. IsWritten (lines_text asked.style name bytes (map line_in slice)) r o new) none written))))
     where
-      failed : (stop : Stop) → stop ≡ Run (Play play.WriteFault) → ((n : ℕ) × IsCut old new n (text counted.0)) → IsLines {A = Unit {0}} asked file (Err stop) old new
-      failed stop is cut = subst (λ s. IsLines {A = Unit {0}} asked file (Err s) old new) (sym is) (record {
+      were : (Done : List ℕ → Type 0) → Done (text counted.0) → WereCounted asked file Done
+      were Done done = record {
         program = program;
-        site = site_in site;
+        site = site;
         loads = loads;
-        frames = counted.0;
-        given = counted.1;
-        written = cut;
-      })
+        runs = counted.0;
+        made = counted.1;
+        done = done;
+      }
+
+      failed : (stop : Stop) → stop ≡ Run (Play play.WriteFault) → ((n : ℕ) × IsCut old new n (text counted.0)) → IsLines {A = Unit {0}} asked file (Err stop) old new
+      failed stop is cut = subst (λ s. IsLines {A = Unit {0}} asked file (Err s) old new) (sym is) (were (λ t. (n : ℕ) × IsCut old new n t) cut)
 
       ended : (r : Result (Unit {0}) Stop) → IsWritten (text counted.0) r old new → IsLines asked file r old new
-      ended (Ok x) is = record {
-        program = program;
-        site = site_in site;
-        loads = loads;
-        frames = counted.0;
-        given = counted.1;
-        written = is;
-      }
+      ended (Ok x) is = were (λ t. new ≡ append_known old t) is
       ended (Err stop) is = failed stop is.0 is.1
 
   -- not all seconds were made
   pub lines_stopped : (stop : RunStop) (old new : Option (List ℕ)) →
-      IsCountedAt site asked.run.detectors (stream_of (file asked.run.detectors)) (Err stop) → new ≡ old →
+      AreCountedRuns asked.run.site (code_for program) site (detectors_of asked) file (Err stop) → new ≡ old →
       IsLines {A = Unit {0}} asked file (Err (Run stop)) old new
   lines_stopped (Load stop) old new is none = (
-    subst (λ s. IsUnloadedBy (LoadsProgram asked.run.program asked.run.site file) (ReachedAfterSite asked.run.program asked.run.site file) s) (sym is) tt,
+    no_site (played_at (ProgramFile asked.run.program)) (loading.IsSource (ProgramFile asked.run.program) (file asked.run.program)) asked.run.program asked.run.site file stop is,
     none,
   )
-  lines_stopped (Play (play.ReadFault word)) old new is none = record {
-    program = program;
-    site = site_in site;
-    loads = loads;
-    frames = is.0;
-    given = is.1;
-    written = none;
-  }
-  lines_stopped (Play play.WriteFault) old new is none = absurd is.2
-  lines_stopped (Play (play.RefusedLine word line reason)) old new is none = record {
-    program = program;
-    site = site_in site;
-    loads = loads;
-    frames = is.0;
-    given = is.1;
-    written = none;
-  }
+  lines_stopped (Play (play.ReadFault word)) old new is none = (record { program = program; site = site; loads = loads; stopped = is.0 }, none)
+  lines_stopped (Play play.WriteFault) old new is none = absurd is.1
+  lines_stopped (Play (play.RefusedLine word line reason)) old new is none =
+      (record { program = program; site = site; loads = loads; stopped = is.0 }, none)

@@ -25,7 +25,7 @@ usage_text =
     ++ codes "    a table of the program's variables, timers and cells after each second, as CSV\n"
     ++ codes "junction_trace how-ended PROGRAM PUA TIMES INTERGREENS DETECTORS [--csv]\n"
     ++ codes "    for each end of a stage the line of the command that ended it, in words or as CSV\n"
-    ++ codes "junction_trace lines PROGRAM PUA TIMES INTERGREENS DETECTORS [--csv | --lcov]\n"
+    ++ codes "junction_trace lines PROGRAM PUA TIMES INTERGREENS DETECTORS [--csv | --lcov] [--add DETECTORS ..]\n"
     ++ codes "    how often its lines ran and its tests were answered: beside its text, as CSV or for lcov\n"
     ++ codes "junction_trace second PROGRAM PUA TIMES INTERGREENS DETECTORS N\n"
     ++ codes "    the listing of second N: what ran, was read, tested, assigned and commanded, in order\n"

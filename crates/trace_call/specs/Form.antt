@@ -25,10 +25,11 @@ pub record EndsWords : Type 0 where
   pub run : RunWords
   pub csv : Bool
 
--- the counts of the lines, in this style
+-- the counts of the lines, in this style, of the run and of those with the added detector files
 pub record LinesWords : Type 0 where
   pub run : RunWords
   pub style : Style
+  pub added : List (List ℕ)
 
 -- the listing of this second
 pub record SecondWords : Type 0 where
@@ -91,16 +92,32 @@ abbrev pub style_of : List ℕ → Option Style
 style_of word =
     if bytes_eq word (codes "--csv") then Some Csv else (if bytes_eq word (codes "--lcov") then Some Lcov else None)
 
--- the counts of the lines in this style, if there is one
-abbrev pub lines_in : RunWords → Option Style → Option Asked
-lines_in run None = None
-lines_in run (Some style) = Some (Lines (record { run = run; style = style }))
+-- whether words are `--add` with a file behind it, any number of times
+abbrev pub are_added : List (List ℕ) → Bool
+are_added [] = true
+are_added (option ∷ []) = false
+are_added (option ∷ file ∷ words) = bytes_eq option (codes "--add") && are_added words
 
--- --csv or --lcov, or no word
+-- the files of such words
+abbrev pub files_in : List (List ℕ) → List (List ℕ)
+files_in [] = []
+files_in (option ∷ []) = []
+files_in (option ∷ file ∷ words) = file ∷ files_in words
+
+-- --add DETECTORS ..
+abbrev pub lines_in : RunWords → Style → List (List ℕ) → Option Asked
+lines_in run style words =
+    if are_added words then Some (Lines (record { run = run; style = style; added = files_in words })) else None
+
+-- the style that a word names, before those words; or the table, where it names none and is one of them
+abbrev pub lines_by : RunWords → Option Style → (word : List ℕ) → List (List ℕ) → Option Asked
+lines_by run None word words = lines_in run Table (word ∷ words)
+lines_by run (Some style) word words = lines_in run style words
+
+-- --csv, --lcov or neither, and --add DETECTORS ..
 abbrev pub lines_form : RunWords → List (List ℕ) → Option Asked
-lines_form run [] = Some (Lines (record { run = run; style = Table }))
-lines_form run (word ∷ []) = lines_in run (style_of word)
-lines_form run _ = None
+lines_form run [] = lines_in run Table []
+lines_form run (word ∷ words) = lines_by run (style_of word) word words
 
 -- the listing of the second of this number, if it is one
 abbrev pub second_in : RunWords → Option ℕ → Option Asked

@@ -1,5 +1,5 @@
 -- What `lines` writes.
-use Rattle.std.specs.Prelude.{◌≡◌, ℕ, List, Option, Result, Ok, Err, Vec, map}
+use Rattle.std.specs.Prelude.{◌≡◌, ◌++◌, ◌⊎◌, ℕ, List, [], ◌∷◌, map, Option, Result, Ok, Err, Vec}
 use Rattle.std.specs.declared.alloc.Global.{Global}
 use Rattle.std.specs.Io.KnownBytes.{append_known}
 use Rattle.sig_io.specs.Draft.{IsCut}
@@ -7,19 +7,19 @@ use Rattle.sig_io.specs.Outside.{Contents}
 use Rattle.sig_types.specs.Counts.{Counts}
 use Rattle.vap_ast.specs.Syntax.{Program}
 use Rattle.vap_code.specs.Codes.{CodeOf}
+use Rattle.vap_code.specs.Sights.{Sight}
 use Rattle.vap_code.specs.Stores.{first_store}
 use Rattle.controller.specs.Past.{Site, opening}
 use Rattle.det_stream.specs.Stream.{Stream, stream_of}
-use Rattle.junction_run.specs.declared.load.Site.{Site as LoadedSite}
-use Rattle.junction_run.specs.declared.stop.LoadStop.TheVariants as load
 use Rattle.junction_run.specs.declared.stop.PlayStop.{PlayStop}
 use Rattle.junction_run.specs.declared.stop.PlayStop.TheVariants.{ReadFault, WriteFault, RefusedLine}
 use Rattle.junction_run.specs.declared.stop.Stop.{Stop as RunStop}
 use Rattle.junction_run.specs.declared.stop.Stop.TheVariants.{Load, Play}
-use Rattle.junction_run.specs.Loading.{LoadsProgram, program_at, ReachedAfterSite}
+use Rattle.junction_run.specs.declared.stop.LoadStop.TheVariants as load
+use Rattle.junction_run.specs.Form.{SiteWords}
+use Rattle.junction_run.specs.Loading.{LoadsProgram, program_at, ReachedAfterSite, ReachedInSite, site_of}
 use Rattle.junction_run.specs.Played.{IsPlayed}
-use Rattle.junction_run.specs.Sites.{site_in}
-use Rattle.junction_run.specs.Stop.{IsUnloadedBy}
+use Rattle.junction_run.specs.Stop.{IsLoadStop, IsUnloadedBy}
 use Rattle.trace_lines.specs.declared.line.Line.{Line}
 use Rattle.trace_lines.specs.Csv.{csv_text}
 use Rattle.trace_lines.specs.Lcov.{lcov_text}
@@ -35,9 +35,18 @@ use Rattle.trace_call.specs.declared.stop.Stop.{Stop}
 use Rattle.trace_call.specs.declared.stop.Stop.TheVariants.{Words, NoName, Run}
 use Rattle.trace_call.specs.Form.{LinesWords}
 
--- what is counted of the lines of a code in the seconds with these frames of its run at a site
-unfoldable pub counted_of : CodeOf → Site → List Counts → List LineOf
-counted_of code site frames = lines_counted code.instrs (sights_by code site (opening site (first_store code)) frames)
+-- what is seen in the seconds with these frames of a run of a code at a site, from its first store on
+abbrev pub sights_of : CodeOf → Site → List Counts → List (List Sight)
+sights_of code site frames = sights_by code site (opening site (first_store code)) frames
+
+-- what is seen in the seconds of runs, each of which begins anew
+abbrev pub sights_in_runs : CodeOf → Site → List (List Counts) → List (List Sight)
+sights_in_runs code site [] = []
+sights_in_runs code site (frames ∷ runs) = sights_of code site frames ++ sights_in_runs code site runs
+
+-- what is counted of the lines of a code in these runs, all added up
+unfoldable pub counted_of : CodeOf → Site → List (List Counts) → List LineOf
+counted_of code site runs = lines_counted code.instrs (sights_in_runs code site runs)
 
 -- what is written of the lines of a program with this name and this text
 abbrev pub lines_text : Style → (name text : List ℕ) → List LineOf → List ℕ
@@ -45,38 +54,62 @@ lines_text Table name text lines = table_text text lines
 lines_text Csv name text lines = csv_text lines
 lines_text Lcov name text lines = lcov_text name lines
 
--- how the seconds ended: all were made where only writing failed
-abbrev pub made_by : {A : Type 0} → Result A PlayStop → Result (Unit {0}) PlayStop
-made_by (Ok x) = Ok tt
-made_by (Err (ReadFault word)) = Err (ReadFault word)
-made_by (Err WriteFault) = Ok tt
-made_by (Err (RefusedLine word line reason)) = Err (RefusedLine word line reason)
+-- the detector files that are asked for, in their order
+abbrev pub detectors_of : LinesWords → List (List ℕ)
+detectors_of asked = asked.run.detectors ∷ asked.added
 
--- the text was written whole, or only its first bytes where the sink failed; nothing where not all seconds were made
-abbrev pub IsWholeWritten : {A : Type 0} → Result A PlayStop → List ℕ → Option (List ℕ) → Option (List ℕ) → Type 0
-IsWholeWritten (Ok x) text old new = new ≡ append_known old text
-IsWholeWritten (Err (ReadFault word)) text old new = new ≡ old
-IsWholeWritten (Err WriteFault) text old new = (n : ℕ) × IsCut old new n text
-IsWholeWritten (Err (RefusedLine word line reason)) text old new = new ≡ old
+-- all seconds of these detector files were made, a run of each
+abbrev pub AreMade : List (List ℕ) → Contents → List (List Counts) → Type 0
+AreMade [] file [] = Unit {0}
+AreMade [] file (frames ∷ runs) = ⊥
+AreMade (name ∷ names) file [] = ⊥
+AreMade (name ∷ names) file (frames ∷ runs) =
+    IsPlayed {A = Unit {0}} name (Ok tt) (stream_of (file name)) frames × AreMade names file runs
 
--- The files give a program at a site, and the counts of all seconds of its detector file were written.
-pub record WasCounted {A : Type 0} (asked : LinesWords) (file : Contents) (r : Result A PlayStop) (old new : Option (List ℕ)) : Type 0 where
+-- the run of a detector file stopped so
+abbrev pub IsStoppedRun : List ℕ → Contents → PlayStop → Type 0
+IsStoppedRun name file stop = (frames : List Counts) × IsPlayed {A = Unit {0}} name (Err stop) (stream_of (file name)) frames
+
+-- the runs of these detector files stopped so: all seconds of the first ones were made, and then that of one stopped
+abbrev pub AreStopped : List (List ℕ) → Contents → PlayStop → Type 0
+AreStopped [] file stop = ⊥
+AreStopped (name ∷ names) file stop =
+    IsStoppedRun name file stop
+    ⊎ ((frames : List Counts) × IsPlayed {A = Unit {0}} name (Ok tt) (stream_of (file name)) frames × AreStopped names file stop)
+
+-- The files give a program at a site, and this was done with the counts of all seconds of all detector files.
+pub record WereCounted (asked : LinesWords) (file : Contents) (Done : List ℕ → Type 0) : Type 0 where
   pub program : Program
   pub site : Site
   pub loads : LoadsProgram asked.run.program asked.run.site file (Ok (program_at site program))
-  pub frames : List Counts
-  pub given : IsPlayed asked.run.detectors (made_by r) (stream_of (file asked.run.detectors)) frames
-  pub written : IsWholeWritten r (lines_text asked.style asked.run.program (file asked.run.program) (counted_of (code_for program) site frames)) old new
+  pub runs : List (List Counts)
+  pub made : AreMade (detectors_of asked) file runs
+  pub done : Done (lines_text asked.style asked.run.program (file asked.run.program) (counted_of (code_for program) site runs))
+
+-- The files give a program at a site, and not all seconds were made.
+pub record WereStopped (asked : LinesWords) (file : Contents) (stop : PlayStop) : Type 0 where
+  pub program : Program
+  pub site : Site
+  pub loads : LoadsProgram asked.run.program asked.run.site file (Ok (program_at site program))
+  pub stopped : AreStopped (detectors_of asked) file stop
+
+-- seconds stopped so: nothing was written; or all were made, and the sink took only the first bytes of the text
+abbrev pub IsLinesStop : LinesWords → Contents → PlayStop → Option (List ℕ) → Option (List ℕ) → Type 0
+IsLinesStop asked file (ReadFault word) old new = WereStopped asked file (ReadFault word) × (new ≡ old)
+IsLinesStop asked file WriteFault old new = WereCounted asked file (λ text. (n : ℕ) × IsCut old new n text)
+IsLinesStop asked file (RefusedLine word line reason) old new = WereStopped asked file (RefusedLine word line reason) × (new ≡ old)
 
 -- `lines` ended so, over files that tell this
 abbrev pub IsLines : {A : Type 0} → LinesWords → Contents → Result A Stop → Option (List ℕ) → Option (List ℕ) → Type 0
-IsLines {A} asked file (Ok x) old new = WasCounted {A = A} asked file (Ok x) old new
+IsLines asked file (Ok x) old new = WereCounted asked file (λ text. new ≡ append_known old text)
 IsLines asked file (Err Words) old new = ⊥
 IsLines asked file (Err (NoName word nearest)) old new = ⊥
 IsLines asked file (Err (Run (Load stop))) old new =
     IsUnloadedBy (LoadsProgram asked.run.program asked.run.site file) (ReachedAfterSite asked.run.program asked.run.site file) stop
     × (new ≡ old)
-IsLines {A} asked file (Err (Run (Play stop))) old new = WasCounted {A = A} asked file (Err stop) old new
+IsLines asked file (Err (Run (Play stop))) old new = IsLinesStop asked file stop old new
+
+-- ---- of the parts
 
 -- a stop while seconds are made
 abbrev pub IsMakingStop : PlayStop → Type 0
@@ -84,18 +117,36 @@ IsMakingStop (ReadFault word) = Unit {0}
 IsMakingStop WriteFault = ⊥
 IsMakingStop (RefusedLine word line reason) = Unit {0}
 
--- the seconds of a detector file were tallied at a site, or not all were made
-abbrev pub IsTalliedAt : LoadedSite → List ℕ → Stream → Tally → Result (Unit {0}) RunStop → Type 0
-IsTalliedAt site name stream tally (Ok x) =
-    (frames : List Counts) × IsPlayed {A = Unit {0}} name (Ok tt) stream frames
-    × HasTallied tally site.code.instrs (sights_by site.code (site_in site) (opening (site_in site) (first_store site.code)) frames)
-IsTalliedAt site name stream tally (Err (Load stop)) = stop ≡ load.Memory
-IsTalliedAt site name stream tally (Err (Play stop)) =
-    (frames : List Counts) × IsPlayed {A = Unit {0}} name (Err stop) stream frames × IsMakingStop stop
+-- a run of a code at a site was tallied after these seconds, or not all of its seconds were made, or memory was wanted
+abbrev pub IsTalliedRun : CodeOf → Site → List (List Sight) → List ℕ → Contents → Tally → Result (Unit {0}) RunStop → Type 0
+IsTalliedRun code site seconds name file tally (Ok x) =
+    (frames : List Counts) × IsPlayed {A = Unit {0}} name (Ok tt) (stream_of (file name)) frames
+    × HasTallied tally code.instrs (seconds ++ sights_of code site frames)
+IsTalliedRun code site seconds name file tally (Err (Load stop)) = stop ≡ load.Memory
+IsTalliedRun code site seconds name file tally (Err (Play stop)) = IsStoppedRun name file stop × IsMakingStop stop
 
--- the seconds of a detector file were counted at a site, or not all were made
-abbrev pub IsCountedAt : LoadedSite → List ℕ → Stream → Result (Vec Line Global) RunStop → Type 0
-IsCountedAt site name stream (Ok lines) =
-    (frames : List Counts) × IsPlayed {A = Unit {0}} name (Ok tt) stream frames × (map line_in lines.items ≡ counted_of site.code (site_in site) frames)
-IsCountedAt site name stream (Err (Load stop)) = stop ≡ load.Memory
-IsCountedAt site name stream (Err (Play stop)) = (frames : List Counts) × IsPlayed {A = Unit {0}} name (Err stop) stream frames × IsMakingStop stop
+-- a run was tallied alone
+abbrev pub IsRun : CodeOf → Site → List ℕ → Contents → Result Tally RunStop → Type 0
+IsRun code site name file (Ok tally) = IsTalliedRun code site [] name file tally (Ok tt)
+IsRun code site name file (Err (Load stop)) = stop ≡ load.Memory
+IsRun code site name file (Err (Play stop)) = IsStoppedRun name file stop × IsMakingStop stop
+
+-- a run was tallied after these seconds at a site that was read once more
+abbrev pub IsAddedRun : SiteWords → CodeOf → Site → List (List Sight) → List ℕ → Contents → Tally → Result (Unit {0}) RunStop → Type 0
+IsAddedRun words code site seconds name file tally (Ok x) = IsTalliedRun code site seconds name file tally (Ok tt)
+IsAddedRun words code site seconds name file tally (Err (Load stop)) = IsLoadStop (ReachedInSite words file) stop (site_of words file)
+IsAddedRun words code site seconds name file tally (Err (Play stop)) = IsStoppedRun name file stop × IsMakingStop stop
+
+-- runs of these detector files were tallied after these seconds, each at the site that was read once more
+abbrev pub AreAddedRuns : SiteWords → CodeOf → Site → List (List Sight) → List (List ℕ) → Contents → Tally → Result (Unit {0}) RunStop → Type 0
+AreAddedRuns words code site seconds names file tally (Ok x) =
+    (runs : List (List Counts)) × AreMade names file runs × HasTallied tally code.instrs (seconds ++ sights_in_runs code site runs)
+AreAddedRuns words code site seconds names file tally (Err (Load stop)) = IsLoadStop (ReachedInSite words file) stop (site_of words file)
+AreAddedRuns words code site seconds names file tally (Err (Play stop)) = AreStopped names file stop × IsMakingStop stop
+
+-- the runs of these detector files were counted
+abbrev pub AreCountedRuns : SiteWords → CodeOf → Site → List (List ℕ) → Contents → Result (Vec Line Global) RunStop → Type 0
+AreCountedRuns words code site names file (Ok lines) =
+    (runs : List (List Counts)) × AreMade names file runs × (map line_in lines.items ≡ counted_of code site runs)
+AreCountedRuns words code site names file (Err (Load stop)) = IsLoadStop (ReachedInSite words file) stop (site_of words file)
+AreCountedRuns words code site names file (Err (Play stop)) = AreStopped names file stop × IsMakingStop stop

@@ -46,7 +46,7 @@ fn put_usage<O: Sink>(draft: &mut Draft, sink: &mut O)
     );
     draft.put(
         sink,
-        b"junction_trace lines PROGRAM PUA TIMES INTERGREENS DETECTORS [--csv | --lcov]\n",
+        b"junction_trace lines PROGRAM PUA TIMES INTERGREENS DETECTORS [--csv | --lcov] [--add DETECTORS ..]\n",
     );
     draft.put(
         sink,
@@ -112,7 +112,7 @@ fn do_form<'a, F: Files, O: Sink>(
         Form::Version => write_version(out),
         Form::Values { run, names, window } => values(alloc, run, names, window, files, out),
         Form::HowEnded { run, csv } => how_ended(alloc, run, csv, files, out),
-        Form::Lines { run, style } => lines(alloc, run, style, files, out),
+        Form::Lines { run, style, added } => lines(alloc, run, style, added, files, out),
         Form::Second { run, second: n } => second(alloc, run, n, files, out),
         Form::Trace(run) => prints(alloc, run, files, out),
     }
@@ -127,7 +127,7 @@ fn do_form<'a, F: Files, O: Sink>(
 ///   that ended it, in words where `--csv` is left out.
 /// - `lines PROGRAM PUA TIMES INTERGREENS DETECTORS` writes how often the statements of each line of the program began and how
 ///   its tests were answered, once all seconds are made: beside the program's text, with `--csv` as a table, with `--lcov` as a
-///   tracefile of LCOV.
+///   tracefile of LCOV. Behind these words each `--add DETECTORS` adds the counts of one more run.
 /// - `second PROGRAM PUA TIMES INTERGREENS DETECTORS N` writes the listing of second N: what its pass did, in order, with what
 ///   became of each command, what the second changed, and its record; nothing where DETECTORS has fewer seconds.
 /// - `trace PROGRAM PUA TIMES INTERGREENS DETECTORS` writes what the TRACE statements of the program print, a line for each call.

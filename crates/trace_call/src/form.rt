@@ -1,6 +1,19 @@
 // The words of a call.
 ghost use Rattle.std.specs.Prelude.{◌≡◌, None, Some, MatchOption, map, string_bytes};
-ghost use Rattle.trace_call.specs.Form.{cut_option, ends_form, form_of, lines_form, lone_form, run_form, second_form, style_of, trace_form, values_form};
+ghost use Rattle.trace_call.specs.Form.{
+  are_added,
+  cut_option,
+  ends_form,
+  form_of,
+  lines_form,
+  lines_in,
+  lone_form,
+  run_form,
+  second_form,
+  style_of,
+  trace_form,
+  values_form,
+};
 ghost use Rattle.trace_call.specs.FormWords.{asked_in, run_named};
 
 use junction_run::SiteWords;
@@ -53,10 +66,12 @@ pub enum Form<'a> {
         run: RunNames<'a>,
         csv: bool,
     },
-    /// The counts of the lines, in this style.
+    /// The counts of the lines, in this style, of the run and of those with the detector files behind each `--add` of the
+    /// added words.
     Lines {
         run: RunNames<'a>,
         style: Style,
+        added: &'a [String],
     },
     /// The listing of this second, from 1.
     Second {
@@ -134,21 +149,50 @@ fn ends_form<'a>(run: RunNames<'a>, words: &'a [String]) -> Option<Form<'a>>
     }
 }
 
-// --csv or --lcov, or no word
+// Whether words are `--add` with a file behind it, any number of times.
+fn are_added(words: &[String]) -> bool
+    ensures { result ≡ are_added (map string_bytes words.now) }
+{
+    let mut rest = words;
+    while !rest.is_empty() {
+        let [option, _file, behind @ ..] = rest else {
+            return false;
+        };
+        if option.as_str() != "--add" {
+            return false;
+        }
+        rest = behind;
+    }
+    true
+}
+
+// --add DETECTORS ..
+fn lines_in<'a>(run: RunNames<'a>, style: Style, words: &'a [String]) -> Option<Form<'a>>
+    ensures { MatchOption result (lines_in (run_named run.entry) style (map string_bytes words.now) ≡ None)
+        (λ form. lines_in (run_named run.entry) style (map string_bytes words.now) ≡ Some (asked_in form)) }
+{
+    if are_added(words) {
+        Some(Form::Lines {
+            run,
+            style,
+            added: words,
+        })
+    } else {
+        None
+    }
+}
+
+// --csv, --lcov or neither, and --add DETECTORS ..
 fn lines_form<'a>(run: RunNames<'a>, words: &'a [String]) -> Option<Form<'a>>
     ensures { MatchOption result (lines_form (run_named run.entry) (map string_bytes words.now) ≡ None)
         (λ form. lines_form (run_named run.entry) (map string_bytes words.now) ≡ Some (asked_in form)) }
 {
     match words {
-        [] => Some(Form::Lines {
-            run,
-            style: Style::Table,
-        }),
-        [word] => {
-            let style = style_of(word.as_str())?;
-            Some(Form::Lines { run, style })
-        }
-        _ => None,
+        [] => lines_in(run, Style::Table, words),
+        [word, behind @ ..] => match style_of(word.as_str()) {
+            Some(style) => lines_in(run, style, behind),
+            None => lines_in(run, Style::Table, words),
+        },
     }
 }
 

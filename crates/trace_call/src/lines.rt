@@ -1,23 +1,31 @@
 // The form `lines`.
-ghost use Rattle.std.specs.Prelude.{◌≡◌, ◌≤◌, [], ℕ, List, OnErr, true, length, map};
+ghost use Rattle.std.specs.Prelude.{◌≡◌, ◌≤◌, ◌∷◌, [], ℕ, List, Ok, OnErr, true, length, map, string_bytes};
 ghost use Rattle.std.specs.Option.{ForSome};
 ghost use Rattle.sig_io.specs.Draft.{Puts};
 ghost use Rattle.sig_io.specs.Outside.{Rose};
 ghost use Rattle.pua_model.specs.Plan.{groups_in};
 ghost use Rattle.sig_types.specs.Counts.{Counts};
-ghost use Rattle.controller.specs.Past.{Past};
+ghost use Rattle.vap_ast.specs.Tree.{program_of};
+ghost use Rattle.vap_check.specs.Numbers.{checked_of};
+ghost use Rattle.vap_code.specs.Sights.{Sight};
+ghost use Rattle.controller.specs.Past.{Site as SiteOf, Past};
 ghost use Rattle.controller.specs.Controls.{StandsFor, code_of, site_of};
 ghost use Rattle.det_stream.specs.Answers.{Gave, Reads, is_live, name_of, second_of};
 ghost use Rattle.det_stream.specs.Stream.{stream_of};
+ghost use Rattle.junction_run.specs.FormWords.{site_in};
+ghost use Rattle.junction_run.specs.Loading as loading;
 ghost use Rattle.junction_run.specs.Played.{IsPlayed};
+ghost use Rattle.junction_run.specs.Sites as sites;
 ghost use Rattle.junction_run.specs.Stop as stops;
 ghost use Rattle.junction_run.specs.Stop.{StopsWith, play_status};
 ghost use Rattle.junction_run.specs.declared.status.Status.TheVariants as status;
 ghost use Rattle.trace_lines.specs.Lines.{line_in};
+ghost use Rattle.trace_load.specs.Loaded.{code_for};
 ghost use Rattle.trace_tally.specs.Seconds.{sights_by};
 ghost use Rattle.trace_tally.specs.Tallied.{HasTallied};
+ghost use Rattle.trace_call.specs.Form.{files_in};
 ghost use Rattle.trace_call.specs.FormWords.{run_named};
-ghost use Rattle.trace_call.specs.Lines.{IsCountedAt, IsLines, IsTalliedAt, lines_text};
+ghost use Rattle.trace_call.specs.Lines.{AreAddedRuns, AreCountedRuns, IsAddedRun, IsLines, IsRun, IsTalliedRun, lines_text};
 ghost use Rattle.trace_call.specs.Notes.{status_of};
 ghost use Rattle.trace_call.specs.Written.{IsWritten};
 
@@ -27,13 +35,14 @@ use crate::stop::Stop;
 use crate::values::play_stop;
 use controller::Controller;
 use det_stream::Lines;
-use junction_run::{LoadStop, PlayStop, Site, Stop as RunStop};
+use junction_run::{LoadStop, PlayStop, Site, SiteWords, Stop as RunStop};
 use sig_io::{Draft, Files, Sink};
 use std::alloc::Global;
 use trace_lines::{Line, put_csv, put_lcov, put_table};
-use trace_load::{Loaded, load_program, start};
+use trace_load::{Loaded, load_again, load_program, start};
 use trace_run::tell_all;
 use trace_tally::Tally;
+use vap_check::Checked;
 
 // Makes the seconds of a detector file and tallies them. Nothing is written.
 fn tally_seconds<'a, F: Files, O: Sink>(
@@ -57,6 +66,7 @@ fn tally_seconds<'a, F: Files, O: Sink>(
     ensures contents_stay { F.told files.new ≡ F.told files.old }
     ensures nothing { O.taken out.new ≡ O.taken out.old }
     ensures later { O.faults out.old ≤ O.faults out.new }
+    ensures reads_later { F.faults files.old ≤ F.faults files.new }
     ensures read { StopsWith play_status status.ReadFault result → Rose (F.faults files.old) (F.faults files.new) }
     ensures no_write { StopsWith play_status status.WriteFault result → ⊥ }
 {
@@ -79,10 +89,11 @@ fn count_seconds<'a, F: Files, O: Sink>(
     requires times { length site.times ≡ groups_in site.plan }
     requires intergreens { site.intergreens.count ≡ groups_in site.plan }
     requires none { HasTallied tally.old site.code.instrs [] }
-    ensures counted { ForSome (F.told files.old) (λ file. IsTalliedAt site word.now (stream_of (file word.now)) tally.new result) }
+    ensures counted { ForSome (F.told files.old) (λ file. IsTalliedRun site.code (sites.site_in site) [] word.now file tally.new result) }
     ensures contents_stay { F.told files.new ≡ F.told files.old }
     ensures nothing { O.taken out.new ≡ O.taken out.old }
     ensures later { O.faults out.old ≤ O.faults out.new }
+    ensures reads_later { F.faults files.old ≤ F.faults files.new }
     ensures read { StopsWith stops.status_of status.ReadFault result → Rose (F.faults files.old) (F.faults files.new) }
     ensures no_write { StopsWith stops.status_of status.WriteFault result → ⊥ }
 {
@@ -96,20 +107,21 @@ fn count_seconds<'a, F: Files, O: Sink>(
     }
 }
 
-// Counts what runs in the seconds of a detector file at a site. Nothing is written.
-fn count_lines<'a, F: Files, O: Sink>(
+// Counts what runs in the seconds of a detector file at a site, from the first one on. Nothing is written.
+fn count_run<'a, F: Files, O: Sink>(
     alloc: Global,
     site: Site,
     word: &'a str,
     files: &mut F,
     out: &mut O,
-) -> Result<Vec<Line>, RunStop<'a>>
+) -> Result<Tally, RunStop<'a>>
     requires times { length site.times ≡ groups_in site.plan }
     requires intergreens { site.intergreens.count ≡ groups_in site.plan }
-    ensures counted { ForSome (F.told files.old) (λ file. IsCountedAt site word.now (stream_of (file word.now)) result) }
+    ensures counted { ForSome (F.told files.old) (λ file. IsRun site.code (sites.site_in site) word.now file result) }
     ensures contents_stay { F.told files.new ≡ F.told files.old }
     ensures nothing { O.taken out.new ≡ O.taken out.old }
     ensures later { O.faults out.old ≤ O.faults out.new }
+    ensures reads_later { F.faults files.old ≤ F.faults files.new }
     ensures read { StopsWith stops.status_of status.ReadFault result → Rose (F.faults files.old) (F.faults files.new) }
     ensures no_write { StopsWith stops.status_of status.WriteFault result → ⊥ }
 {
@@ -118,16 +130,118 @@ fn count_lines<'a, F: Files, O: Sink>(
         Err(_memory) => return Err(RunStop::Load(LoadStop::Memory)),
     };
     match count_seconds(alloc, &mut tally, site, word, files, out) {
+        Ok(()) => Ok(tally),
+        Err(stop) => Err(stop),
+    }
+}
+
+// Adds what runs in the seconds of one more detector file, at the same site. Nothing is written.
+fn add_run<'a, F: Files, O: Sink>(
+    alloc: Global,
+    total: &mut Tally,
+    words: &SiteWords<'a>,
+    checked: &Checked,
+    word: &'a str,
+    files: &mut F,
+    out: &mut O,
+) -> Result<(), RunStop<'a>>
+    ensures added { ForSome (F.told files.old) (λ file. (site : SiteOf) → loading.site_of (site_in words.now) file ≡ Ok site →
+        checked.now ≡ checked_of checked.now.tree → (seconds : List (List Sight)) →
+        HasTallied total.old (code_for (program_of checked.now.tree)).instrs seconds →
+        IsAddedRun (site_in words.now) (code_for (program_of checked.now.tree)) site seconds word.now file total.new result) }
+    ensures contents_stay { F.told files.new ≡ F.told files.old }
+    ensures nothing { O.taken out.new ≡ O.taken out.old }
+    ensures later { O.faults out.old ≤ O.faults out.new }
+    ensures reads_later { F.faults files.old ≤ F.faults files.new }
+    ensures read { StopsWith stops.status_of status.ReadFault result → Rose (F.faults files.old) (F.faults files.new) }
+    ensures no_write { StopsWith stops.status_of status.WriteFault result → ⊥ }
+{
+    let site = match load_again(alloc, words, checked, files) {
+        Ok(site) => site,
+        Err(stop) => return Err(RunStop::Load(stop)),
+    };
+    match count_run(alloc, site, word, files, out) {
+        Ok(run) => {
+            total.add_run(&run);
+            Ok(())
+        }
+        Err(stop) => Err(stop),
+    }
+}
+
+// Adds what runs in the seconds of the detector file behind each `--add`, one after the other. Nothing is written.
+fn add_runs<'a, F: Files, O: Sink>(
+    alloc: Global,
+    total: &mut Tally,
+    words: &SiteWords<'a>,
+    checked: &Checked,
+    added: &'a [String],
+    files: &mut F,
+    out: &mut O,
+) -> Result<(), RunStop<'a>>
+    ensures added { ForSome (F.told files.old) (λ file. (site : SiteOf) → loading.site_of (site_in words.now) file ≡ Ok site →
+        checked.now ≡ checked_of checked.now.tree → (seconds : List (List Sight)) →
+        HasTallied total.old (code_for (program_of checked.now.tree)).instrs seconds →
+        AreAddedRuns (site_in words.now) (code_for (program_of checked.now.tree)) site seconds (files_in (map string_bytes added.now)) file
+        total.new result) }
+    ensures contents_stay { F.told files.new ≡ F.told files.old }
+    ensures nothing { O.taken out.new ≡ O.taken out.old }
+    ensures later { O.faults out.old ≤ O.faults out.new }
+    ensures reads_later { F.faults files.old ≤ F.faults files.new }
+    ensures read { StopsWith stops.status_of status.ReadFault result → Rose (F.faults files.old) (F.faults files.new) }
+    ensures no_write { StopsWith stops.status_of status.WriteFault result → ⊥ }
+{
+    let mut rest = added;
+    while !rest.is_empty() {
+        let [_option, word, behind @ ..] = rest else {
+            return Ok(());
+        };
+        match add_run(alloc, total, words, checked, word.as_str(), files, out) {
+            Ok(()) => {}
+            Err(stop) => return Err(stop),
+        }
+        rest = behind;
+    }
+    Ok(())
+}
+
+// Counts what runs in the seconds of a detector file at a site and in those of the added ones. Nothing is written.
+fn count_lines<'a, F: Files, O: Sink>(
+    alloc: Global,
+    site: Site,
+    checked: &Checked,
+    run: &RunNames<'a>,
+    added: &'a [String],
+    files: &mut F,
+    out: &mut O,
+) -> Result<Vec<Line>, RunStop<'a>>
+    requires times { length site.times ≡ groups_in site.plan }
+    requires intergreens { site.intergreens.count ≡ groups_in site.plan }
+    ensures counted { ForSome (F.told files.old) (λ file. loading.site_of (run_named run.now).site file ≡ Ok (sites.site_in site) →
+        checked.now ≡ checked_of checked.now.tree → site.code ≡ code_for (program_of checked.now.tree) →
+        AreCountedRuns (run_named run.now).site (code_for (program_of checked.now.tree)) (sites.site_in site)
+        ((run_named run.now).detectors ∷ files_in (map string_bytes added.now)) file result) }
+    ensures contents_stay { F.told files.new ≡ F.told files.old }
+    ensures nothing { O.taken out.new ≡ O.taken out.old }
+    ensures later { O.faults out.old ≤ O.faults out.new }
+    ensures read { StopsWith stops.status_of status.ReadFault result → Rose (F.faults files.old) (F.faults files.new) }
+    ensures no_write { StopsWith stops.status_of status.WriteFault result → ⊥ }
+{
+    let mut total = match count_run(alloc, site, run.detectors, files, out) {
+        Ok(tally) => tally,
+        Err(stop) => return Err(stop),
+    };
+    match add_runs(alloc, &mut total, &run.site, checked, added, files, out) {
         Ok(()) => {}
         Err(stop) => return Err(stop),
     }
-    match tally.lines(alloc) {
+    match total.lines(alloc) {
         Ok(lines) => Ok(lines),
         Err(_memory) => Err(RunStop::Load(LoadStop::Memory)),
     }
 }
 
-// Puts the counts of the lines of a program with this name and this text in a style.
+// Puts the counts of lines of a program with this name and text in a style.
 fn put_lines<O: Sink>(
     style: Style,
     name: &[u8],
@@ -145,7 +259,7 @@ fn put_lines<O: Sink>(
     }
 }
 
-// Writes the counts of the lines of a program with this name and this text in a style.
+// Writes the counts of lines of a program with this name and text in a style.
 fn write_lines<'a, O: Sink>(
     style: Style,
     name: &[u8],
@@ -161,26 +275,33 @@ fn write_lines<'a, O: Sink>(
     end(draft, out)
 }
 
-/// Loads a program at its site, makes the seconds of a detector file, and writes what is counted of the program's lines.
-/// Nothing is written before all seconds are made and all memory is taken.
+/// Loads a program at its site, makes the seconds of a detector file and those of the ones behind each `--add`, each from the
+/// first second on, and writes what is counted of the program's lines in all of them. Nothing is written before all seconds are
+/// made and all memory is taken.
 pub(crate) fn lines<'a, F: Files, O: Sink>(
     alloc: Global,
     run: RunNames<'a>,
     style: Style,
+    added: &'a [String],
     files: &mut F,
     out: &mut O,
 ) -> Result<(), Stop<'a>>
     ensures lines { ForSome (F.told files.old) (λ file.
-        IsLines (record { run = run_named run.entry; style = style }) file result (O.taken out.old) (O.taken out.new)) }
+        IsLines (record { run = run_named run.entry; style = style; added = files_in (map string_bytes added.now) }) file result
+        (O.taken out.old) (O.taken out.new)) }
     ensures contents_stay { F.told files.new ≡ F.told files.old }
     ensures read { StopsWith status_of status.ReadFault result → Rose (F.faults files.old) (F.faults files.new) }
     ensures write { StopsWith status_of status.WriteFault result → Rose (O.faults out.old) (O.faults out.new) }
 {
-    let Loaded { site, text, .. } = match load_program(alloc, run.program, &run.site, files) {
+    let Loaded {
+        site,
+        checked,
+        text,
+    } = match load_program(alloc, run.program, &run.site, files) {
         Ok(loaded) => loaded,
         Err(stop) => return Err(Stop::Run(RunStop::Load(stop))),
     };
-    match count_lines(alloc, site, run.detectors, files, out) {
+    match count_lines(alloc, site, &checked, &run, added, files, out) {
         Ok(lines) => write_lines(style, run.program.as_bytes(), &text, &lines, out),
         Err(stop) => Err(Stop::Run(stop)),
     }

@@ -1,16 +1,39 @@
-use Rattle.std.proofs.Common.{◌∙◌, ap}
-use Rattle.vap_code.specs.Codes.{CodeOf}
-use Rattle.trace_call.proofs.Counted.{counted_all, counted_stop, tallied_first}
+use Rattle.std.proofs.Common.{◌∙◌, ◌≡◌, List, ℕ, map, string_bytes, Global}
+use Rattle.vap_ast.specs.Tree.{program_of}
+use Rattle.junction_run.specs.Sites as sites
+use Rattle.trace_load.specs.Loaded.{code_for}
+use Rattle.trace_call.specs.Form.{files_in}
+use Rattle.trace_call.specs.FormWords.{run_named}
+use Rattle.trace_call.proofs.Counted.{all_counted, first_stopped, first_tallied, later_stopped, memory_wanted}
 use Rattle.trace_call.proofs.lines.count_lines.Goals as goal
 
-pub count_seconds-requires-clause-none : goal.count_seconds-requires-clause-none
-count_seconds-requires-clause-none g c =
-    tallied_first c.in-Ok.tally _ c.args.site.code (c.deref.ensures.value ∙ ap (λ (k : CodeOf). k.instrs) c.code.ensures.same) c.in-Ok.ensures
+pub returns-in-Err-clause-counted : goal.returns-in-Err-clause-counted
+returns-in-Err-clause-counted g c = λ file e here value agrees.
+    let asked = run_named c.args.run.now in
+    let names : List (List ℕ) = files_in (map (string_bytes {Z = Global}) c.args.added.now) in
+    first_stopped asked.site (code_for (program_of c.args.checked.now.tree)) c.args.site.code (sites.site_in c.args.site) asked.detectors names file
+    c.in-Err.stop (c.in-Err.ensures.counted file e)
 
-pub returns-in-Err-count_seconds-clause-counted : goal.returns-in-Err-count_seconds-clause-counted
-returns-in-Err-count_seconds-clause-counted g c = λ file e.
-    counted_stop c.args.site c.args.word.now file c.count_seconds.new.tally c.in-Err-count_seconds.stop (c.in-Err-count_seconds.ensures.counted file e)
+pub returns-in-Err-add_runs-clause-counted : goal.returns-in-Err-add_runs-clause-counted
+returns-in-Err-add_runs-clause-counted g c = λ file e here value agrees.
+    let asked = run_named c.args.run.now in
+    let names : List (List ℕ) = files_in (map (string_bytes {Z = Global}) c.args.added.now) in
+    let code = code_for (program_of c.args.checked.now.tree) in
+    let site = sites.site_in c.args.site in
+    later_stopped asked.site code site asked.detectors names file c.in-Ok.tally c.add_runs.new.total c.in-Err-add_runs.stop
+    (first_tallied code c.args.site.code site asked.detectors file c.in-Ok.tally agrees (c.in-Ok.ensures.counted file e))
+    (λ seconds tallied. c.in-Err-add_runs.ensures.added file (c.count_run.ensures.contents_stay ∙ e) site here value seconds tallied)
 
 pub returns-in-Ok-lines-clause-counted : goal.returns-in-Ok-lines-clause-counted
-returns-in-Ok-lines-clause-counted g c = λ file e.
-    counted_all c.args.site c.args.word.now file c.count_seconds.new.tally c.in-Ok-lines.lines (c.in-Ok-count_seconds.ensures.counted file e) c.in-Ok-lines.ensures
+returns-in-Ok-lines-clause-counted g c = λ file e here value agrees.
+    let asked = run_named c.args.run.now in
+    let names : List (List ℕ) = files_in (map (string_bytes {Z = Global}) c.args.added.now) in
+    let code = code_for (program_of c.args.checked.now.tree) in
+    let site = sites.site_in c.args.site in
+    all_counted asked.site code site asked.detectors names file c.in-Ok.tally c.add_runs.new.total c.in-Ok-lines.lines
+    (first_tallied code c.args.site.code site asked.detectors file c.in-Ok.tally agrees (c.in-Ok.ensures.counted file e))
+    (λ seconds tallied. c.in-Ok-add_runs.ensures.added file (c.count_run.ensures.contents_stay ∙ e) site here value seconds tallied)
+    c.in-Ok-lines.ensures
+
+pub returns-clause-counted : goal.returns-clause-counted
+returns-clause-counted g c = λ file e here value agrees. memory_wanted (run_named c.args.run.now).site file
