@@ -1,3 +1,4 @@
+pub mod Begun
 pub mod Bytes
 pub mod Comments
 pub mod Words

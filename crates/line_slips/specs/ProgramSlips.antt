@@ -137,7 +137,7 @@ has_then rest = somewhere (λ text. begins text (codes "THEN")) (first_line rest
 -- by what is open before a token: an IF where the program ends, and else the test of one
 unfoldable pub opened_slip : Opened → List ℕ → List ℕ → Option TokenSlip
 opened_slip opened rest word =
-    if same_name word (codes "PROG_ENDE") && nat_lt 0 opened.ifs then Some EndMissing
+    if same_name word (codes "PROG_ENDE") && nat_lt 0 opened.ifs then Some (EndMissing opened.line)
     else (if (length word == 0) || not opened.condition then None
     else (if has_then rest then Some OperatorMissing else Some ThenMissing))
 

@@ -5,4 +5,4 @@ use Rattle.line_slips.specs.Words.{Read}
 
 -- what is read of a text up to a place: the word that has begun stands before it
 abbrev pub read_of : Scan → List ℕ → ℕ → Read
-read_of scan text i = record { at = scan.at; opened = scan.opened; word = take (i - scan.from) (drop scan.from text) }
+read_of scan text i = record { at = scan.at; opened = scan.opened; word = take (i - scan.from) (drop scan.from text); line = scan.line }

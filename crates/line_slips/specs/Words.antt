@@ -1,5 +1,5 @@
 -- The words of a program's text around a place, and what is open there.
-use Rattle.std.specs.Prelude.{ℕ, ◌+◌, ◌-◌, ◌^◌, min, true, false, if◌then◌else◌, List, [], ◌∷◌, ◌++◌, codes, length, take, drop, reverse}
+use Rattle.std.specs.Prelude.{ℕ, ◌+◌, ◌-◌, ◌^◌, ◌==◌, min, true, false, if◌then◌else◌, List, [], ◌∷◌, ◌++◌, codes, length, take, drop, reverse}
 use Rattle.std.specs.List.{fold, prefix_len, take_while}
 use Rattle.sig_types.specs.Text.{same_name}
 use Rattle.line_slips.specs.declared.comments.Reading.{Reading}
@@ -20,33 +20,46 @@ word_len_before text = length (take_while is_word_byte (reverse text))
 unfoldable pub word_before : List ℕ → List ℕ
 word_before text = drop (length text - word_len_before text) text
 
--- what is open behind a word: IF opens a test and one IF more, THEN closes the test, and END closes the last IF
-unfoldable pub note : Opened → List ℕ → Opened
-note opened word =
-    if same_name word (codes "IF") then record { condition = true; ifs = min (opened.ifs + 1) (2 ^ 64 - 1) }
-    else (if same_name word (codes "THEN") then record { condition = false; ifs = opened.ifs }
-    else (if same_name word (codes "END") then record { condition = false; ifs = opened.ifs - 1 } else opened))
+-- the place at which the word begins that a text ends with
+unfoldable pub word_begin : List ℕ → ℕ
+word_begin text = length text - length (word_before text)
 
--- how far a text is read: where the reader stands, what is open, and the word that has begun
+-- the line of the first IF that is open behind an IF in this line
+abbrev pub outer_line : Opened → ℕ → ℕ
+outer_line opened line = if opened.ifs == 0 then line else opened.line
+
+-- what is open behind a word in this line: IF opens a test and one IF more, THEN closes the test, and END closes the last IF
+unfoldable pub note : Opened → List ℕ → ℕ → Opened
+note opened word line =
+    if same_name word (codes "IF") then record { condition = true; ifs = min (opened.ifs + 1) (2 ^ 64 - 1); line = outer_line opened line }
+    else (if same_name word (codes "THEN") then record { condition = false; ifs = opened.ifs; line = opened.line }
+    else (if same_name word (codes "END") then record { condition = false; ifs = opened.ifs - 1; line = opened.line } else opened))
+
+-- how far a text is read: where the reader stands and in which line, what is open, and the word that has begun
 pub record Read : Type 0 where
   pub at : Reading
   pub opened : Opened
   pub word : List ℕ
+  pub line : ℕ
 
 -- nothing is read
 abbrev pub unread : Read
-unread = record { at = Outside; opened = record { condition = false; ifs = 0 }; word = [] }
+unread = record { at = Outside; opened = record { condition = false; ifs = 0; line = 0 }; word = []; line = 1 }
+
+-- the line of the byte behind this one
+abbrev pub line_after : ℕ → ℕ → ℕ
+line_after line b = if b == 10 then min (line + 1) (2 ^ 64 - 1) else line
 
 -- one more byte is read: in a comment no word stands, and a byte that is none of a word's ends the word
 abbrev pub read_byte : Read → ℕ → Read
 read_byte r b =
-    if is_inside r.at then record { at = after r.at b; opened = r.opened; word = [] }
-    else (if is_word_byte b then record { at = after r.at b; opened = r.opened; word = r.word ++ b ∷ [] }
-    else record { at = after r.at b; opened = note r.opened r.word; word = [] })
+    if is_inside r.at then record { at = after r.at b; opened = r.opened; word = []; line = line_after r.line b }
+    else (if is_word_byte b then record { at = after r.at b; opened = r.opened; word = r.word ++ b ∷ []; line = line_after r.line b }
+    else record { at = after r.at b; opened = note r.opened r.word r.line; word = []; line = line_after r.line b })
 
 -- what is open where this is read
 abbrev pub opened_at : Read → Opened
-opened_at r = note r.opened r.word
+opened_at r = note r.opened r.word r.line
 
 -- what is open at the end of a text
 unfoldable pub opened_in : List ℕ → Opened

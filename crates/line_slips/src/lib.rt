@@ -3,6 +3,7 @@
 //! slip of its list that the text shows, or none; `specs/` defines which.
 #![tactic(auto)]
 
+mod begun;
 mod bytes;
 mod comments;
 mod program;
@@ -13,6 +14,7 @@ mod tables;
 mod tokens;
 mod words;
 
+pub use begun::{called_word, slip_place};
 pub use bytes::trimmed;
 pub use program::{byte_slip, token_slip};
 pub use pua::{again_slip, row_slip, section_slip};

@@ -107,7 +107,7 @@ fn opened_slip(opened: Opened, rest: &[u8], word: &[u8]) -> Option<TokenSlip>
     ensures { result ≡ opened_slip opened rest.now word.now }
 {
     if same_name(word, b"PROG_ENDE") && 0 < opened.ifs {
-        Some(TokenSlip::EndMissing)
+        Some(TokenSlip::EndMissing(opened.line))
     } else if word.is_empty() || !opened.condition {
         None
     } else if has_then(rest) {

@@ -100,8 +100,8 @@ pub enum TokenSlip {
     OperatorMissing,
     /// An `IF` without `THEN`.
     ThenMissing,
-    /// An `IF` without `END`.
-    EndMissing,
+    /// An `IF` without `END`, with the line of the first one that is open.
+    EndMissing(usize),
     /// A word before a bracket that is no command and no reading.
     UnknownCall,
 }

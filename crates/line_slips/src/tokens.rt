@@ -96,9 +96,9 @@ pub(crate) fn is_loop(word: &[u8]) -> bool
         || same_name(word, b"FOREACH")
 }
 
-// A text without its last word and the white space before that.
+/// A text without its last word and the white space before that.
 #[tactic(auto, unfolding(crate::specs::ProgramSlips::above_word))]
-fn above_word(text: &[u8]) -> &[u8]
+pub(crate) fn above_word(text: &[u8]) -> &[u8]
     ensures { result.now ≡ above_word text.now }
 {
     let (above, _) = text.split_at(text.len() - word_before(text).len());

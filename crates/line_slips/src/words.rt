@@ -1,6 +1,6 @@
 // The words of a program's text around a place, and what is open there.
 ghost use Rattle.std.specs.Prelude.{◌≡◌, ◌<◌, ◌≤◌, ◌+◌, length, slice_index};
-ghost use Rattle.line_slips.specs.Words.{note, opened_in, read_byte, word_after, word_before, word_len_before};
+ghost use Rattle.line_slips.specs.Words.{line_after, note, opened_in, outer_line, read_byte, word_after, word_before, word_begin, word_len_before};
 ghost use Rattle.line_slips.specs.Scan.{read_of};
 
 use crate::bytes::is_word_byte;
@@ -38,43 +38,76 @@ pub(crate) fn word_before(text: &[u8]) -> &[u8]
     word
 }
 
-/// What is open at the end of a text: whether an `IF` has no `THEN` yet, and how many have no `END`.
+/// The place at which the word begins that a text ends with.
+#[tactic(auto, unfolding(crate::specs::Words::word_begin))]
+pub(crate) fn word_begin(text: &[u8]) -> usize
+    ensures { result ≡ word_begin text.now }
+{
+    text.len() - word_before(text).len()
+}
+
+/// What is open at the end of a text: whether an `IF` has no `THEN` yet, how many have no `END`, and the line of the first of
+/// these.
 #[derive(Clone, Copy, Debug, PartialEq, Eq)]
 pub(crate) struct Opened {
     pub(crate) condition: bool,
     pub(crate) ifs: usize,
+    pub(crate) line: usize,
 }
 
-// How far a text is read: where the reader stands, what is open, and where the word begins that is being read.
+// How far a text is read: where the reader stands and in which line, what is open, and where the word begins that is being
+// read.
 #[derive(Clone, Copy)]
 struct Scan {
     at: Reading,
     opened: Opened,
     from: usize,
+    line: usize,
 }
 
-// Notes a word.
+// The line of the first `IF` that is open behind an `IF` in this line.
+fn outer_line(opened: Opened, line: usize) -> usize
+    ensures { result ≡ outer_line opened line }
+{
+    if opened.ifs == 0 { line } else { opened.line }
+}
+
+// Notes a word, which stands in this line.
 #[tactic(auto, unfolding(crate::specs::Words::note))]
-fn note(opened: Opened, word: &[u8]) -> Opened
-    ensures { result ≡ note opened word.now }
+fn note(opened: Opened, word: &[u8], line: usize) -> Opened
+    ensures { result ≡ note opened word.now line }
 {
     if same_name(word, b"IF") {
         Opened {
             condition: true,
             ifs: opened.ifs.saturating_add(1),
+            line: outer_line(opened, line),
         }
     } else if same_name(word, b"THEN") {
         Opened {
             condition: false,
             ifs: opened.ifs,
+            line: opened.line,
         }
     } else if same_name(word, b"END") {
         Opened {
             condition: false,
             ifs: opened.ifs.saturating_sub(1),
+            line: opened.line,
         }
     } else {
         opened
+    }
+}
+
+// The line of the byte behind this one.
+fn line_after(line: usize, b: u8) -> usize
+    ensures { result ≡ line_after line b }
+{
+    if b == b'\n' {
+        line.saturating_add(1)
+    } else {
+        line
     }
 }
 
@@ -86,11 +119,13 @@ fn step(scan: Scan, text: &[u8], i: usize) -> Scan
     ensures begun { result.from ≤ i + 1 }
 {
     let at = after(scan.at, text[i]);
+    let line = line_after(scan.line, text[i]);
     if is_inside(scan.at) {
         return Scan {
             at,
             opened: scan.opened,
             from: i + 1,
+            line,
         };
     }
     if is_word_byte(text[i]) {
@@ -98,12 +133,14 @@ fn step(scan: Scan, text: &[u8], i: usize) -> Scan
             at,
             opened: scan.opened,
             from: scan.from,
+            line,
         };
     }
     Scan {
         at,
-        opened: note(scan.opened, &text[scan.from..i]),
+        opened: note(scan.opened, &text[scan.from..i], scan.line),
         from: i + 1,
+        line,
     }
 }
 
@@ -117,11 +154,13 @@ pub(crate) fn opened_in(text: &[u8]) -> Opened
         opened: Opened {
             condition: false,
             ifs: 0,
+            line: 0,
         },
         from: 0,
+        line: 1,
     };
     for i in 0..text.len() {
         scan = step(scan, text, i);
     }
-    note(scan.opened, &text[scan.from..])
+    note(scan.opened, &text[scan.from..], scan.line)
 }

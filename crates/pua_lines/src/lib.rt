@@ -20,6 +20,7 @@ pub use laws::{
     group_lines_name_groups, interstage_lines_begin_them, near_is_one_slip,
     stage_lines_name_stages, stage_words_are_names,
 };
+pub use near::{is_near, is_swapped};
 pub use parts::PlanLines;
 pub use section::{Misspelt, SectionWord, misspelt_sections};
 pub use spot::Spot;

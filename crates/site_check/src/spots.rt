@@ -104,7 +104,7 @@ fn token_value(checked: &Checked, token: &Token) -> Option<i32>
 fn spot_of(text: &[u8], token: &Token) -> Spot
     ensures { result ≡ token_spot text.now token.now.place token.now.line }
 {
-    spot_at(text, token.place, token.line)
+    spot_at(text, token.place as usize, token.line)
 }
 
 // Where a name stands first in a statement of this line; that line, where it doesn't.

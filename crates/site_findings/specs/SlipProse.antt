@@ -232,13 +232,13 @@ token_slip_prose token.ThenMissing = record {
   often = [];
   cure = codes "`IF test THEN .. END`";
 }
-token_slip_prose token.EndMissing = record {
+token_slip_prose (token.EndMissing line) = record {
   means = codes "an `IF` above has no `END`: it is open where the program ends";
   often = [];
   cure = codes "count `IF` and `END`; each `IF` has one `END`";
 }
 token_slip_prose token.UnknownCall = record {
-  means = codes "the word before the bracket is no command and no reading";
+  means = codes "is no command and no reading";
   often = codes "a misspelt word, or one of another system";
   cure = codes "the words stand in language.md; what is left out in profile.md";
 }

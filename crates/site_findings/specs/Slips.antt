@@ -14,6 +14,8 @@ use Rattle.det_stream.specs.declared.refusal.StreamWhy.{StreamWhy}
 use Rattle.det_stream.specs.declared.refusal.StreamWhy.TheVariants as stream
 use Rattle.line_slips.specs.declared.slip.PlanSlip.{PlanSlip}
 use Rattle.line_slips.specs.declared.slip.PlanSlip.TheVariants as plan
+use Rattle.line_slips.specs.declared.slip.TokenSlip.{TokenSlip}
+use Rattle.line_slips.specs.declared.slip.TokenSlip.TheVariants as token
 use Rattle.line_slips.specs.declared.slip.TableSlip.{TableSlip}
 use Rattle.line_slips.specs.declared.slip.TableSlip.TheVariants as slip
 use Rattle.line_slips.specs.declared.tables.Table.{Table}
@@ -21,13 +23,15 @@ use Rattle.line_slips.specs.declared.tables.Table.TheVariants as table
 use Rattle.line_slips.specs.Bytes.{trimmed}
 use Rattle.line_slips.specs.EntrySlips.{entry_slip}
 use Rattle.line_slips.specs.PlanSlips.{again_slip, row_slip, section_slip}
+use Rattle.line_slips.specs.Begun.{called_word}
 use Rattle.line_slips.specs.ProgramSlips.{byte_slip, token_slip}
 use Rattle.line_slips.specs.TableSlips.{header_slip, name_slip, names_in, number_slip}
 use Rattle.site_findings.specs.declared.finding.FileKind.{FileKind}
 use Rattle.site_findings.specs.declared.finding.FileKind.TheVariants as file
 use Rattle.site_findings.specs.declared.finding.Refusal.{Refusal}
 use Rattle.site_findings.specs.declared.finding.Refusal.TheVariants as refusal
-use Rattle.site_findings.specs.Prose.{Prose, quoted_prose}
+use Rattle.site_findings.specs.Calls.{near_call}
+use Rattle.site_findings.specs.Prose.{Prose, quoted_prose, told_prose}
 use Rattle.site_findings.specs.ReasonProse.{reason_prose}
 use Rattle.site_findings.specs.SlipProse.{byte_slip_prose, entry_slip_prose, plan_slip_prose, table_slip_prose, token_slip_prose}
 
@@ -114,9 +118,27 @@ told_of_byte lex.OpenComment line = None
 told_of_byte lex.Decimal line = None
 told_of_byte lex.NumberRange line = None
 
+-- what is told of a slip of a token that stands behind this word: the word where it is no call, and the line of an IF that is open
+abbrev pub told_of_slip : TokenSlip → List ℕ → Prose
+told_of_slip token.EmptyProgram word = token_slip_prose token.EmptyProgram
+told_of_slip token.TextEnds word = token_slip_prose token.TextEnds
+told_of_slip token.ElseIf word = token_slip_prose token.ElseIf
+told_of_slip token.EndIf word = token_slip_prose token.EndIf
+told_of_slip token.Loop word = token_slip_prose token.Loop
+told_of_slip token.SlashComment word = token_slip_prose token.SlashComment
+told_of_slip token.DoubleEqual word = token_slip_prose token.DoubleEqual
+told_of_slip token.SwappedSigns word = token_slip_prose token.SwappedSigns
+told_of_slip token.EqualForAssign word = token_slip_prose token.EqualForAssign
+told_of_slip token.DecimalComma word = token_slip_prose token.DecimalComma
+told_of_slip token.ValueMissing word = token_slip_prose token.ValueMissing
+told_of_slip token.OperatorMissing word = token_slip_prose token.OperatorMissing
+told_of_slip token.ThenMissing word = token_slip_prose token.ThenMissing
+told_of_slip (token.EndMissing line) word = told_prose [] [] line (token_slip_prose (token.EndMissing line))
+told_of_slip token.UnknownCall word = told_prose word (near_call word) 0 (token_slip_prose token.UnknownCall)
+
 -- what is told of a token with which there is no program
 abbrev pub told_of_token : ParseWhy → List ℕ → Option Prose
-told_of_token (parse.Unexpected place) text = option_map token_slip_prose (token_slip text place)
+told_of_token (parse.Unexpected place) text = option_map (λ slip. told_of_slip slip (called_word text place)) (token_slip text place)
 told_of_token parse.Frequency text = None
 told_of_token parse.TooDeep text = None
 

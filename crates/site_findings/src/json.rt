@@ -84,7 +84,7 @@ fn put_line_sentence(
     match told {
         Told::Refused(refusal) => {
             let said = said_of(refusal, file, &examined.program, line);
-            put_means(text, said.quoted, said.sentences.means)
+            put_means(text, &said)
         }
         Told::Unread => text.put(unread().means),
         Told::NotJudged => text.put(b"not judged, since the PUA file is not accepted"),

@@ -1,17 +1,20 @@
 // The sentences of slips: what a mistake is likely to be, and what to do.
 ghost use Rattle.std.specs.Prelude.{◌≡◌};
 ghost use Rattle.std.specs.Option.{option_map};
+ghost use Rattle.site_findings.specs.Prose.{quoted_prose};
 ghost use Rattle.site_findings.specs.Put.{prose_in, said_prose};
 ghost use Rattle.site_findings.specs.SlipProse.{byte_slip_prose, entry_slip_prose, plan_slip_prose, table_slip_prose, token_slip_prose};
 ghost use Rattle.site_findings.specs.Slips.{field_in, plan_slip, quoted_names, quoted_row, refusal_prose, slip_prose, table_in, table_slip};
-ghost use Rattle.site_findings.specs.Slips.{told_of_byte, told_of_entry, told_of_plan, told_of_record, told_of_token};
+ghost use Rattle.site_findings.specs.Slips.{told_of_byte, told_of_entry, told_of_plan, told_of_record, told_of_slip, told_of_token};
 
+use crate::calls::near_call;
 use crate::finding::{FileKind, Refusal};
 use crate::sentences::{Sentences, sentences_of};
 use det_stream::StreamWhy;
 use line_slips::{
-    ByteSlip, EntrySlip, PlanSlip, Table, TableSlip, TokenSlip, again_slip, byte_slip, entry_slip,
-    header_slip, name_slip, names_in, number_slip, row_slip, section_slip, token_slip, trimmed,
+    ByteSlip, EntrySlip, PlanSlip, Table, TableSlip, TokenSlip, again_slip, byte_slip, called_word,
+    entry_slip, header_slip, name_slip, names_in, number_slip, row_slip, section_slip, token_slip,
+    trimmed,
 };
 use pua_reader::PuaWhy;
 use sig_tables::TableWhy;
@@ -275,7 +278,7 @@ static END_MISSING: Sentences = Sentences {
 };
 
 static UNKNOWN_CALL: Sentences = Sentences {
-    means: b"the word before the bracket is no command and no reading",
+    means: b"is no command and no reading",
     often: b"a misspelt word, or one of another system",
     cure: b"the words stand in language.md; what is left out in profile.md",
 };
@@ -380,7 +383,7 @@ fn of_token(slip: TokenSlip) -> &'static Sentences
         TokenSlip::ValueMissing => &VALUE_MISSING,
         TokenSlip::OperatorMissing => &OPERATOR_MISSING,
         TokenSlip::ThenMissing => &THEN_MISSING,
-        TokenSlip::EndMissing => &END_MISSING,
+        TokenSlip::EndMissing(_) => &END_MISSING,
         TokenSlip::UnknownCall => &UNKNOWN_CALL,
     }
 }
@@ -398,22 +401,35 @@ fn of_entry(slip: EntrySlip) -> &'static Sentences
     }
 }
 
-/// What is told of a reason: a part of its line, which may be empty, and sentences.
+/// What is told of a reason: a part of its line, which may be empty, and sentences; the word that was likely meant, which may be
+/// empty, and the line in which what is told stands, or 0.
 #[derive(Drop)]
 pub(crate) struct Said<'a> {
     pub(crate) quoted: &'a [u8],
     pub(crate) sentences: &'static Sentences,
+    pub(crate) near: &'static [u8],
+    pub(crate) line: usize,
 }
 
-// Sentences with nothing quoted before them.
-#[tactic(auto, unfolding(crate::specs::Prose::quote_text))]
-fn plain<'a>(sentences: &'static Sentences) -> Said<'a>
-    ensures { said_prose result ≡ prose_in sentences.now }
+// Sentences behind a part of a line.
+#[tactic(auto, unfolding(crate::specs::Prose::near_text, crate::specs::Prose::open_text))]
+fn quoted<'a>(quoted: &'a [u8], sentences: &'static Sentences) -> Said<'a>
+    ensures { said_prose result ≡ quoted_prose quoted.now (prose_in sentences.now) }
 {
     Said {
-        quoted: &[],
+        quoted,
         sentences,
+        near: &[],
+        line: 0,
     }
+}
+
+/// Sentences with nothing before or behind them.
+#[tactic(auto, unfolding(crate::specs::Prose::quote_text))]
+pub(crate) fn plain<'a>(sentences: &'static Sentences) -> Said<'a>
+    ensures { said_prose result ≡ prose_in sentences.now }
+{
+    quoted(&[], sentences)
 }
 
 // What of a line stands before what is told of its slip: a group's row.
@@ -459,10 +475,7 @@ fn said_of_plan<'a>(why: &PuaWhy, line: &'a [u8]) -> Option<Said<'a>>
     ensures { option_map said_prose result ≡ option_map (λ slip. told_of_plan slip line.now) (plan_slip why.now line.now) }
 {
     let slip = plan_slip(why, line)?;
-    Some(Said {
-        quoted: quoted_row(slip, line),
-        sentences: of_plan(slip),
-    })
+    Some(quoted(quoted_row(slip, line), of_plan(slip)))
 }
 
 // The table that a file is; None for another file.
@@ -526,10 +539,7 @@ fn said_of_record<'a>(why: TableWhy, file: FileKind, row: &'a [u8]) -> Option<Sa
     ensures { option_map said_prose result ≡ told_of_record why row.now (table_in file) }
 {
     let slip = table_slip(why, table_in(file)?, row)?;
-    Some(Said {
-        quoted: quoted_names(slip, row),
-        sentences: of_table(slip),
-    })
+    Some(quoted(quoted_names(slip, row), of_table(slip)))
 }
 
 // The sentences of a byte that begins no token.
@@ -542,12 +552,48 @@ fn sentences_of_byte(why: LexWhy, line: &[u8]) -> Option<&'static Sentences>
     }
 }
 
-// The sentences of a token with which there is no program.
-fn sentences_of_token(why: ParseWhy, text: &[u8]) -> Option<&'static Sentences>
-    ensures { option_map (λ s. prose_in s.now) result ≡ told_of_token why text.now }
+// What is told of a slip of a token behind this word.
+fn said_of_slip<'a>(slip: TokenSlip, word: &'a [u8]) -> Said<'a>
+    ensures { said_prose result ≡ told_of_slip slip word.now }
+{
+    match slip {
+        TokenSlip::UnknownCall => Said {
+            quoted: word,
+            sentences: &UNKNOWN_CALL,
+            near: near_call(word),
+            line: 0,
+        },
+        TokenSlip::EndMissing(line) => Said {
+            quoted: &[],
+            sentences: &END_MISSING,
+            near: &[],
+            line,
+        },
+        TokenSlip::EmptyProgram
+        | TokenSlip::TextEnds
+        | TokenSlip::ElseIf
+        | TokenSlip::EndIf
+        | TokenSlip::Loop
+        | TokenSlip::SlashComment
+        | TokenSlip::DoubleEqual
+        | TokenSlip::SwappedSigns
+        | TokenSlip::EqualForAssign
+        | TokenSlip::DecimalComma
+        | TokenSlip::ValueMissing
+        | TokenSlip::OperatorMissing
+        | TokenSlip::ThenMissing => plain(of_token(slip)),
+    }
+}
+
+// What is told of a token with which there is no program.
+fn said_of_token<'a>(why: ParseWhy, text: &'a [u8]) -> Option<Said<'a>>
+    ensures { option_map said_prose result ≡ told_of_token why text.now }
 {
     match why {
-        ParseWhy::Unexpected(place) => Some(of_token(token_slip(text, place)?)),
+        ParseWhy::Unexpected(place) => {
+            let slip = token_slip(text, place)?;
+            Some(said_of_slip(slip, called_word(text, place)))
+        }
         ParseWhy::Frequency | ParseWhy::TooDeep => None,
     }
 }
@@ -571,7 +617,7 @@ fn sentences_of_entry(why: StreamWhy, line: &[u8]) -> Option<&'static Sentences>
 fn slip_said<'a>(
     refusal: &Refusal,
     file: FileKind,
-    program: &[u8],
+    program: &'a [u8],
     line: &'a [u8],
 ) -> Option<Said<'a>>
     ensures { option_map said_prose result ≡ slip_prose file refusal.now program.now line.now }
@@ -580,7 +626,7 @@ fn slip_said<'a>(
         Refusal::Pua(why) => said_of_plan(why, line),
         Refusal::Table(why) => said_of_record(*why, file, line),
         Refusal::Lex(why) => Some(plain(sentences_of_byte(*why, line)?)),
-        Refusal::Parse(why) => Some(plain(sentences_of_token(*why, program)?)),
+        Refusal::Parse(why) => said_of_token(*why, program),
         Refusal::Stream(why) => Some(plain(sentences_of_entry(*why, line)?)),
         Refusal::Check(_) | Refusal::Mark | Refusal::TooLong => None,
     }
@@ -590,7 +636,7 @@ fn slip_said<'a>(
 pub(crate) fn said_of<'a>(
     refusal: &Refusal,
     file: FileKind,
-    program: &[u8],
+    program: &'a [u8],
     line: &'a [u8],
 ) -> Said<'a>
     ensures { said_prose result ≡ refusal_prose file refusal.now program.now line.now }

@@ -75,7 +75,7 @@ const OF_TABLES: [Case<'static>; 7] = [
     },
 ];
 
-const OF_PROGRAMS: [Case<'static>; 10] = [
+const OF_PROGRAMS: [Case<'static>; 11] = [
     Case {
         program: b"$SIGNAL_GROUPS\n",
         text: b"p.vap:1: Byte: `$` begins no token; a PUA file stands in the place of the program\n",
@@ -88,12 +88,12 @@ const OF_PROGRAMS: [Case<'static>; 10] = [
     },
     Case {
         program: b"PROGRAM p;\nIF x = 1 THEN y := 1 ELSEIF x = 2 THEN y := 2 END;\nPROG_ENDE: .\n",
-        text: b"p.vap:2:29: Unexpected: `ELSEIF` and the like are no words of the language\n",
+        text: b"p.vap:2:22: Unexpected: `ELSEIF` and the like are no words of the language\n  IF x = 1 THEN y := 1 ELSEIF x = 2 THEN y := 2 END;\n                       ^^^^^^\n",
         ..REFUSED
     },
     Case {
         program: b"PROGRAM p;\nIF x == 1 THEN y := 1 END;\nPROG_ENDE: .\n",
-        text: b"p.vap:2:7: Unexpected: `==` is no sign; two values are compared with `=`\n",
+        text: b"p.vap:2:6: Unexpected: `==` is no sign; two values are compared with `=`\n",
         ..REFUSED
     },
     Case {
@@ -103,7 +103,7 @@ const OF_PROGRAMS: [Case<'static>; 10] = [
     },
     Case {
         program: b"PROGRAM p;\nIF x = 1 THEN y := 1;\nPROG_ENDE: .\n",
-        text: b"p.vap:3:1: Unexpected: an `IF` above has no `END`: it is open where the program ends\n",
+        text: b"p.vap:3:1: Unexpected: an `IF` above has no `END`: it is open where the program ends; it stands in line 2\n",
         ..REFUSED
     },
     Case {
@@ -113,7 +113,12 @@ const OF_PROGRAMS: [Case<'static>; 10] = [
     },
     Case {
         program: b"PROGRAM p;\nx := Anforderung(3);\nPROG_ENDE: .\n",
-        text: b"p.vap:2:17: Unexpected: the word before the bracket is no command and no reading\n",
+        text: b"p.vap:2:6: Unexpected: `Anforderung` is no command and no reading\n  x := Anforderung(3);\n       ^^^^^^^^^^^\n",
+        ..REFUSED
+    },
+    Case {
+        program: b"PROGRAM p;\nInterstgae(1, 2);\nPROG_ENDE: .\n",
+        text: b"p.vap:2:1: Unexpected: `Interstgae` is no command and no reading; the nearest one is `Interstage`\n",
         ..REFUSED
     },
     Case {
