@@ -227,6 +227,7 @@ THEOREMS = [
      [("print_laws", "Stands", ["TracesStandThere"])]),
     ("the whole contract of `junction_trace`", "`trace_call::trace`", [("trace_call", "Call", ["IsTraced"])]),
     ("a program at its site, with its checked tree and its text", "`trace_load::load_program`", [("trace_load", "Loaded", ["IsToldLoad"])]),
+    ("files that are kept as far as they were read", "`trace_load::KeptFiles`", [("trace_load", "Kept", ["IsFront"])]),
     ("the seconds of a detector file, told one after the other", "`trace_run::tell_all`",
      [("trace_run", "Told", ["IsPlayed", "IsWritten", "IsStop"])]),
 ]
