@@ -23,6 +23,9 @@ DRAWN = {"four_arms": (1, 60), "green_wave/west": (61, 175), "green_wave/east": 
 
 # What is told of the inside of some examples: form, example, and the words behind its files.
 TRACED = [
+    ("values", "left_turn", []),
+    ("values", "coordinated", ["--to", "60"]),
+    ("values", "four_arms", ["--from", "30", "--to", "60"]),
     ("how-ended", "left_turn", []),
     ("how-ended", "coordinated", ["--csv"]),
     ("lines", "left_turn", ["--csv"]),
@@ -93,7 +96,7 @@ def main():
         (plan.parent / "diagram.svg").write_bytes(picture)
         reports = [["report", "text", audit[1], "1", "40"], ["report", "sums", audit[1]]]
         output += found + log + verdict + b"".join(call(reporter, words[1:]) for words in reports)
-        calls += [check, run, audit, *reports]
+        calls += [check, run, ["calls", *run[1:], audit[1]], audit, *reports]
     traces = [traced([words for words in calls if words[0] == "run"], *one) for one in TRACED]
     traces.append(TRACING)
     output += b"".join(call(tracer, words[1:]) for words in traces)
