@@ -143,7 +143,7 @@ run_stopped code site name file ended (Play stop) is = is
 
 -- what a site is read as
 same_site : (r : Result Site Unloaded) (a b : Site) → r ≡ Ok a → r ≡ Ok b → a ≡ b
-same_site r a b first second = let same : Result.Ok {T = Site} {E = Unloaded} a ≡ Ok b = sym first ∙ second in cc
+same_site r a b first second = let same : ◌≡◌ {A = Result Site Unloaded} (Ok a) (Ok b) = sym first ∙ second in cc
 
 -- a run of a code at a site is one of the code and the site that are the same
 same_run : (code read : CodeOf) (site at : Site) (name : List ℕ) (file : Contents) (r : Result Tally RunStop) → read ≡ code → at ≡ site →
@@ -306,7 +306,7 @@ pub site_is : (program : List ℕ) (words : SiteWords) (file : Contents) (site :
 site_is program words file site value loads = at (loading.site_of words file) loads
   where
     given : (s : Site) (v : Result Program Unloaded) →
-        Result.Ok {T = Playing} {E = Unloaded} (program_at site value) ≡ loading.map_ok (played_at (ProgramFile program) s) v → s ≡ site
+        ◌≡◌ {A = Result Playing Unloaded} (Ok (program_at site value)) (loading.map_ok (played_at (ProgramFile program) s) v) → s ≡ site
     given s (Ok p) is = let same : program_at site value ≡ program_at s p = cc in sym (ap (λ (p : Playing). p.site) same)
     given s (Err u) is = absurd cc
 

@@ -1,3 +1,4 @@
+pub mod Added
 pub mod Agrees
 pub mod Counted
 pub mod Ended

@@ -1,5 +1,5 @@
 -- What `trace` wrote, of what its parts answer.
-use Rattle.std.proofs.Common.{◌≡◌, ◌∙◌, ℕ, List, Option, Result, Ok, Err, ap, subst, sym}
+use Rattle.std.proofs.Common.{◌≡◌, ◌∙◌, ℕ, List, Option, Result, Ok, ap, subst}
 use Rattle.sig_io.specs.Outside.{Contents}
 use Rattle.sig_types.specs.Counts.{Counts}
 use Rattle.sig_types.specs.Pass.{Logic}

@@ -10,7 +10,7 @@ use Rattle.vap_code.specs.Codes.{CodeOf}
 use Rattle.vap_code.specs.Sights.{Sight}
 use Rattle.vap_code.specs.Stores.{first_store}
 use Rattle.controller.specs.Past.{Site, opening}
-use Rattle.det_stream.specs.Stream.{Stream, stream_of}
+use Rattle.det_stream.specs.Stream.{stream_of}
 use Rattle.junction_run.specs.declared.stop.PlayStop.{PlayStop}
 use Rattle.junction_run.specs.declared.stop.PlayStop.TheVariants.{ReadFault, WriteFault, RefusedLine}
 use Rattle.junction_run.specs.declared.stop.Stop.{Stop as RunStop}

@@ -1,4 +1,4 @@
-use Rattle.std.proofs.Common.{◌∙◌, ◌≡◌, List, ℕ, map, string_bytes, Global}
+use Rattle.std.proofs.Common.{◌∙◌, List, ℕ, map, string_bytes, Global}
 use Rattle.vap_ast.specs.Tree.{program_of}
 use Rattle.junction_run.specs.Sites as sites
 use Rattle.trace_load.specs.Loaded.{code_for}

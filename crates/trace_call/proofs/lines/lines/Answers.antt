@@ -16,7 +16,7 @@ returns-in-Ok-count_lines-clause-lines g c = λ file e.
     lines_written asked file site program loaded.given c.in-Ok-count_lines.lines _ _ _ _ _ _ _
     (c.in-Ok-count_lines.ensures.counted file (c.load_program.ensures.contents_stay ∙ e)
     (site_is asked.run.program asked.run.site file site program loaded.given) loaded.value loaded.code_is)
-    c.count_lines.ensures.nothing c.as_bytes.ensures.value (c.deref.ensures.value ∙ loaded.text) c.deref-2.ensures.value c.write_lines.ensures.written
+    c.count_lines.ensures.nothing c.as_bytes.ensures.value (c.deref.ensures.value ∙ loaded.text) c.deref-in-Ok-count_lines.ensures.value c.write_lines.ensures.written
 
 pub returns-in-Ok-count_lines-clause-read : goal.returns-in-Ok-count_lines-clause-read
 returns-in-Ok-count_lines-clause-read g c = λ is. written_no_read _ _ _ _ c.write_lines.ensures.written is
@@ -24,8 +24,8 @@ returns-in-Ok-count_lines-clause-read g c = λ is. written_no_read _ _ _ _ c.wri
 pub returns-in-Ok-count_lines-clause-write : goal.returns-in-Ok-count_lines-clause-write
 returns-in-Ok-count_lines-clause-write g c = λ is. rose_written _ c.count_lines.ensures.later c.write_lines.ensures.cause is
 
-pub returns-in-Err-count_lines-clause-lines : goal.returns-in-Err-count_lines-clause-lines
-returns-in-Err-count_lines-clause-lines g c = λ file e.
+pub returns-clause-lines : goal.returns-clause-lines
+returns-clause-lines g c = λ file e.
     let loaded = c.in-Ok.ensures.loaded file e in
     let added : List (List ℕ) = files_in (map (string_bytes {Z = Global}) c.args.added.now) in
     let asked : LinesWords = record { run = run_named c.args.run; style = c.args.style; added = added } in

@@ -19,7 +19,7 @@ returns-in-Ok-write_prints-clause-prints g c = λ file e.
     let loaded = c.in-Ok.ensures.loaded file e in
     let site = c.in-Ok.loaded.site in
     let made = c.in-Ok-start.ensures in
-    let found = c.in-Ok-find_traces.ensures in
+    let found = c.in-Ok-find_traces.ensures.traces in
     let first : Past = opening (site_of c.in-Ok-start.started.0) (first_store site.code) in
     let told = c.in-Ok-write_prints.ensures.told first made.stands refl in
     were_prints (run_named c.args.run) file (Ok tt) c.in-Ok.loaded.checked (map trace_in c.deref-3.result.now) c.deref.result.now found.0
@@ -33,7 +33,7 @@ returns-clause-prints g c = λ file e.
     let loaded = c.in-Ok.ensures.loaded file e in
     let site = c.in-Ok.loaded.site in
     let made = c.in-Ok-start.ensures in
-    let found = c.in-Ok-find_traces.ensures in
+    let found = c.in-Ok-find_traces.ensures.traces in
     let first : Past = opening (site_of c.in-Ok-start.started.0) (first_store site.code) in
     let told = c.in-Err-write_prints.ensures.told first made.stands refl in
     were_prints (run_named c.args.run) file (Err c.in-Err-write_prints.stop) c.in-Ok.loaded.checked (map trace_in c.deref-3.result.now) c.deref.result.now found.0

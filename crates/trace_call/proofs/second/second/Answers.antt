@@ -28,7 +28,8 @@ returns-in-Ok-write_second-clause-listed g c = λ file e.
     (site_of c.in-Ok-start.started.0) (program_of c.in-Ok.loaded.checked.tree) (program_of c.in-Ok-new.teller.checked.now.tree)
     (map column_of c.in-Ok-new.teller.kept.items) told.0 (name_of c.in-Ok-start.started.1) _ _ loaded.given loaded.runs c.start.ensures.valid
     made.code made.logic made.site loaded.code_is
-    (ap (λ (m : Meant). program_of m.tree) c.in-Ok-new.ensures.program) c.in-Ok-new.ensures.columns c.in-Ok-new.ensures.before
+    (ap (λ (m : Meant). program_of m.tree) c.in-Ok-new.ensures.program) c.in-Ok-new.ensures.columns
+    (c.in-Ok-new.ensures.before ∙ c.saturating_sub.ensures)
     made.name told.1 (told.2 file (c.load_program.ensures.contents_stay ∙ e))
 
 pub returns-clause-listed : goal.returns-clause-listed
@@ -43,5 +44,6 @@ returns-clause-listed g c = λ file e.
     (site_of c.in-Ok-start.started.0) (program_of c.in-Ok.loaded.checked.tree) (program_of c.in-Ok-new.teller.checked.now.tree)
     (map column_of c.in-Ok-new.teller.kept.items) told.0 (name_of c.in-Ok-start.started.1) _ _ loaded.given loaded.runs c.start.ensures.valid
     made.code made.logic made.site loaded.code_is
-    (ap (λ (m : Meant). program_of m.tree) c.in-Ok-new.ensures.program) c.in-Ok-new.ensures.columns c.in-Ok-new.ensures.before
+    (ap (λ (m : Meant). program_of m.tree) c.in-Ok-new.ensures.program) c.in-Ok-new.ensures.columns
+    (c.in-Ok-new.ensures.before ∙ c.saturating_sub.ensures)
     made.name told.1 (told.2 file (c.load_program.ensures.contents_stay ∙ e))
