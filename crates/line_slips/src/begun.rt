@@ -1,5 +1,6 @@
 // Where in the text of a program a slip begins that a token shows.
-ghost use Rattle.std.specs.Prelude.{◌≡◌};
+ghost use Rattle.std.specs.Prelude.{◌≡◌, ◌==◌, drop, take};
+ghost use Rattle.std.specs.List.{list_any};
 ghost use Rattle.line_slips.specs.Begun.{called_word, end_if_place, in_its_line, place_between, slash_place, slip_place, word_or};
 
 use crate::bytes::{begins, trimmed_end};
@@ -64,13 +65,35 @@ fn place_between(slip: Option<TokenSlip>, before: &[u8], rest: &[u8], place: usi
     }
 }
 
+// The bytes of a text before a place, and from it on.
+fn parted(text: &[u8], place: usize) -> (&[u8], &[u8])
+    ensures before { result.0.now ≡ take place text.now }
+    ensures rest { result.1.now ≡ drop place text.now }
+{
+    text.split_at(place.min(text.len()))
+}
+
+// The bytes of a text from one place up to another.
+fn between(text: &[u8], from: usize, to: usize) -> &[u8]
+    ensures { result.now ≡ drop from (take to text.now) }
+{
+    let (before, _) = parted(text, to);
+    let (_, rest) = parted(before, from);
+    rest
+}
+
+// Whether a line ends in a text.
+fn has_line_end(text: &[u8]) -> bool
+    ensures { result ≡ list_any (λ b. b == 10) text.now }
+{
+    text.iter().any(|b| *b == b'\n')
+}
+
 // A place before the token at another one, where no line ends between the two, or else that of the token.
 fn in_its_line(text: &[u8], begun: usize, place: usize) -> usize
     ensures { result ≡ in_its_line text.now begun place }
 {
-    let (before, _) = text.split_at(place.min(text.len()));
-    let (_, between) = before.split_at(begun.min(before.len()));
-    if between.iter().any(|b| *b == b'\n') {
+    if has_line_end(between(text, begun, place)) {
         place
     } else {
         begun
