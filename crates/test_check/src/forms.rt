@@ -1,5 +1,6 @@
 // What is allowed, and findings as lines of JSON.
 use crate::cases::{Case, REFUSED, answer};
+use crate::mistakes::MANY;
 use crate::warnings::OF_CONFLICTS;
 use site_check::CheckStatus;
 use std::test::Fail;
@@ -106,5 +107,15 @@ fn objects_are_told(rt: HostRuntime) -> Result<(), Fail> {
     )?;
     assert_eq!(rt; status, CheckStatus::Refused);
     assert_eq!(rt; out.bytes(), QUOTED_OBJECT);
+    Ok(())
+}
+
+// As JSON each finding is told, where the text says how many more there are.
+#[test]
+fn objects_of_all_are_told(rt: HostRuntime) -> Result<(), Fail> {
+    let words = &["--json", "p.vap", "p.pua", "t.csv", "g.csv", "d.txt"];
+    let (status, out, _notes) = answer(rt.alloc(), words, &MANY)?;
+    assert_eq!(rt; status, CheckStatus::Refused);
+    assert_eq!(rt; out.bytes().split(|b| *b == b'\n').count(), 13);
     Ok(())
 }
