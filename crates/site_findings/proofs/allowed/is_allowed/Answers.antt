@@ -1,6 +1,6 @@
-use Rattle.std.proofs.Common.{◌≡◌, List, ℕ, ap, map, sym, ◌∙◌}
+use Rattle.std.proofs.Common.{List, ℕ, ap, sym, ◌∙◌}
 use Rattle.std.specs.Prelude.{string_bytes}
-use Rattle.site_findings.specs.Allowed.{allowed_in, is_allowed}
+use Rattle.site_findings.specs.Allowed.{is_allowed}
 use Rattle.site_findings.proofs.AllowedMore.{none_allowed}
 use Rattle.site_findings.proofs.allowed.is_allowed.Goals as goal
 

@@ -1,5 +1,5 @@
-use Rattle.std.proofs.Common.{◌+◌, ◌++◌, drop, ap, sym, refl, ◌∙◌, arith, append_assoc, get_or}
-use Rattle.site_findings.specs.Lines.{begun_line, lines_of_rest, record_lines}
+use Rattle.std.proofs.Common.{◌++◌, ap, sym, refl, ◌∙◌, arith, append_assoc, get_or}
+use Rattle.site_findings.specs.Lines.{record_lines}
 use Rattle.site_findings.proofs.RecordLines.{line_within, rest_end, rest_ended, rest_more}
 use Rattle.site_findings.proofs.lines.record_lines.Goals as goal
 use Rattle.site_findings.proofs.lines.record_lines.Goals.{then-ends_piece+in_ok-put_begun, else-ends_piece}
