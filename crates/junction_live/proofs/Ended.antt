@@ -3,6 +3,7 @@ use Rattle.std.proofs.Common.{◌≡◌, ℕ, true, false, ◌≤◌, List, leng
 use Rattle.sig_io.specs.Outside.{HasCause}
 use Rattle.sig_types.specs.Counts.{Counts}
 use Rattle.sig_types.specs.Pass.{Logic}
+use Rattle.sig_types.specs.Turns.{History}
 use Rattle.controller.specs.Past.{Site, Past}
 use Rattle.junction_run.specs.declared.status.Status.{Status}
 use Rattle.junction_run.specs.declared.status.Status.TheVariants.{WriteFault}
@@ -17,11 +18,11 @@ pub all_of : (status : Status) (seconds : ℕ) (made : List Counts) (logic : Log
 all_of status seconds made logic site past old new is (all_written count text) = (count, text)
 all_of status seconds made logic site past old new is (cut_off le n cut) = cc
 
-pub cut_live : (A : Type 0) {E : Type 0} (status : Status) (fault : E) (frames made : List Counts) (logic : Logic) (site : Site) (past : Past)
+pub cut_live : {A E : Type 0} (Given : A → History → Type 0) (status : Status) (fault : E) (frames made : List Counts) (logic : Logic) (site : Site) (past : Past)
     (old new : Option (List ℕ)) → is_done status ≡ false →
-    Written (length frames) logic site past made old new status → NeverAhead made → NoMore frames made → Live {A = A} (Err fault) frames logic site past old new
-cut_live A status fault frames made logic site past old new is (all_written count text) ahead less = cc
-cut_live A status fault frames made logic site past old new is (cut_off le n cut) ahead less = (made, omega (arith, le), (n, cut), ahead, less)
+    Written (length frames) logic site past made old new status → NeverAhead made → NoMore frames made → Live Given (Err fault) frames logic site past old new
+cut_live Given status fault frames made logic site past old new is (all_written count text) ahead less = cc
+cut_live Given status fault frames made logic site past old new is (cut_off le n cut) ahead less = (made, omega (arith, le), (n, cut), ahead, less)
 
 -- unless all was done, the sink failed
 pub cut_is : (status : Status) (seconds : ℕ) (made : List Counts) (logic : Logic) (site : Site) (past : Past) (old new : Option (List ℕ)) →

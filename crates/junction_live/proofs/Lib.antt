@@ -1,4 +1,5 @@
 pub mod Answering
+pub mod Audiences
 pub mod Bridge
 pub mod ClosingSecond
 pub mod Ended

@@ -5,6 +5,7 @@ use Rattle.sig_io.specs.Draft.{IsCut}
 use Rattle.sig_types.specs.Counts.{Counts}
 use Rattle.sig_types.specs.Pass.{Logic, Store}
 use Rattle.sig_types.specs.Rules.{IsTwoWay}
+use Rattle.sig_types.specs.Turns.{History}
 use Rattle.pua_model.specs.Plan.{are_names, groups_in}
 use Rattle.signal_log.specs.Laws.{ArePrintable, Spells}
 use Rattle.signal_log.specs.Log.{header_text, log_text}
@@ -71,14 +72,19 @@ log_gained c store made old mid new headed is =
     ∙ ap (append_known old) (sym (log_parts c store made))
 
 -- the header and then a live run of a controller
-pub wrote : {A E : Type 0} (r : Result A E) (frames : List Counts) (c : Controller) (store : Store) (old mid new : Option (List ℕ)) →
+pub wrote : {A E : Type 0} (Given : A → History → Type 0) (r : Result A E) (frames : List Counts) (c : Controller) (store : Store) (old mid new : Option (List ℕ)) →
     are_names (site_of c).plan.names ≡ true →
     IsTwoWay (site_of c).rules → (site_of c).rules.count ≡ groups_in (site_of c).plan →
-    mid ≡ append_known old (header_text (site_of c).plan.names) → Live r frames (logic_of c) (site_of c) (opening (site_of c) store) mid new →
-    WroteLog r frames (playing_of c store) old new
-wrote (Ok x) frames c store old mid new named two count headed is =
-    (log_of (playing_of c store) is.0, whole_log frames c store is.0 named two count is.1 is.2 is.4 is.5, log_gained c store is.0 old mid new headed is.3)
-wrote (Err fault) frames c store old mid new named two count headed is = (
+    mid ≡ append_known old (header_text (site_of c).plan.names) → Live Given r frames (logic_of c) (site_of c) (opening (site_of c) store) mid new →
+    WroteLog Given r frames (playing_of c store) old new
+unfolding whole_log
+wrote Given (Ok x) frames c store old mid new named two count headed is = (
+  log_of (playing_of c store) is.0,
+  whole_log frames c store is.0 named two count is.1 is.2 is.4 is.5,
+  log_gained c store is.0 old mid new headed is.3,
+  is.6,
+)
+wrote Given (Err fault) frames c store old mid new named two count headed is = (
   log_of (playing_of c store) is.0,
   begun,
   length (header_text (site_of c).plan.names) + is.2.0,

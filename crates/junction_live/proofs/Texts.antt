@@ -6,11 +6,10 @@ use Rattle.sig_io.specs.Draft.{IsCut}
 use Rattle.sig_io.proofs.Reading.{append_known-twice}
 use Rattle.sig_types.specs.Counts.{Counts}
 use Rattle.sig_types.specs.Pass.{Store}
-use Rattle.sig_types.specs.Rules.{IsTwoWay}
 use Rattle.sig_types.specs.Turns.{History}
 use Rattle.sig_types.specs.declared.aspect.Aspect.TheVariants.{Red}
-use Rattle.pua_model.specs.Plan.{are_names, groups_in}
-use Rattle.signal_log.specs.Log.{header_text, log_text}
+use Rattle.pua_model.specs.Plan.{groups_in}
+use Rattle.signal_log.specs.Log.{log_text}
 use Rattle.vap_ast.specs.Syntax.{Program}
 use Rattle.vap_code.specs.Codes.{CodeOf}
 use Rattle.vap_code.specs.Machine.{machine}
@@ -29,12 +28,12 @@ use Rattle.junction_run.specs.Records.{records_of, log_of}
 use Rattle.junction_run.proofs.Agree.{records_are, same_records}
 use Rattle.picture_cell.specs.Sides.{Publishing}
 use Rattle.junction_live.specs.Answer.{TellsFrames, IsWholeLog, IsBegunLog, IsWholeText, IsBegunText, seconds_begun, lines_begun}
-use Rattle.junction_live.specs.Ended.{GainedFront, GainedText, GainedBegun, WroteLog, Wrote}
+use Rattle.junction_live.specs.Ended.{GainedLog, GainedFront, GainedText, GainedBegun, Wrote}
 use Rattle.junction_live.specs.Guarded.{IsGuardedText, log_guarded, lines_guarded}
 use Rattle.junction_live.specs.Laws.{TextIsLog}
+use Rattle.junction_live.specs.Outcome.{pictures_of}
 use Rattle.junction_live.specs.Sights.{Sight, AreSights, watches_from}
-use Rattle.junction_live.specs.Watch.{LiveShown, WroteLines, pictures_of}
-use Rattle.junction_live.proofs.LiveLogs.{whole_log, log_gained}
+use Rattle.junction_live.specs.Watch.{WroteLines, with_pictures}
 use Rattle.junction_live.proofs.Running.{cut_later}
 
 -- ---- without watchers
@@ -81,59 +80,45 @@ pub begun_text : (n : ℕ) (playing : Playing) (frames : List Counts) (old new :
     GainedBegun n playing frames old new
 begun_text n playing frames old new is = (is.0, seconds_begun is.1, is.2, is.3)
 
-pub wrote_alone : {A E : Type 0} (r : Result A E) (frames : List Counts) (playing : Playing) (old new : Option (List ℕ)) →
-    WroteLog r frames playing old new → Wrote 0 r frames playing old new
-wrote_alone (Ok x) frames playing old new is = (is.0, text_alone playing frames is.0 is.1, is.2)
-wrote_alone (Err fault) frames playing old new is = begun_text 0 playing frames old new is
-
 -- ---- with watchers
 
 -- the publisher's list is the history of the run
-entries_are : (c : Controller) (store : Store) (made : List Counts) (before after : Publishing) →
-    before.entries ≡ replicate (groups_in (site_of c).plan) Red ∷ [] →
-    after ≡ record before { entries = before.entries ++ pictures_of (logic_of c) (site_of c) (opening (site_of c) store) made } →
-    after.entries ≡ pictures_in (site_of c) (records_of (playing_of c store) made)
+entries_are : (playing : Playing) (made : List Counts) (before after : Publishing) →
+    before.entries ≡ replicate (groups_in playing.site.plan) Red ∷ [] →
+    after ≡ with_pictures before (pictures_of playing.logic playing.site (opening playing.site playing.store) made) →
+    after.entries ≡ pictures_in playing.site (records_of playing made)
 unfolding records_of
-entries_are c store made before after first is =
-    ap (λ (p : Publishing). p.entries) is ∙ ap (λ (h : History). h ++ pictures_of (logic_of c) (site_of c) (opening (site_of c) store) made) first
+entries_are playing made before after first is =
+    ap (λ (p : Publishing). p.entries) is
+    ∙ ap (λ (h : History). h ++ pictures_of playing.logic playing.site (opening playing.site playing.store) made) first
 
--- the header, then a live run of a controller beside a publisher, and then the lines of its watchers
-pub wrote_lines : {A E : Type 0} (r : Result A E) (n : ℕ) (frames : List Counts) (c : Controller) (store : Store) (before after : Publishing)
-    (sights : List Sight)
-    (old mid last new : Option (List ℕ)) → are_names (site_of c).plan.names ≡ true → IsTwoWay (site_of c).rules →
-    (site_of c).rules.count ≡ groups_in (site_of c).plan → before.entries ≡ replicate (groups_in (site_of c).plan) Red ∷ [] →
-    mid ≡ append_known old (header_text (site_of c).plan.names) →
-    LiveShown {E = E} (Ok after) frames (logic_of c) (site_of c) (opening (site_of c) store) mid last before →
-    AreSights n after.entries sights → WroteLines r sights last new → Wrote n r frames (playing_of c store) old new
-unfolding whole_log
-wrote_lines {A} {E} r n frames c store before after sights old mid last new named two count first headed live seen lines = so r lines
+-- the log of a controller beside a publisher, and then the lines of its watchers
+pub wrote_lines : {A E : Type 0} (r : Result A E) (n : ℕ) (frames : List Counts) (playing : Playing) (before after : Publishing) (sights : List Sight)
+    (old last new : Option (List ℕ)) → before.entries ≡ replicate (groups_in playing.site.plan) Red ∷ [] →
+    GainedLog (λ pictures. after ≡ with_pictures before pictures) playing frames old last →
+    AreSights n after.entries sights → WroteLines r sights last new → Wrote n r frames playing old new
+wrote_lines {A} {E} r n frames playing before after sights old last new first log seen lines = so r lines
   where
-    log : List ℕ
-    log = log_of (playing_of c store) live.0
-
-    so_far : last ≡ append_known old log
-    so_far = log_gained c store live.0 old mid last headed live.3
-
-    whole : IsWholeText n (playing_of c store) frames (log ++ watches_from 1 sights)
+    whole : IsWholeText n playing frames (log.0 ++ watches_from 1 sights)
     whole = record {
-      log = log;
-      whole = whole_log frames c store live.0 named two count live.1 live.2 live.4 live.5;
+      log = log.0;
+      whole = log.1;
       sights = sights;
-      seen = subst (λ h. AreSights n h sights) (entries_are c store live.0 before after first live.6) seen;
+      seen = subst (λ h. AreSights n h sights) (entries_are playing log.1.made before after first log.3) seen;
       text_is = refl;
     }
 
-    so : (r : Result A E) → WroteLines r sights last new → Wrote n r frames (playing_of c store) old new
+    so : (r : Result A E) → WroteLines r sights last new → Wrote n r frames playing old new
     so (Ok x) lines = (
-      log ++ watches_from 1 sights,
+      log.0 ++ watches_from 1 sights,
       whole,
-      lines ∙ ap (λ o. append_known o (watches_from 1 sights)) so_far ∙ append_known-twice old log (watches_from 1 sights),
+      lines ∙ ap (λ o. append_known o (watches_from 1 sights)) log.2 ∙ append_known-twice old log.0 (watches_from 1 sights),
     )
     so (Err fault) lines = (
-      log ++ watches_from 1 sights,
+      log.0 ++ watches_from 1 sights,
       lines_begun whole,
-      length log + lines.0,
-      cut_later old last new lines.0 log (watches_from 1 sights) (log ++ watches_from 1 sights) so_far refl lines.1,
+      length log.0 + lines.0,
+      cut_later old last new lines.0 log.0 (watches_from 1 sights) (log.0 ++ watches_from 1 sights) log.2 refl lines.1,
     )
 
 -- ---- of another playing

@@ -20,6 +20,7 @@ ghost use Rattle.junction_live.specs.Guarded.{IsGuardedText};
 use crate::cell::make_watched_cell;
 use crate::count::WatcherCount;
 use crate::form::{LiveWords, live_form};
+use crate::side::LiveStart;
 use crate::text::write_text;
 use det_board::make_board;
 use det_stream::{Frames, StreamRefusal, read_all};
@@ -97,9 +98,13 @@ fn play_site<'a, R: Threads + Sync, F: Files, O: Sink + Send, G: Gate>(
         Ok(cell) => cell,
         Err(_memory) => return Err(Stop::Load(LoadStop::Memory)),
     };
-    match write_text(
-        rt, controller, &frames, board, feeders, tick, cell, out, gate,
-    ) {
+    let start = LiveStart {
+        controller,
+        board,
+        feeders,
+        tick,
+    };
+    match write_text(rt, start, &frames, cell, out, gate) {
         Ok(()) => Ok(()),
         Err(_fault) => Err(Stop::Play(PlayStop::WriteFault)),
     }

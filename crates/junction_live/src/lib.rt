@@ -5,6 +5,7 @@
 #![tactic(auto)]
 
 mod answer;
+mod audience;
 mod both;
 mod cell;
 mod count;
@@ -16,16 +17,14 @@ mod lines;
 mod log;
 mod padded;
 mod playing;
+mod publishing;
 mod seconds;
+mod side;
 mod text;
 mod watch;
-mod watched;
-mod watched_closing;
-mod watched_play;
 mod watchers;
 mod whole_run;
 
 pub use answer::live;
 pub use form::begins_live;
-pub use playing::play;
-pub use watched_play::play_watched;
+pub use playing::{play, play_watched};

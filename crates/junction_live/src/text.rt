@@ -12,36 +12,31 @@ ghost use Rattle.junction_run.specs.Played.{playing_of};
 ghost use Rattle.junction_live.specs.Cells.{IsCell, IsCellFor, watchers_in};
 ghost use Rattle.junction_live.specs.Ended.{Wrote};
 
+use crate::audience::Nobody;
 use crate::cell::WatchedCell;
 use crate::lines::write_watches;
-use crate::log::write_live;
-use crate::watched_closing::watch_out;
-use controller::Controller;
-use det_board::{Board, FeederPass, TickPass, end_board};
+use crate::log::write_log;
+use crate::side::LiveStart;
 use det_stream::Frames;
 use sig_io::{Failed, Gate, Sink};
-use signal_log::write_header;
 use std::thread::Threads;
 
-// Writes the header, plays the frames beside watchers, with the closing second, and writes what the watchers saw last.
+// Writes the log of the frames that are played beside watchers, and what the watchers saw last.
 fn write_watched<R: Threads + Sync, O: Sink + Send, G: Gate>(
     rt: &R,
-    controller: Controller,
+    start: LiveStart,
     frames: &Frames,
-    board: Board,
-    feeders: Vec<FeederPass>,
-    tick: TickPass,
     watched: WatchedCell,
     out: &mut O,
     gate: &G,
 ) -> Result<(), Failed>
-    requires begun { (store : Store) × StandsFor controller (opening (site_of controller) store) }
-    requires opening { IsOpening 64 board feeders.items tick }
+    requires begun { (store : Store) × StandsFor start.controller (opening (site_of start.controller) store) }
+    requires opening { IsOpening 64 start.board start.feeders.items start.tick }
     requires frames { AreFrames frames.now }
-    requires cell { IsCellFor (groups_in (plan_of controller)) (length frames.now) watched }
-    ensures text { (store : Store) → StandsFor controller (opening (site_of controller) store) →
-        IsTwoWay (site_of controller).rules → (site_of controller).rules.count ≡ groups_in (site_of controller).plan →
-        Wrote (length watched.watchers.items) result frames.now (playing_of controller store) (O.taken out.old) (O.taken out.new) }
+    requires cell { IsCellFor (groups_in (plan_of start.controller)) (length frames.now) watched }
+    ensures text { (store : Store) → StandsFor start.controller (opening (site_of start.controller) store) →
+        IsTwoWay (site_of start.controller).rules → (site_of start.controller).rules.count ≡ groups_in (site_of start.controller).plan →
+        Wrote (length watched.watchers.items) result frames.now (playing_of start.controller store) (O.taken out.old) (O.taken out.new) }
     ensures cause { HasCause (O.faults out.old) (O.faults out.new) result }
 {
     let WatchedCell {
@@ -50,30 +45,18 @@ fn write_watched<R: Threads + Sync, O: Sink + Send, G: Gate>(
         watchers,
     } = watched;
     let mut watchers = watchers;
-    let plan = controller.plan();
-    // Its contract tells that the plan names its groups.
-    plan.groups();
-    match write_header(plan, out) {
-        Ok(()) => match watch_out(
-            rt,
-            controller,
-            frames,
-            board,
-            feeders,
-            tick,
-            out,
-            gate,
-            &cell,
-            publisher,
-            &mut watchers,
-        ) {
-            Ok(publisher) => write_watches(&cell, publisher, watchers, out),
-            Err(fault) => Err(fault),
-        },
-        Err(_fault) => {
-            end_board(board, feeders, tick);
-            Err(Failed)
-        }
+    match write_log(
+        rt,
+        start,
+        publisher,
+        frames,
+        &cell,
+        watchers.as_mut_slice(),
+        out,
+        gate,
+    ) {
+        Ok(publisher) => write_watches(&cell, publisher, watchers, out),
+        Err(fault) => Err(fault),
     }
 }
 
@@ -81,28 +64,26 @@ fn write_watched<R: Threads + Sync, O: Sink + Send, G: Gate>(
 /// the cell, if there is one.
 pub(crate) fn write_text<R: Threads + Sync, O: Sink + Send, G: Gate>(
     rt: &R,
-    controller: Controller,
+    start: LiveStart,
     frames: &Frames,
-    board: Board,
-    feeders: Vec<FeederPass>,
-    tick: TickPass,
     cell: Option<WatchedCell>,
     out: &mut O,
     gate: &G,
 ) -> Result<(), Failed>
-    requires begun { (store : Store) × StandsFor controller (opening (site_of controller) store) }
-    requires opening { IsOpening 64 board feeders.items tick }
+    requires begun { (store : Store) × StandsFor start.controller (opening (site_of start.controller) store) }
+    requires opening { IsOpening 64 start.board start.feeders.items start.tick }
     requires frames { AreFrames frames.now }
-    requires cell { IsCell (groups_in (plan_of controller)) (length frames.now) cell }
-    ensures text { (store : Store) → StandsFor controller (opening (site_of controller) store) →
-        IsTwoWay (site_of controller).rules → (site_of controller).rules.count ≡ groups_in (site_of controller).plan →
-        Wrote (watchers_in cell) result frames.now (playing_of controller store) (O.taken out.old) (O.taken out.new) }
+    requires cell { IsCell (groups_in (plan_of start.controller)) (length frames.now) cell }
+    ensures text { (store : Store) → StandsFor start.controller (opening (site_of start.controller) store) →
+        IsTwoWay (site_of start.controller).rules → (site_of start.controller).rules.count ≡ groups_in (site_of start.controller).plan →
+        Wrote (watchers_in cell) result frames.now (playing_of start.controller store) (O.taken out.old) (O.taken out.new) }
     ensures cause { HasCause (O.faults out.old) (O.faults out.new) result }
 {
     match cell {
-        None => write_live(rt, controller, frames, board, feeders, tick, out, gate),
-        Some(watched) => write_watched(
-            rt, controller, frames, board, feeders, tick, watched, out, gate,
-        ),
+        None => match write_log(rt, start, Nobody, frames, &(), &mut [], out, gate) {
+            Ok(_nobody) => Ok(()),
+            Err(fault) => Err(fault),
+        },
+        Some(watched) => write_watched(rt, start, frames, watched, out, gate),
     }
 }

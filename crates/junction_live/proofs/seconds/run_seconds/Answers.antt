@@ -15,6 +15,7 @@ returns-then-failed-clause-made g c =
           let at = is_cut start _ c.put_seconds.new.draft _ (sym c.failed.ensures ∙ c.if-failed.true) (made.1 start (c.new-draft.ensures.text start)) in (
             made.0,
             cut_off put.2 at.0 at.1,
+            made.2,
           ),
     )
 
@@ -26,8 +27,12 @@ returns-in-Ok-clause-made g c =
       put.1,
       put.2,
       λ past s none.
-          let made = put.4 past s none in
-          (made.0, all_written (put.3 (sym c.failed.ensures ∙ c.if-failed.false)) (c.in-Ok.ensures.ok start _ (made.1 start (c.new-draft.ensures.text start)))),
+          let made = put.4 past s none in (
+            made.0,
+            all_written (put.3 (sym c.failed.ensures ∙ c.if-failed.false))
+                (c.in-Ok.ensures.ok start _ (made.1 start (c.new-draft.ensures.text start))),
+            made.2,
+          ),
     )
 
 pub returns-in-Err-clause-made : goal.returns-in-Err-clause-made
@@ -40,5 +45,5 @@ returns-in-Err-clause-made g c =
       λ past s none.
           let made = put.4 past s none in
           let at = c.in-Err.ensures.fault start _ (made.1 start (c.new-draft.ensures.text start)) in
-          (made.0, cut_off put.2 at.n at.cut),
+          (made.0, cut_off put.2 at.n at.cut, made.2),
     )

@@ -1,60 +1,62 @@
-use Rattle.std.proofs.Common.{◌≡◌, ◌∙◌, ◌∷◌, [], true, Err, ap, arith, subst, refl, replicate}
-use Rattle.std.specs.Io.KnownBytes.{append_known}
-use Rattle.sig_io.specs.Draft.{IsCut}
+use Rattle.std.proofs.Common.{◌≡◌, ◌∙◌, ◌∷◌, [], ap, length, replicate, subst, sym}
 use Rattle.sig_types.specs.declared.aspect.Aspect.TheVariants.{Red}
-use Rattle.pua_model.specs.Plan.{are_names, groups_in}
-use Rattle.signal_log.specs.Log.{header_text}
+use Rattle.pua_model.specs.Plan.{groups_in}
 use Rattle.controller.specs.Controls.{site_of}
-use Rattle.controller.specs.Past.{opening}
 use Rattle.picture_cell.specs.Sides.{Publishing}
 use Rattle.junction_run.specs.Played.{playing_of}
 use Rattle.junction_run.proofs.Logs.{plan_is}
 use Rattle.junction_live.specs.Sights.{AreSights}
-use Rattle.junction_live.proofs.ClosingSecond.{opening_all}
+use Rattle.junction_live.specs.Watch.{AreFewWatchersOf, AreWatchersOf}
 use Rattle.junction_live.proofs.Ended.{cause_later}
-use Rattle.junction_live.proofs.LiveLogs.{wrote, header_cut}
+use Rattle.junction_live.proofs.Audiences.{still_publisher, written_back}
+use Rattle.junction_live.proofs.Showing.{fresh_of, still_of}
 use Rattle.junction_live.proofs.Texts.{begun_text, wrote_lines}
 use Rattle.junction_live.proofs.text.write_watched.Goals as goal
 
-pub watch_out-requires-clause-none_made : goal.watch_out-requires-clause-none_made
-watch_out-requires-clause-none_made g c κs within = (opening (site_of c.args.controller) c.requires.begun.0, c.requires.begun.1, refl)
-
-pub returns-in-Ok-watch_out-clause-text : goal.returns-in-Ok-watch_out-clause-text
-returns-in-Ok-watch_out-clause-text g c = λ store s two count.
-    let names : c.plan-plan.result.now.names ≡ (site_of c.args.controller).plan.names = ap (λ q. q.names) (c.plan-plan.ensures ∙ plan_is c.args.controller) in
-    let named : are_names (site_of c.args.controller).plan.names ≡ true = subst (λ n. are_names n ≡ true) names c.groups.ensures.plan.names in
-    let headed = c.in-Ok.ensures.ok ∙ ap (λ n. append_known (g.O.Sink.taken c.args.out.now) (header_text n)) names in
+pub write_log-requires-clause-watchers : goal.write_log-requires-clause-watchers
+write_log-requires-clause-watchers g c κs within =
     let w = c.args.watched in
-    let first : w.publisher.entries ≡ replicate (groups_in (site_of c.args.controller).plan) Red ∷ [] =
-    ap (λ (p : Publishing). p.entries) c.requires.cell.opening.publisher_is ∙ ap (λ q. replicate (groups_in q) Red ∷ []) (plan_is c.args.controller) in
-    let lines = c.write_watches.ensures.lines in
-    wrote_lines c.write_watches.result _ c.args.frames.now c.args.controller store w.publisher c.in-Ok-watch_out.publisher lines.0
-    (g.O.Sink.taken c.args.out.now) (g.O.Sink.taken c.write_header.new.sink) (g.O.Sink.taken c.watch_out.new.out) (g.O.Sink.taken c.write_watches.new.sink)
-    named two count first headed (c.in-Ok-watch_out.ensures.live (opening (site_of c.args.controller) store) s refl)
-    (subst (λ n. AreSights n c.in-Ok-watch_out.publisher.entries lines.0) c.watch_out.ensures.watchers_count lines.1) lines.2
+    subst (λ l. AreFewWatchersOf w.cell l) (sym c.as_mut_slice.ensures.value)
+    (c.requires.cell.few, fresh_of w.cell w.watchers.items c.requires.cell.opening.fresh)
 
-pub returns-in-Ok-watch_out-clause-cause : goal.returns-in-Ok-watch_out-clause-cause
-returns-in-Ok-watch_out-clause-cause g c =
-    cause_later c.write_watches.result (g.O.Sink.faults c.args.out.now) (g.O.Sink.faults c.watch_out.new.out) (g.O.Sink.faults c.write_watches.new.sink)
-    (let a = c.in-Ok.ensures.cause.later in let b = c.in-Ok-watch_out.ensures.cause.later in omega arith) c.write_watches.ensures.cause
+pub write_watches-requires-clause-publisher : goal.write_watches-requires-clause-publisher
+write_watches-requires-clause-publisher g c =
+    let w = c.args.watched in
+    let o = c.requires.cell.opening in
+    let given = c.in-Ok.ensures.given in
+    still_publisher w.cell w.publisher c.in-Ok.publisher given.0
+    (ap (λ (p : Publishing). p.table) o.publisher_is, ap (λ (p : Publishing). p.groups) o.publisher_is ∙ sym o.groups_are) given.1
 
-pub end_board-requires : goal.end_board-requires
-end_board-requires g c = opening_all c.args.board c.args.feeders.items c.args.tick c.requires.opening
-
-pub returns-clause-text : goal.returns-clause-text
-returns-clause-text g c = λ store s two count.
-    let names : c.plan-plan.result.now.names ≡ (site_of c.args.controller).plan.names = ap (λ q. q.names) (c.plan-plan.ensures ∙ plan_is c.args.controller) in
-    begun_text _ (playing_of c.args.controller store) c.args.frames.now _ _
-    (header_cut c.args.frames.now c.args.controller store (g.O.Sink.taken c.args.out.now) (g.O.Sink.taken c.write_header.new.sink) _ two count
-    (subst (λ n. IsCut (g.O.Sink.taken c.args.out.now) (g.O.Sink.taken c.write_header.new.sink) c.in-Err._fault.taken (header_text n)) names
-    c.in-Err.ensures.fault))
+pub write_watches-requires-clause-watchers : goal.write_watches-requires-clause-watchers
+write_watches-requires-clause-watchers g c =
+    let w = c.args.watched in
+    let value = c.as_mut_slice.ensures.value in
+    let same : length c.write_log.new.watchers ≡ length w.watchers.items = c.write_log.auto.watchers ∙ ap length value in
+    let back = written_back c.write_log.new.watchers w.watchers.items w.watchers.len w.watchers.ok.0 same in
+    subst (λ l. AreWatchersOf w.cell l) (sym back)
+    (still_of w.cell 16 c.as_mut_slice.result.now c.write_log.new.watchers
+    (subst (λ l. AreWatchersOf w.cell l) (sym value) (fresh_of w.cell w.watchers.items c.requires.cell.opening.fresh)) c.in-Ok.ensures.looked
+    c.write_log.auto.watchers)
 
 pub returns-in-Ok-clause-text : goal.returns-in-Ok-clause-text
 returns-in-Ok-clause-text g c = λ store s two count.
-    let names : c.plan-plan.result.now.names ≡ (site_of c.args.controller).plan.names = ap (λ q. q.names) (c.plan-plan.ensures ∙ plan_is c.args.controller) in
-    let named : are_names (site_of c.args.controller).plan.names ≡ true = subst (λ n. are_names n ≡ true) names c.groups.ensures.plan.names in
-    let headed = c.in-Ok.ensures.ok ∙ ap (λ n. append_known (g.O.Sink.taken c.args.out.now) (header_text n)) names in
-    begun_text _ (playing_of c.args.controller store) c.args.frames.now _ _
-    (wrote {A = Publishing} (Err c.in-Err-watch_out.fault) c.args.frames.now c.args.controller store (g.O.Sink.taken c.args.out.now)
-    (g.O.Sink.taken c.write_header.new.sink) (g.O.Sink.taken c.watch_out.new.out)
-    named two count headed (c.in-Err-watch_out.ensures.live (opening (site_of c.args.controller) store) s refl))
+    let w = c.args.watched in
+    let start = c.args.start.controller in
+    let first : w.publisher.entries ≡ replicate (groups_in (site_of start).plan) Red ∷ [] =
+    ap (λ (p : Publishing). p.entries) c.requires.cell.opening.publisher_is ∙ ap (λ q. replicate (groups_in q) Red ∷ []) (plan_is start) in
+    let lines = c.write_watches.ensures.lines in
+    let same : length c.write_log.new.watchers ≡ length w.watchers.items = c.write_log.auto.watchers ∙ ap length c.as_mut_slice.ensures.value in
+    let back = written_back c.write_log.new.watchers w.watchers.items w.watchers.len w.watchers.ok.0 same in
+    wrote_lines c.write_watches.result (length w.watchers.items) c.args.frames.now (playing_of start store) w.publisher c.in-Ok.publisher lines.0
+    (g.O.Sink.taken c.args.out.now) (g.O.Sink.taken c.write_log.new.out) (g.O.Sink.taken c.write_watches.new.sink) first
+    (c.in-Ok.ensures.log store s two count)
+    (subst (λ n. AreSights n c.in-Ok.publisher.entries lines.0) (ap length back ∙ same) lines.1) lines.2
+
+pub returns-in-Ok-clause-cause : goal.returns-in-Ok-clause-cause
+returns-in-Ok-clause-cause g c =
+    cause_later c.write_watches.result (g.O.Sink.faults c.args.out.now) (g.O.Sink.faults c.write_log.new.out) (g.O.Sink.faults c.write_watches.new.sink)
+    c.in-Ok.ensures.cause.later c.write_watches.ensures.cause
+
+pub returns-clause-text : goal.returns-clause-text
+returns-clause-text g c = λ store s two count.
+    begun_text _ (playing_of c.args.start.controller store) c.args.frames.now _ _ (c.in-Err.ensures.log store s two count)
