@@ -22,7 +22,7 @@ unfoldable pub usage_text : List ℕ
 usage_text =
     codes "log_report diagram LOG FROM TO [--strip N]\n                                 an SVG signal timing diagram of these seconds, at most 3600, in strips of N (120)\n"
     ++ codes "log_report text LOG FROM TO      the same as characters\n"
-    ++ codes "log_report sums LOG [FROM TO]    what groups, stages, refusals, faults and detectors add up to\n"
+    ++ codes "log_report sums LOG [FROM TO] [--each SECONDS] [--csv]\n                                 what groups, stages, refusals, faults and detectors add up to, in parts of so many seconds\n"
     ++ codes "log_report breaches LOG PUA TIMES INTERGREENS [--amber-tolerance N] [--csv]\n                                 each breach of the rules by any controller, in words or as a table\n"
     ++ codes "log_report protocol LOG PUA TIMES INTERGREENS [--csv]\n                                 what came in the log of any controller, beside what the tables say\n"
     ++ codes "log_report refusals LOG PUA TIMES INTERGREENS [FROM TO] [--csv]\n                                 why each command and each turn was refused, in numbers\n"

@@ -34,7 +34,7 @@ fn put_usage<O: Sink>(draft: &mut Draft, sink: &mut O)
     );
     draft.put(
         sink,
-        b"log_report sums LOG [FROM TO]    what groups, stages, refusals, faults and detectors add up to\n",
+        b"log_report sums LOG [FROM TO] [--each SECONDS] [--csv]\n                                 what groups, stages, refusals, faults and detectors add up to, in parts of so many seconds\n",
     );
     draft.put(
         sink,

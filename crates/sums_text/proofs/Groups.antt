@@ -3,7 +3,7 @@ use Rattle.std.proofs.Common.{◌≡◌, ◌∙◌, ℕ, suc, zero, ◌+◌, ◌
 use Rattle.std.proofs.lemmas.List.{append-nil}
 use Rattle.log_sums.specs.declared.group.GroupSums.{GroupSums}
 use Rattle.log_sums.specs.declared.detector.DetectorSums.{DetectorSums}
-use Rattle.sums_text.specs.Words.{detector_text, detectors_text, group_text, groups_text}
+use Rattle.sums_text.specs.Words.{detector_text, detectors_text, group_text, groups_text, is_named}
 
 -- one group more
 group_more : (b : Bool) (s k : ℕ) (names : List (List ℕ)) (sums : List GroupSums) (n : ℕ) (d : List ℕ) (e : GroupSums) → n < length names → n < length sums →
@@ -25,17 +25,23 @@ groups_more b s k names sums n x p inside has name =
     ∙ ap (λ j. groups_text b s k (take j names) sums) next
 
 -- one detector more
-detector_more : (d : ℕ) (xs : List DetectorSums) (n k : ℕ) (e : DetectorSums) → n < length xs → k ≡ d + n →
-    detectors_text d (take (suc n) xs) ≡ detectors_text d (take n xs) ++ detector_text k (get_or xs n e)
+detector_more : (d : ℕ) (named xs : List DetectorSums) (n k : ℕ) (e f : DetectorSums) → n < length named → n < length xs → k ≡ d + n →
+    detectors_text d (take (suc n) named) xs ≡ detectors_text d (take n named) xs ++ detector_text k (is_named (get_or named n e)) (get_or xs n f)
 unfolding detectors_text
-detector_more d [] n k e inside number = absurd (omega (arith, inside))
-detector_more d (x ∷ xs) zero k e inside number = let same : k ≡ d = omega (arith, number) in rw same (append-nil (detector_text d x))
-detector_more d (x ∷ xs) (suc n) k e inside number =
-    ap (λ l. detector_text d x ++ l) (detector_more (d + 1) xs n k e (omega (arith, inside)) (omega (arith, number)))
-    ∙ sym (append_assoc (detector_text d x) (detectors_text (d + 1) (take n xs)) (detector_text k (get_or xs n e)))
+detector_more d [] xs n k e f inside has number = absurd (omega (arith, inside))
+detector_more d (y ∷ named) [] n k e f inside has number = absurd (omega (arith, has))
+detector_more d (y ∷ named) (x ∷ xs) zero k e f inside has number =
+    let same : k ≡ d = omega (arith, number) in rw same (append-nil (detector_text d (is_named y) x))
+detector_more d (y ∷ named) (x ∷ xs) (suc n) k e f inside has number =
+    ap (λ l. detector_text d (is_named y) x ++ l)
+    (detector_more (d + 1) named xs n k e f (omega (arith, inside)) (omega (arith, has)) (omega (arith, number)))
+    ∙ sym (append_assoc (detector_text d (is_named y) x) (detectors_text (d + 1) (take n named) xs)
+    (detector_text k (is_named (get_or named n e)) (get_or xs n f)))
 
-pub detectors_more : (xs : List DetectorSums) (n : ℕ) (e : DetectorSums) → n < length xs →
-    detectors_text 1 (take n xs) ++ detector_text (n + 1) (get_or xs n e) ≡ detectors_text 1 (take (n + 1) xs)
-detectors_more xs n e inside =
+pub detectors_more : (named xs : List DetectorSums) (n : ℕ) (b : Bool) (e f : DetectorSums) → n < length named → n < length xs →
+    b ≡ is_named (get_or named n e) →
+    detectors_text 1 (take n named) xs ++ detector_text (n + 1) b (get_or xs n f) ≡ detectors_text 1 (take (n + 1) named) xs
+detectors_more named xs n b e f inside has is =
     let next : suc n ≡ n + 1 = omega arith in
-    sym (detector_more 1 xs n (n + 1) e inside (omega arith)) ∙ ap (λ j. detectors_text 1 (take j xs)) next
+    ap (λ c. detectors_text 1 (take n named) xs ++ detector_text (n + 1) c (get_or xs n f)) is
+    ∙ sym (detector_more 1 named xs n (n + 1) e f inside has (omega arith)) ∙ ap (λ j. detectors_text 1 (take j named) xs) next

@@ -1,1 +1,3 @@
 pub mod Groups
+pub mod Last
+pub mod TableRows

@@ -1,5 +1,5 @@
 -- The text of sums, line by line.
-use Rattle.std.specs.Prelude.{ℕ, ◌+◌, ◌-◌, ◌*◌, ◌/◌, ◌%◌, ◌<◌, ◌≤◌, ◌==◌, ◌&&◌, max, Bool, List, [], ◌∷◌, ◌++◌, codes, slice_index_or, Some, if◌then◌else◌}
+use Rattle.std.specs.Prelude.{ℕ, ◌+◌, ◌-◌, ◌*◌, ◌/◌, ◌%◌, ◌<◌, ◌≤◌, ◌==◌, ◌&&◌, max, Bool, not, ◌||◌, List, [], ◌∷◌, ◌++◌, codes, slice_index_or, Some, if◌then◌else◌}
 use Rattle.std.specs.List.{flat_map}
 use Rattle.std.specs.Fmt.{decimal}
 use Rattle.sig_types.specs.declared.numbers.StagePlace.{StagePlace}
@@ -129,17 +129,22 @@ headway_text x =
     if x.count == 0 then []
     else pair_text (codes " largest_headway:") (x.most - 1) ++ pair_text (codes " headway_after:") (x.at - (x.most - 1))
 
--- the line of a detector that was named
-unfoldable pub detector_text : ℕ → DetectorSums → List ℕ
-detector_text number x =
-    if (x.fronts_so_far == 0) && (x.rears_so_far == 0) then []
-    else pair_text (codes "DETECTOR ") number ++ pair_text (codes " vehicles:") x.fronts.sum ++ pair_text (codes " occupied:") x.occupied.held.count
-    ++ headway_text x.detected.ages ++ codes "\n"
+-- a detector had a front or a rear so far
+abbrev pub is_named : DetectorSums → Bool
+is_named x = not (x.fronts_so_far == 0) || not (x.rears_so_far == 0)
 
--- the lines of detectors, of which the first one has this number
-unfoldable pub detectors_text : ℕ → List DetectorSums → List ℕ
-detectors_text number [] = []
-detectors_text number (x ∷ xs) = detector_text number x ++ detectors_text (number + 1) xs
+-- the line of a detector, where it is named
+unfoldable pub detector_text : ℕ → Bool → DetectorSums → List ℕ
+detector_text number named x =
+    if named then pair_text (codes "DETECTOR ") number ++ pair_text (codes " vehicles:") x.fronts.sum
+    ++ pair_text (codes " occupied:") x.occupied.held.count ++ headway_text x.detected.ages ++ codes "\n"
+    else []
+
+-- the lines of detectors, of which the first one has this number; a detector is named where it is in the first ones of these sums
+unfoldable pub detectors_text : ℕ → List DetectorSums → List DetectorSums → List ℕ
+detectors_text number [] xs = []
+detectors_text number (y ∷ named) [] = []
+detectors_text number (y ∷ named) (x ∷ xs) = detector_text number (is_named y) x ++ detectors_text (number + 1) named xs
 
 -- how many seconds count
 abbrev pub counted_in : LogSums → ℕ
@@ -157,10 +162,15 @@ refused_text names x =
     flat_map command_text x.commands.items ++ flat_map (refusal_text (codes "REFUSED ") names) x.turns.items
     ++ flat_map (refusal_text (codes "RULE ") names) x.rules.items
 
+-- the lines of sums, with those of the detectors that are named in these
+unfoldable pub lines_text : List (List ℕ) → List DetectorSums → LogSums → List ℕ
+lines_text names named x =
+    shown_text names x ++ flat_map place_text x.places.items ++ refused_text names x ++ flat_map fault_line x.faults.items
+    ++ detectors_text 1 named x.detectors
+
 -- the text of sums
-unfoldable pub sums_text : List (List ℕ) → LogSums → List ℕ
-sums_text names x =
-    shown_text names x ++ flat_map place_text x.places.items ++ refused_text names x ++ flat_map fault_line x.faults.items ++ detectors_text 1 x.detectors
+abbrev pub sums_text : List (List ℕ) → LogSums → List ℕ
+sums_text names x = lines_text names x.detectors x
 
 -- sums of so many groups that a text can be made of them
 pub record AreTextual (groups : ℕ) (x : LogSums) : Type 0 where

@@ -28,8 +28,8 @@ fn put_greens<O: Sink>(draft: &mut Draft, sink: &mut O, sums: &GroupSums)
     );
 }
 
-// Where the longest red began, and 0 where there is none.
-fn longest_begin(goes_on: bool, seconds: u32, reds: &Spells) -> u32
+/// Where the longest red began, and 0 where there is none.
+pub(crate) fn longest_begin(goes_on: bool, seconds: u32, reds: &Spells) -> u32
     requires { seconds < 2 ^ 31 }
     ensures { result ≡ (if longest_of goes_on reds.now == 0 then 0 else longest_from goes_on seconds reds.now) }
 {

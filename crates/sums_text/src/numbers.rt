@@ -37,8 +37,8 @@ pub(crate) fn put_tenths<O: Sink>(draft: &mut Draft, sink: &mut O, tenths: u64)
     draft.put_long_number(sink, tenths % 10);
 }
 
-// The mean in tenths, rounded down.
-fn mean_of(figures: Figures) -> u64
+/// The mean in tenths, rounded down.
+pub(crate) fn mean_of(figures: Figures) -> u64
     requires some { 1 ≤ figures.count }
     requires small { figures.sum < 2 ^ 60 }
     ensures { result ≡ mean_of figures }

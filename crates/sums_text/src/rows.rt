@@ -4,8 +4,8 @@ ghost use Rattle.std.specs.Fmt.{decimal};
 ghost use Rattle.std.specs.List.{flat_map};
 ghost use Rattle.sig_io.specs.Draft.{Puts};
 ghost use Rattle.signal_log.specs.Log.{fault_text, stage_refusal_text, turn_text};
-ghost use Rattle.sums_text.specs.Words.{AreTextual, came_text, command_text, counted_in, counts_text, detector_text, detectors_text, fault_line};
-ghost use Rattle.sums_text.specs.Words.{headway_text, pair_text, place_name, place_text, refusal_text, refused_text, shown_text, sums_text};
+ghost use Rattle.sums_text.specs.Words.{AreTextual, came_text, command_text, counted_in, counts_text, detector_text, detectors_text, fault_line, is_named};
+ghost use Rattle.sums_text.specs.Words.{headway_text, lines_text, pair_text, place_name, place_text, refusal_text, refused_text, shown_text, sums_text};
 
 use crate::group::put_groups;
 use crate::names::{put_command, put_fault, put_place_name, put_turn};
@@ -24,8 +24,8 @@ fn put_long<O: Sink>(draft: &mut Draft, sink: &mut O, word: &[u8], n: u64)
     draft.put_long_number(sink, n);
 }
 
-// The first second of the longest run.
-fn run_from(second: u32, seconds: u32) -> u32
+/// The first second of the longest run.
+pub(crate) fn run_from(second: u32, seconds: u32) -> u32
     ensures { result ≡ second - (seconds - 1) }
 {
     second.saturating_sub(seconds.saturating_sub(1))
@@ -108,8 +108,8 @@ fn put_fault_line<O: Sink>(draft: &mut Draft, sink: &mut O, tally: &Tally<Fault>
     put_counts(draft, sink, &tally.counts);
 }
 
-// One less.
-fn less_one(n: u32) -> u32
+/// One less.
+pub(crate) fn less_one(n: u32) -> u32
     ensures { result ≡ n - 1 }
 {
     n.saturating_sub(1)
@@ -151,12 +151,25 @@ fn put_detected<O: Sink>(draft: &mut Draft, sink: &mut O, sums: &DetectorSums)
     put_headway(draft, sink, sums.detected.ages);
 }
 
-// Puts the line of a detector that was named.
-#[tactic(auto, unfolding(crate::specs::Words::detector_text))]
-fn put_detector<O: Sink>(draft: &mut Draft, sink: &mut O, number: u32, sums: &DetectorSums)
-    ensures { Puts O.taken O.faults draft.old draft.new sink.old sink.new (detector_text number sums.now) }
+/// Whether a detector had a front or a rear so far.
+pub(crate) fn is_named(sums: &DetectorSums) -> bool
+    ensures { result ≡ is_named sums.now }
 {
-    if sums.fronts_so_far == 0 && sums.rears_so_far == 0 {
+    sums.fronts_so_far != 0 || sums.rears_so_far != 0
+}
+
+// Puts the line of a detector where it is named.
+#[tactic(auto, unfolding(crate::specs::Words::detector_text))]
+fn put_detector<O: Sink>(
+    draft: &mut Draft,
+    sink: &mut O,
+    number: u32,
+    named: bool,
+    sums: &DetectorSums,
+)
+    ensures { Puts O.taken O.faults draft.old draft.new sink.old sink.new (detector_text number named sums.now) }
+{
+    if !named {
         return;
     }
     put_pair(draft, sink, b"DETECTOR ", number);
@@ -207,22 +220,29 @@ fn put_faults<O: Sink>(draft: &mut Draft, sink: &mut O, tallies: &[Tally<Fault>]
     }
 }
 
-// Puts the lines of the detectors.
-fn put_detectors<O: Sink>(draft: &mut Draft, sink: &mut O, detectors: &[DetectorSums; 64])
-    ensures { Puts O.taken O.faults draft.old draft.new sink.old sink.new (detectors_text 1 detectors.now) }
+// Puts the lines of the detectors that are named in the first ones of these sums.
+fn put_detectors<O: Sink>(
+    draft: &mut Draft,
+    sink: &mut O,
+    named: &[DetectorSums; 64],
+    detectors: &[DetectorSums; 64],
+)
+    ensures { Puts O.taken O.faults draft.old draft.new sink.old sink.new (detectors_text 1 named.now detectors.now) }
 {
     for place in 0..64u8 {
+        let at = usize::from(place);
         put_detector(
             draft,
             sink,
             u32::from(place) + 1,
-            &detectors[usize::from(place)],
+            is_named(&named[at]),
+            &detectors[at],
         );
     }
 }
 
-// How many seconds count.
-fn counted_in(sums: &LogSums) -> u32
+/// How many seconds count.
+pub(crate) fn counted_in(sums: &LogSums) -> u32
     ensures { result ≡ counted_in sums.now }
 {
     sums.seconds.saturating_sub(sums.from.saturating_sub(1))
@@ -260,15 +280,29 @@ fn put_refused<O: Sink>(draft: &mut Draft, sink: &mut O, names: &[ShortName], su
     put_turns(draft, sink, b"RULE ", names, &sums.rules);
 }
 
-/// Puts the text of sums, of groups with these names: a line for each group, stage, interstage, refusal, fault and detector.
-#[tactic(auto, unfolding(crate::specs::Words::sums_text))]
-pub fn put_sums<O: Sink>(draft: &mut Draft, sink: &mut O, names: &[ShortName], sums: &LogSums)
+/// Puts the lines of sums, with those of the detectors that are named in these.
+#[tactic(auto, unfolding(crate::specs::Words::lines_text))]
+pub(crate) fn put_lines<O: Sink>(
+    draft: &mut Draft,
+    sink: &mut O,
+    names: &[ShortName],
+    named: &[DetectorSums; 64],
+    sums: &LogSums,
+)
     requires { AreTextual (length names.now) sums.now }
-    ensures { Puts O.taken O.faults draft.old draft.new sink.old sink.new (sums_text names.now sums.now) }
+    ensures { Puts O.taken O.faults draft.old draft.new sink.old sink.new (lines_text names.now named.now sums.now) }
 {
     put_shown(draft, sink, names, sums);
     put_places(draft, sink, &sums.places);
     put_refused(draft, sink, names, sums);
     put_faults(draft, sink, &sums.faults);
-    put_detectors(draft, sink, &sums.detectors);
+    put_detectors(draft, sink, named, &sums.detectors);
+}
+
+/// Puts the text of sums, of groups with these names: a line for each group, stage, interstage, refusal, fault and detector.
+pub fn put_sums<O: Sink>(draft: &mut Draft, sink: &mut O, names: &[ShortName], sums: &LogSums)
+    requires { AreTextual (length names.now) sums.now }
+    ensures { Puts O.taken O.faults draft.old draft.new sink.old sink.new (sums_text names.now sums.now) }
+{
+    put_lines(draft, sink, names, &sums.detectors, sums);
 }

@@ -1,5 +1,5 @@
 -- What a call answers.
-use Rattle.std.specs.Prelude.{◌≡◌, ℕ, List, Option, None, Some, Result, Ok, Err}
+use Rattle.std.specs.Prelude.{◌≡◌, ℕ, Bool, List, Option, None, Some, MatchOption, Result, Ok, Err, if◌then◌else◌}
 use Rattle.std.specs.Option.{ForSome}
 use Rattle.std.specs.Io.KnownBytes.{append_known}
 use Rattle.sig_io.specs.Draft.{IsCut}
@@ -10,16 +10,37 @@ use Rattle.log_view.specs.declared.stop.Stop.{Stop}
 use Rattle.log_view.specs.declared.stop.Stop.TheVariants.{Memory, Words, TooManySeconds, ReadFault, WriteFault, Line, LogEnds}
 use Rattle.log_view.specs.Call.{IsNoted, status_by}
 use Rattle.record_sums.specs.declared.sums.LogSums.{LogSums}
+use Rattle.sums_text.specs.Parts.{parts_table, parts_text}
+use Rattle.sums_text.specs.Table.{table_text}
 use Rattle.sums_text.specs.Words.{sums_text}
 use Rattle.sums_view.specs.Form.{Asked, form_of}
-use Rattle.sums_view.specs.Summed.{AreSumsIn, IsUnsummed}
+use Rattle.sums_view.specs.Summed.{AreSumsIn, ArePartsIn, IsUnsummed}
 
--- the text that is asked for, of files with these contents: what the seconds of the log add up to, all of whose lines are accepted
-pub record IsTextOf (asked : Asked) (file : Contents) (text : List ℕ) : Type 0 where
+-- what is written of sums: a table, or lines
+abbrev pub written_text : Bool → List (List ℕ) → LogSums → List ℕ
+written_text csv names sums = if csv then table_text names sums else sums_text names sums
+
+-- what is written of the sums of parts
+abbrev pub written_parts : Bool → List (List ℕ) → List LogSums → List ℕ
+written_parts csv names parts = if csv then parts_table names parts else parts_text names parts
+
+-- the text of what the seconds of the log add up to, all of whose lines are accepted
+pub record IsWhole (asked : Asked) (file : Contents) (text : List ℕ) : Type 0 where
   pub names : List (List ℕ)
   pub sums : LogSums
   pub sums_are : AreSumsIn names (file asked.log) asked.from asked.to sums
-  pub text_is : text ≡ sums_text names sums
+  pub text_is : text ≡ written_text asked.csv names sums
+
+-- the text of what the parts of these seconds add up to that have so many
+pub record IsOfParts (asked : Asked) (each : ℕ) (file : Contents) (text : List ℕ) : Type 0 where
+  pub names : List (List ℕ)
+  pub parts : List LogSums
+  pub parts_are : ArePartsIn names (file asked.log) asked.from each asked.to parts
+  pub text_is : text ≡ written_parts asked.csv names parts
+
+-- the text that is asked for, of files with these contents
+abbrev pub IsTextOf : Asked → Contents → List ℕ → Type 0
+IsTextOf asked file text = MatchOption asked.each (IsWhole asked file text) (λ each. IsOfParts asked each file text)
 
 -- where a call stops: nothing is written, but where the sink fails while the text is written
 abbrev pub IsStopped : Asked → Contents → Stop → Option (List ℕ) → Option (List ℕ) → Type 0

@@ -1,16 +1,18 @@
 -- What the words of a call ask for.
-use Rattle.std.specs.Prelude.{ℕ, List, [], ◌∷◌, codes, Option, None, Some, if◌then◌else◌}
+use Rattle.std.specs.Prelude.{ℕ, ◌≤◌, Bool, true, false, List, [], ◌∷◌, codes, Option, None, Some, if◌then◌else◌}
 use Rattle.std.specs.Option.{option_and_then, option_map}
 use Rattle.std.specs.Str.{bytes_eq}
 use Rattle.sig_types.specs.Text.{number_of, within}
 use Rattle.sums_view.specs.declared.form.Seconds.{Seconds}
 use Rattle.sums_view.specs.declared.form.SumsForm.{SumsForm}
 
--- a log, and the seconds of it that count
+-- a log, the seconds of it that count, how many of them a part has, where there are parts, and whether a table is written
 pub record Asked : Type 0 where
   pub log : List ℕ
   pub from : ℕ
   pub to : ℕ
+  pub each : Option ℕ
+  pub csv : Bool
 
 -- all seconds that a log can have
 abbrev pub all_seconds : Seconds
@@ -21,28 +23,52 @@ abbrev pub seconds_of : List ℕ → List ℕ → Option Seconds
 seconds_of from to =
     option_and_then (λ a. option_map (λ b. record { from = a; to = b }) (within a 604801 (number_of to))) (within 1 604801 (number_of from))
 
--- nothing, or FROM TO
-abbrev pub seconds_in : List (List ℕ) → Option Seconds
-seconds_in [] = Some all_seconds
-seconds_in (word ∷ []) = None
-seconds_in (from ∷ to ∷ []) = seconds_of from to
-seconds_in (from ∷ to ∷ other ∷ rest) = None
+-- a log, some seconds in parts or as a whole, and a table where nothing follows but --csv
+abbrev pub with_csv : List ℕ → Seconds → Option ℕ → List (List ℕ) → Option Asked
+with_csv log s each [] = Some (record { log = log; from = s.from; to = s.to; each = each; csv = false })
+with_csv log s each (word ∷ []) =
+    if bytes_eq word (codes "--csv") then Some (record { log = log; from = s.from; to = s.to; each = each; csv = true }) else None
+with_csv log s each (word ∷ other ∷ rest) = None
 
--- what is asked for, where the last words are no form either
-abbrev pub with_seconds : List ℕ → Option Seconds → Option Asked
-with_seconds log None = None
-with_seconds log (Some s) = Some (record { log = log; from = s.from; to = s.to })
+-- parts of so many seconds, where that isn't wrong
+abbrev pub with_parts : List ℕ → Seconds → Option ℕ → List (List ℕ) → Option Asked
+with_parts log s None words = None
+with_parts log s (Some each) words = with_csv log s (Some each) words
 
--- sums LOG, and the seconds
+-- --each SECONDS, 60 or more
+abbrev pub with_each : List ℕ → Seconds → List (List ℕ) → Option Asked
+with_each log s [] = with_csv log s None []
+with_each log s (word ∷ []) = with_csv log s None (word ∷ [])
+with_each log s (word ∷ n ∷ rest) =
+    if bytes_eq word (codes "--each") then with_parts log s (within 60 604801 (number_of n)) rest else with_csv log s None (word ∷ n ∷ rest)
+
+-- the same, where the seconds may not be wrong
+abbrev pub with_each_of : List ℕ → Option Seconds → List (List ℕ) → Option Asked
+with_each_of log None words = None
+with_each_of log (Some s) words = with_each log s words
+
+-- all seconds of a log, or those from FROM to TO
+abbrev pub with_seconds : List ℕ → List (List ℕ) → Option Asked
+with_seconds log [] = with_each log all_seconds []
+with_seconds log (word ∷ []) = with_each log all_seconds (word ∷ [])
+with_seconds log (from ∷ to ∷ rest) =
+    if bytes_eq from (codes "--each") then with_each log all_seconds (from ∷ to ∷ rest) else with_each_of log (seconds_of from to) rest
+
+-- sums LOG, the seconds, the parts, and --csv
 abbrev pub form_of : List (List ℕ) → Option Asked
-form_of (word ∷ log ∷ rest) = if bytes_eq word (codes "sums") then with_seconds log (seconds_in rest) else None
+form_of (word ∷ log ∷ rest) = if bytes_eq word (codes "sums") then with_seconds log rest else None
 form_of _ = None
 
 -- what is asked for, as the program holds it
 abbrev pub asked_in : SumsForm → Asked
-asked_in form = record { log = form.log.now; from = form.from; to = form.to }
+asked_in form = record { log = form.log.now; from = form.from; to = form.to; each = form.each; csv = form.csv }
 
 -- the same where the words are a form
 abbrev pub asked_by : Option SumsForm → Option Asked
 asked_by None = None
 asked_by (Some form) = Some (asked_in form)
+
+-- parts have a second at least
+abbrev pub HasSeconds : Option ℕ → Type 0
+HasSeconds None = Unit {0}
+HasSeconds (Some each) = 1 ≤ each

@@ -1,5 +1,6 @@
 -- What the reading of a log gives.
-use Rattle.std.specs.Prelude.{ℕ, List, length, None, Result, Ok, Err}
+use Rattle.std.specs.Prelude.{ℕ, List, length, None, Result, Ok, Err, Vec}
+use Rattle.std.specs.declared.alloc.Global.{Global}
 use Rattle.sig_types.specs.declared.record.Record.{Record}
 use Rattle.log_records.specs.Log.{IsLog}
 use Rattle.log_view.specs.declared.stop.Stop.{Stop}
@@ -7,6 +8,7 @@ use Rattle.log_view.specs.declared.stop.Stop.TheVariants.{Memory, Words, TooMany
 use Rattle.log_view.specs.Answers.{IsRefusedAt}
 use Rattle.record_sums.specs.declared.sums.LogSums.{LogSums}
 use Rattle.record_sums.specs.Summed.{AreSumsOf}
+use Rattle.part_sums.specs.Parts.{AreParts}
 
 -- what the seconds from `from` to `to` of a log with these bytes add up to, of groups with these names; all its lines are accepted
 pub record AreSumsIn (names : List (List ℕ)) (bytes : List ℕ) (from to : ℕ) (sums : LogSums) : Type 0 where
@@ -28,3 +30,15 @@ IsUnsummed bytes (LogEnds last) = ⊥
 abbrev pub IsSumming : (names : List (List ℕ)) (bytes : List ℕ) (from to : ℕ) → Result LogSums Stop → Type 0
 IsSumming names bytes from to (Ok sums) = AreSumsIn names bytes from to sums
 IsSumming names bytes from to (Err stop) = IsUnsummed bytes stop
+
+-- What the parts of a log with these bytes add up to that have `each` seconds, from second `from` to second `to`, of groups with these
+-- names; all its lines are accepted.
+pub record ArePartsIn (names : List (List ℕ)) (bytes : List ℕ) (from each to : ℕ) (parts : List LogSums) : Type 0 where
+  pub records : List Record
+  pub log : IsLog names bytes records None
+  pub parts_are : AreParts (length names) from each to records parts
+
+-- what the adding up of parts answers
+abbrev pub IsParting : (names : List (List ℕ)) (bytes : List ℕ) (from each to : ℕ) → Result (Vec LogSums Global) Stop → Type 0
+IsParting names bytes from each to (Ok parts) = ArePartsIn names bytes from each to parts.items
+IsParting names bytes from each to (Err stop) = IsUnsummed bytes stop

@@ -1,15 +1,17 @@
 // The call.
-ghost use Rattle.std.specs.Prelude.{◌≡◌, ◌≤◌, ◌⊎◌, ℕ, IsTrue, List, None, Option, Err, IfErr, OnErr, length, map, string_bytes};
+ghost use Rattle.std.specs.Prelude.{◌≡◌, ◌≤◌, ◌⊎◌, ℕ, IsTrue, List, None, Some, Option, Err, IfErr, OnErr, length, map, string_bytes};
 ghost use Rattle.std.specs.Option.{ForSome};
-ghost use Rattle.sig_io.specs.Draft.{IsDraft};
+ghost use Rattle.sig_io.specs.Draft.{IsDraft, Puts};
 ghost use Rattle.sig_io.specs.Outside.{Rose};
 ghost use Rattle.sig_io.specs.Seen.{seen};
 ghost use Rattle.log_view.specs.Call.{IsWritten};
-ghost use Rattle.sums_text.specs.Words.{AreTextual, sums_text};
-ghost use Rattle.sums_view.specs.Form.{asked_in, form_of};
-ghost use Rattle.sums_view.specs.Call.{IsAnswered, IsReported};
+ghost use Rattle.sums_text.specs.Parts.{AreAllTextual};
+ghost use Rattle.sums_text.specs.Words.{AreTextual};
+ghost use Rattle.sums_view.specs.Form.{HasSeconds, asked_in, form_of};
+ghost use Rattle.sums_view.specs.Call.{IsAnswered, IsReported, written_parts, written_text};
 
 use crate::form::{SumsForm, form_of};
+use crate::parting::add_up_parts;
 use crate::summing::add_up;
 use log_records::LogRecords;
 use log_view::{Status, Stop, status_of, stop_of, write_stop};
@@ -17,7 +19,7 @@ use record_sums::LogSums;
 use sig_io::{Draft, Files, Sink};
 use sig_types::ShortName;
 use std::alloc::Global;
-use sums_text::put_sums;
+use sums_text::{put_parts, put_parts_table, put_sums, put_table};
 
 // Gives a sink the rest of a text.
 fn end<O: Sink>(draft: Draft, out: &mut O) -> Result<(), Stop>
@@ -33,25 +35,84 @@ fn end<O: Sink>(draft: Draft, out: &mut O) -> Result<(), Stop>
     }
 }
 
-// Writes sums, of groups with these names.
-fn write_sums<O: Sink>(names: &[ShortName], sums: &LogSums, out: &mut O) -> Result<(), Stop>
+// Puts sums, of groups with these names, as a table or as lines.
+fn put_asked<O: Sink>(
+    draft: &mut Draft,
+    sink: &mut O,
+    csv: bool,
+    names: &[ShortName],
+    sums: &LogSums,
+)
     requires { AreTextual (length names.now) sums.now }
-    ensures written { IsWritten (sums_text names.now sums.now) result (O.taken out.old) (O.taken out.new) }
+    ensures { Puts O.taken O.faults draft.old draft.new sink.old sink.new (written_text csv names.now sums.now) }
+{
+    if csv {
+        put_table(draft, sink, names, sums);
+    } else {
+        put_sums(draft, sink, names, sums);
+    }
+}
+
+// Writes sums, of groups with these names, as a table or as lines.
+fn write_sums<O: Sink>(
+    csv: bool,
+    names: &[ShortName],
+    sums: &LogSums,
+    out: &mut O,
+) -> Result<(), Stop>
+    requires { AreTextual (length names.now) sums.now }
+    ensures written { IsWritten (written_text csv names.now sums.now) result (O.taken out.old) (O.taken out.new) }
     ensures stop { IfErr result (λ stop. stop ≡ Stop.WriteFault) }
     ensures cause { OnErr result (Rose (O.faults out.old) (O.faults out.new)) }
 {
     let mut draft = Draft::new();
-    put_sums(&mut draft, out, names, sums);
+    put_asked(&mut draft, out, csv, names, sums);
     end(draft, out)
 }
 
-// Does what is asked for.
-fn do_form<F: Files, O: Sink>(
+// Puts the sums of parts, of groups with these names, as a table or as lines.
+fn put_asked_parts<O: Sink>(
+    draft: &mut Draft,
+    sink: &mut O,
+    csv: bool,
+    names: &[ShortName],
+    parts: &[LogSums],
+)
+    requires { AreAllTextual (length names.now) parts.now }
+    ensures { Puts O.taken O.faults draft.old draft.new sink.old sink.new (written_parts csv names.now parts.now) }
+{
+    if csv {
+        put_parts_table(draft, sink, names, parts);
+    } else {
+        put_parts(draft, sink, names, parts);
+    }
+}
+
+// Writes the sums of parts, of groups with these names, as a table or as lines.
+fn write_parts<O: Sink>(
+    csv: bool,
+    names: &[ShortName],
+    parts: &[LogSums],
+    out: &mut O,
+) -> Result<(), Stop>
+    requires { AreAllTextual (length names.now) parts.now }
+    ensures written { IsWritten (written_parts csv names.now parts.now) result (O.taken out.old) (O.taken out.new) }
+    ensures stop { IfErr result (λ stop. stop ≡ Stop.WriteFault) }
+    ensures cause { OnErr result (Rose (O.faults out.old) (O.faults out.new)) }
+{
+    let mut draft = Draft::new();
+    put_asked_parts(&mut draft, out, csv, names, parts);
+    end(draft, out)
+}
+
+// Does what is asked for of the whole log, or of some seconds.
+fn do_whole<F: Files, O: Sink>(
     alloc: Global,
     form: &SumsForm<'_>,
     files: &mut F,
     out: &mut O,
 ) -> Result<(), Stop>
+    requires { form.now.each ≡ None }
     ensures answered { ForSome (F.told files.old) (λ file.
         IsAnswered (asked_in form.now) file result (O.taken out.old) (O.taken out.new)) }
     ensures unwritten { IfErr result (λ stop. (stop ≡ Stop.WriteFault → ⊥) → out.new ≡ out.old) }
@@ -64,16 +125,65 @@ fn do_form<F: Files, O: Sink>(
         Err(stop) => return Err(stop_of(stop)),
     };
     match add_up(alloc, &mut records, form.from, form.to, files) {
-        Ok(sums) => write_sums(records.names(), &sums, out),
+        Ok(sums) => write_sums(form.csv, records.names(), &sums, out),
         Err(stop) => Err(stop),
     }
 }
 
-/// Does what the words `sums LOG [FROM TO]` say, and tells in a note why it stopped where it did.
+// Does what is asked for of parts of so many seconds.
+fn do_parts<F: Files, O: Sink>(
+    alloc: Global,
+    form: &SumsForm<'_>,
+    each: u32,
+    files: &mut F,
+    out: &mut O,
+) -> Result<(), Stop>
+    requires each { form.now.each ≡ Some each }
+    requires some { 1 ≤ each }
+    ensures answered { ForSome (F.told files.old) (λ file.
+        IsAnswered (asked_in form.now) file result (O.taken out.old) (O.taken out.new)) }
+    ensures unwritten { IfErr result (λ stop. (stop ≡ Stop.WriteFault → ⊥) → out.new ≡ out.old) }
+    ensures contents_stay { F.told files.new ≡ F.told files.old }
+    ensures read { result ≡ Err Stop.ReadFault → Rose (F.faults files.old) (F.faults files.new) }
+    ensures write { result ≡ Err Stop.WriteFault → Rose (O.faults out.old) (O.faults out.new) }
+{
+    let mut records = match LogRecords::open(alloc, files, form.log) {
+        Ok(records) => records,
+        Err(stop) => return Err(stop_of(stop)),
+    };
+    match add_up_parts(alloc, &mut records, form.from, each, form.to, files) {
+        Ok(parts) => write_parts(form.csv, records.names(), &parts, out),
+        Err(stop) => Err(stop),
+    }
+}
+
+// Does what is asked for.
+fn do_form<F: Files, O: Sink>(
+    alloc: Global,
+    form: &SumsForm<'_>,
+    files: &mut F,
+    out: &mut O,
+) -> Result<(), Stop>
+    requires { HasSeconds form.now.each }
+    ensures answered { ForSome (F.told files.old) (λ file.
+        IsAnswered (asked_in form.now) file result (O.taken out.old) (O.taken out.new)) }
+    ensures unwritten { IfErr result (λ stop. (stop ≡ Stop.WriteFault → ⊥) → out.new ≡ out.old) }
+    ensures contents_stay { F.told files.new ≡ F.told files.old }
+    ensures read { result ≡ Err Stop.ReadFault → Rose (F.faults files.old) (F.faults files.new) }
+    ensures write { result ≡ Err Stop.WriteFault → Rose (O.faults out.old) (O.faults out.new) }
+{
+    match form.each {
+        Some(each) => do_parts(alloc, form, each, files, out),
+        None => do_whole(alloc, form, files, out),
+    }
+}
+
+/// Does what the words `sums LOG [FROM TO] [--each SECONDS] [--csv]` say, and tells in a note why it stopped where it did.
 ///
-/// It writes what groups, stages, refusals, faults and detectors of a log add up to, in all its seconds or in those from FROM to TO.
-/// The log is read to its end before the first byte is written; nothing is written where it is refused. No file is touched where
-/// the words are no form.
+/// It writes what groups, stages, refusals, faults and detectors of a log add up to, in all its seconds or in those from FROM to
+/// TO, or in each part of these that has so many seconds, line by line, or as a table with a row for each number. The log is read
+/// to its end before the first byte is written; nothing is written where it is refused. No file is touched where the words are no
+/// form.
 pub fn report_sums<F: Files, O: Sink, N: Sink>(
     alloc: Global,
     words: &[String],

@@ -5,7 +5,8 @@ use std::alloc::{AllocError, Global};
 use std::test::Fail;
 use sums_view::report_sums;
 
-const LOG: &str = "VAPLOG 1 K1 K2\n\
+/// Six seconds of two groups and three detectors.
+pub(crate) const LOG: &str = "VAPLOG 1 K1 K2\n\
 1|S1|RR|-|1-3:NoInterstage K2:Conflict:K1|-\n\
 2|S1|UR|2:1:0|-|-\n\
 3|S1|GR|-|K2:Conflict:K1|-\n\
@@ -54,16 +55,19 @@ FAULT Number@7 times:2 seconds:2 longest_run:2 longest_run_from:4\n\
 DETECTOR 2 vehicles:12 occupied:3 largest_headway:0 headway_after:3\n\
 DETECTOR 3 vehicles:0 occupied:0\n";
 
-// What a call told: its status, what it wrote, and its note.
+/// What a call told.
 #[derive(Drop)]
-struct Told {
-    status: Status,
-    out: MemSink,
-    notes: MemSink,
+pub(crate) struct Told {
+    /// Its status.
+    pub(crate) status: Status,
+    /// What it wrote.
+    pub(crate) out: MemSink,
+    /// Its note.
+    pub(crate) notes: MemSink,
 }
 
-// Calls `log_report` with these words, over the log as the file `l`.
-fn call(alloc: Global, words: &[&str], log: &str) -> Result<Told, Fail> {
+/// Calls `log_report` with these words, over the log as the file `l`.
+pub(crate) fn call(alloc: Global, words: &[&str], log: &str) -> Result<Told, Fail> {
     let item = (String::from_str(alloc, "l")?, log.as_bytes().to_vec(alloc)?);
     let mut files = MemFiles::new(vec![in alloc; item]?, Vec::new(alloc), 4096);
     let mut list = Vec::new(alloc);
@@ -186,7 +190,7 @@ fn a_green_goes_over_the_end_of_a_strip(rt: HostRuntime) -> Result<(), Fail> {
 // Words of a call over the log, the status and the note.
 type Stopped = (&'static [&'static str], Status, &'static str);
 
-const STOPPED: [Stopped; 10] = [
+const STOPPED: [Stopped; 12] = [
     (&["sum", "l"], Status::Words, "log_report: Words\n"),
     (
         &["text", "l", "0", "6"],
@@ -222,6 +226,16 @@ const STOPPED: [Stopped; 10] = [
     (&["sums", "l", "3"], Status::Words, "log_report: Words\n"),
     (
         &["sums", "l", "5", "3"],
+        Status::Words,
+        "log_report: Words\n",
+    ),
+    (
+        &["sums", "l", "--each", "59"],
+        Status::Words,
+        "log_report: Words\n",
+    ),
+    (
+        &["sums", "l", "--csv", "--each", "60"],
         Status::Words,
         "log_report: Words\n",
     ),

@@ -6,4 +6,6 @@ mod calls;
 #[cfg(test)]
 mod charts;
 #[cfg(test)]
+mod parts;
+#[cfg(test)]
 mod reasons;

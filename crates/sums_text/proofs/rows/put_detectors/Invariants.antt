@@ -5,4 +5,4 @@ use Rattle.sums_text.proofs.rows.put_detectors.Given as goal
 
 abbrev pub invariant-loop-place : goal.invariant-loop-place
 invariant-loop-place g l =
-    Puts g.O.Sink.taken g.O.Sink.faults l.fn.draft l.draft l.fn.sink l.sink (detectors_text 1 (take l.place l.detectors))
+    Puts g.O.Sink.taken g.O.Sink.faults l.fn.draft l.draft l.fn.sink l.sink (detectors_text 1 (take l.place l.named) l.detectors)

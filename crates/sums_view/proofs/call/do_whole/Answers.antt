@@ -1,12 +1,12 @@
-use Rattle.std.proofs.Common.{◌≡◌, ◌∙◌, [], refl, ap}
+use Rattle.std.proofs.Common.{◌≡◌, ◌∙◌, [], refl, ap, sym, subst}
+use Rattle.std.specs.Prelude.{MatchOption}
 use Rattle.log_records.specs.Answers.{Reads, name_of, names_of}
-use Rattle.sums_text.specs.Words.{sums_text}
-use Rattle.sums_view.specs.Call.{IsTextOf}
+use Rattle.sums_view.specs.Call.{IsTextOf, IsOfParts, IsWhole, written_text}
 use Rattle.sums_view.specs.Form.{asked_in}
 use Rattle.sums_view.specs.Summed.{AreSumsIn}
 use Rattle.sums_view.proofs.Calls.{answered, unsummed}
 use Rattle.sums_view.proofs.Reading.{unread}
-use Rattle.sums_view.proofs.call.do_form.Goals as goal
+use Rattle.sums_view.proofs.call.do_whole.Goals as goal
 
 pub returns-in-Err-clause-answered : goal.returns-in-Err-clause-answered
 returns-in-Err-clause-answered g c file told =
@@ -22,10 +22,12 @@ returns-in-Ok-add_up-clause-answered g c file told =
     let begun : Reads first (file form.log.now) [] = c.in-Ok.ensures.opened file told in
     let is : AreSumsIn (names_of first) (file form.log.now) form.from form.to sums =
     rw named at (c.in-Ok-add_up.ensures.summing file (c.in-Ok.ensures.contents_stay ∙ told) (rw (← named) at begun)) in
-    let text_of : IsTextOf (asked_in form) file (sums_text c.names.result.now sums) = record {
+    let whole : IsWhole (asked_in form) file (written_text form.csv c.names.result.now sums) = record {
       names = names_of first;
       sums = sums;
       sums_are = is;
-      text_is = ap (λ names. sums_text names sums) (c.names.ensures.names ∙ c.in-Ok-add_up.ensures.names);
+      text_is = ap (λ names. written_text form.csv names sums) (c.names.ensures.names ∙ c.in-Ok-add_up.ensures.names);
     } in
-    answered (asked_in form) file (sums_text c.names.result.now sums) c.write_sums.result _ _ text_of c.write_sums.ensures.written
+    let text_of : IsTextOf (asked_in form) file (written_text form.csv c.names.result.now sums) =
+    subst (λ each. MatchOption each (IsWhole (asked_in form) file _) (λ n. IsOfParts (asked_in form) n file _)) (sym c.requires) whole in
+    answered (asked_in form) file (written_text form.csv c.names.result.now sums) c.write_sums.result _ _ text_of c.write_sums.ensures.written

@@ -1,9 +1,9 @@
 use Rattle.sig_io.proofs.Drafts.{then}
-use Rattle.sums_text.specs.Words.{sums_text}
-use Rattle.sums_text.proofs.rows.put_sums.Goals as goal
+use Rattle.sums_text.specs.Words.{lines_text}
+use Rattle.sums_text.proofs.rows.put_lines.Goals as goal
 
 pub returns : goal.returns
-unfolding sums_text
+unfolding lines_text
 returns g c =
     then (then (then (then c.put_shown.ensures
     (rw c.deref.ensures.value at c.put_places.ensures))

@@ -1,0 +1,5 @@
+use Rattle.sig_io.proofs.Drafts.{then}
+use Rattle.sums_text.proofs.table.put_stay_rows.Goals as goal
+
+pub returns : goal.returns
+returns g c = then (rw c.from.ensures at c.put_row.ensures) (rw c.from-2.ensures at c.put_row-2.ensures)

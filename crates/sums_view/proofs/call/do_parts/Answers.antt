@@ -1,0 +1,33 @@
+use Rattle.std.proofs.Common.{◌≡◌, ◌∙◌, [], refl, ap, sym, subst}
+use Rattle.std.specs.Prelude.{MatchOption}
+use Rattle.log_records.specs.Answers.{Reads, name_of, names_of}
+use Rattle.sums_view.specs.Call.{IsTextOf, IsOfParts, IsWhole, written_parts}
+use Rattle.sums_view.specs.Form.{asked_in}
+use Rattle.sums_view.specs.Summed.{ArePartsIn}
+use Rattle.sums_view.proofs.Calls.{answered, unsummed}
+use Rattle.sums_view.proofs.Reading.{unread}
+use Rattle.sums_view.proofs.call.do_parts.Goals as goal
+
+pub returns-in-Err-clause-answered : goal.returns-in-Err-clause-answered
+returns-in-Err-clause-answered g c file told =
+    rw c.stop_of.ensures
+    (unsummed (asked_in c.args.form.now) file _ _ _ (unread [] (file c.args.form.now.log.now) [] c.in-Err.stop (c.in-Err.ensures.opened file told [])) refl)
+
+pub returns-in-Ok-add_up_parts-clause-answered : goal.returns-in-Ok-add_up_parts-clause-answered
+returns-in-Ok-add_up_parts-clause-answered g c file told =
+    let form = c.args.form.now in
+    let first = c.in-Ok.records in
+    let parts = c.in-Ok-add_up_parts.parts.items in
+    let named : name_of first ≡ form.log.now = c.in-Ok.ensures.name in
+    let begun : Reads first (file form.log.now) [] = c.in-Ok.ensures.opened file told in
+    let is : ArePartsIn (names_of first) (file form.log.now) form.from c.args.each form.to parts =
+    rw named at (c.in-Ok-add_up_parts.ensures.parting file (c.in-Ok.ensures.contents_stay ∙ told) (rw (← named) at begun)) in
+    let of_parts : IsOfParts (asked_in form) c.args.each file (written_parts form.csv c.names.result.now parts) = record {
+      names = names_of first;
+      parts = parts;
+      parts_are = is;
+      text_is = ap (λ names. written_parts form.csv names parts) (c.names.ensures.names ∙ c.in-Ok-add_up_parts.ensures.names);
+    } in
+    let text_of : IsTextOf (asked_in form) file (written_parts form.csv c.names.result.now parts) =
+    subst (λ each. MatchOption each (IsWhole (asked_in form) file _) (λ n. IsOfParts (asked_in form) n file _)) (sym c.requires.each) of_parts in
+    answered (asked_in form) file (written_parts form.csv c.names.result.now parts) c.write_parts.result _ _ text_of c.write_parts.ensures.written

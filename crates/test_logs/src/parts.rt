@@ -1,0 +1,93 @@
+// Whole calls of `log_report sums` over a log in memory: a table, and parts.
+use crate::calls::{LOG, call};
+use log_view::Status;
+use std::alloc::{AllocError, Global};
+use std::test::Fail;
+
+const TABLE: &str = "from,to,line,name,key,value\n\
+3,5,SECONDS,,seconds,3\n\
+3,5,GROUP,K1,greens,1\n\
+3,5,GROUP,K1,ended,1\n\
+3,5,GROUP,K1,shortest,1\n\
+3,5,GROUP,K1,mean,1.0\n\
+3,5,GROUP,K1,longest,1\n\
+3,5,GROUP,K1,longest_red,0\n\
+3,5,GROUP,K1,seconds,1\n\
+3,5,GROUP,K1,share,33.3\n\
+3,5,GROUP,K1,first_green,3\n\
+3,5,GROUP,K1,reds,1\n\
+3,5,GROUP,K1,reds_ended,0\n\
+3,5,GROUP,K1,cycles,0\n\
+3,5,GROUP,K2,greens,0\n\
+3,5,GROUP,K2,ended,0\n\
+3,5,GROUP,K2,longest_red,4\n\
+3,5,GROUP,K2,longest_red_from,1\n\
+3,5,GROUP,K2,seconds,0\n\
+3,5,GROUP,K2,share,0.0\n\
+3,5,GROUP,K2,reds,0\n\
+3,5,GROUP,K2,reds_ended,1\n\
+3,5,GROUP,K2,shortest_red,4\n\
+3,5,GROUP,K2,mean_red,4.0\n\
+3,5,GROUP,K2,longest_ended_red,4\n\
+3,5,GROUP,K2,cycles,0\n\
+3,5,STAGE,1,times,0\n\
+3,5,STAGE,1,seconds,1\n\
+3,5,INTERSTAGE,1-2,times,1\n\
+3,5,INTERSTAGE,1-2,seconds,2\n\
+3,5,REFUSED,K2:Conflict:K1,times,1\n\
+3,5,REFUSED,K2:Conflict:K1,seconds,1\n\
+3,5,REFUSED,K2:Conflict:K1,longest_run,1\n\
+3,5,REFUSED,K2:Conflict:K1,longest_run_from,3\n\
+3,5,RULE,K2:Conflict,times,1\n\
+3,5,RULE,K2:Conflict,seconds,1\n\
+3,5,RULE,K2:Conflict,longest_run,1\n\
+3,5,RULE,K2:Conflict,longest_run_from,3\n\
+3,5,FAULT,Number@7,times,2\n\
+3,5,FAULT,Number@7,seconds,2\n\
+3,5,FAULT,Number@7,longest_run,2\n\
+3,5,FAULT,Number@7,longest_run_from,4\n\
+3,5,DETECTOR,2,vehicles,12\n\
+3,5,DETECTOR,2,occupied,3\n\
+3,5,DETECTOR,2,largest_headway,0\n\
+3,5,DETECTOR,2,headway_after,3\n\
+3,5,DETECTOR,3,vehicles,0\n\
+3,5,DETECTOR,3,occupied,0\n";
+
+#[test]
+fn three_of_six_seconds_are_a_table(rt: HostRuntime) -> Result<(), Fail> {
+    let told = call(rt.alloc(), &["sums", "l", "3", "5", "--csv"], LOG)?;
+    assert_eq!(rt; told.status, Status::Done);
+    assert_eq!(rt; told.out.bytes(), TABLE.as_bytes());
+    Ok(())
+}
+
+const MINUTES: &str = "PART 1-60\n\
+SECONDS 60\n\
+GROUP K1 greens:0 ended:0 longest_red:0 seconds:0 share:0.0 reds:1 reds_ended:0 cycles:0\n\
+STAGE 1 times:1 seconds:60\n\
+DETECTOR 1 vehicles:0 occupied:0\n\
+PART 61-62\n\
+SECONDS 2\n\
+GROUP K1 greens:1 ended:0 longest_red:60 longest_red_from:1 seconds:2 share:100.0 first_green:61 \
+reds:0 reds_ended:1 shortest_red:60 mean_red:60.0 longest_ended_red:60 cycles:0\n\
+STAGE 1 times:0 seconds:2\n\
+DETECTOR 1 vehicles:1 occupied:2 largest_headway:0 headway_after:61\n";
+
+// A minute of red, and two seconds of green, in the first of which a vehicle comes.
+fn minutes(alloc: Global) -> Result<String, AllocError> {
+    let mut log = String::from_str(alloc, "VAPLOG 1 K1\n")?;
+    for second in 1u32..61 {
+        write!(log, "{second}|S1|R|-|-|-\n")?;
+    }
+    log.push_str("61|S1|G|1:1:0|-|-\n62|S1|G|-|-|-\n")?;
+    Ok(log)
+}
+
+#[test]
+fn the_minutes_of_a_log_add_up(rt: HostRuntime) -> Result<(), Fail> {
+    let log = minutes(rt.alloc())?;
+    let told = call(rt.alloc(), &["sums", "l", "--each", "60"], log.as_str())?;
+    assert_eq!(rt; told.status, Status::Done);
+    assert_eq!(rt; told.out.bytes(), MINUTES.as_bytes());
+    Ok(())
+}
