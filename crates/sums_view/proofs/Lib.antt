@@ -1,3 +1,4 @@
 pub mod Reading
 pub mod Calls
 pub mod PartReading
+pub mod Few

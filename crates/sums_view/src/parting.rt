@@ -19,7 +19,7 @@ use std::alloc::Global;
 
 // All parts, where the log ends.
 fn whole(parts: PartSums) -> Result<Vec<LogSums>, Stop>
-    ensures parts { IfOk result (λ v. (groups from each to : ℕ) (records : List Record) → 1 ≤ each → PartsUpTo groups from each to records parts.entry →
+    ensures parts { IfOk result (λ v. (groups from each to : ℕ) (records : List Record) → 1 ≤ each → PartsUpTo groups from each to records parts →
         AreParts groups from each to records v.items) }
     ensures memory { IfErr result (λ stop. stop ≡ Stop.Memory) }
 {

@@ -1,4 +1,4 @@
-use Rattle.std.proofs.Common.{◌≡◌, ◌∙◌, [], refl, ap, sym, subst}
+use Rattle.std.proofs.Common.{◌≡◌, ◌∙◌, [], ℕ, List, Option, refl, ap, sym, subst}
 use Rattle.std.specs.Prelude.{MatchOption}
 use Rattle.log_records.specs.Answers.{Reads, name_of, names_of}
 use Rattle.sums_view.specs.Call.{IsTextOf, IsOfParts, IsWhole, written_parts}
@@ -22,12 +22,13 @@ returns-in-Ok-add_up_parts-clause-answered g c file told =
     let begun : Reads first (file form.log.now) [] = c.in-Ok.ensures.opened file told in
     let is : ArePartsIn (names_of first) (file form.log.now) form.from c.args.each form.to parts =
     rw named at (c.in-Ok-add_up_parts.ensures.parting file (c.in-Ok.ensures.contents_stay ∙ told) (rw (← named) at begun)) in
-    let of_parts : IsOfParts (asked_in form) c.args.each file (written_parts form.csv c.names.result.now parts) = record {
+    let text : List ℕ = written_parts form.csv c.names.result.now parts in
+    let of_parts : IsOfParts (asked_in form) c.args.each file text = record {
       names = names_of first;
       parts = parts;
       parts_are = is;
       text_is = ap (λ names. written_parts form.csv names parts) (c.names.ensures.names ∙ c.in-Ok-add_up_parts.ensures.names);
     } in
-    let text_of : IsTextOf (asked_in form) file (written_parts form.csv c.names.result.now parts) =
-    subst (λ each. MatchOption each (IsWhole (asked_in form) file _) (λ n. IsOfParts (asked_in form) n file _)) (sym c.requires.each) of_parts in
-    answered (asked_in form) file (written_parts form.csv c.names.result.now parts) c.write_parts.result _ _ text_of c.write_parts.ensures.written
+    let text_of : IsTextOf (asked_in form) file text =
+    subst (λ (each : Option ℕ). MatchOption each (IsWhole (asked_in form) file text) (λ n. IsOfParts (asked_in form) n file text)) (sym c.requires.each) of_parts in
+    answered (asked_in form) file text c.write_parts.result _ _ text_of (rw c.deref.ensures.value at c.write_parts.ensures.written)

@@ -1,4 +1,4 @@
-use Rattle.std.proofs.Common.{◌≡◌, ◌∙◌, [], refl, ap, sym, subst}
+use Rattle.std.proofs.Common.{◌≡◌, ◌∙◌, [], ℕ, List, Option, refl, ap, sym, subst}
 use Rattle.std.specs.Prelude.{MatchOption}
 use Rattle.log_records.specs.Answers.{Reads, name_of, names_of}
 use Rattle.sums_view.specs.Call.{IsTextOf, IsOfParts, IsWhole, written_text}
@@ -22,12 +22,13 @@ returns-in-Ok-add_up-clause-answered g c file told =
     let begun : Reads first (file form.log.now) [] = c.in-Ok.ensures.opened file told in
     let is : AreSumsIn (names_of first) (file form.log.now) form.from form.to sums =
     rw named at (c.in-Ok-add_up.ensures.summing file (c.in-Ok.ensures.contents_stay ∙ told) (rw (← named) at begun)) in
-    let whole : IsWhole (asked_in form) file (written_text form.csv c.names.result.now sums) = record {
+    let text : List ℕ = written_text form.csv c.names.result.now sums in
+    let whole : IsWhole (asked_in form) file text = record {
       names = names_of first;
       sums = sums;
       sums_are = is;
       text_is = ap (λ names. written_text form.csv names sums) (c.names.ensures.names ∙ c.in-Ok-add_up.ensures.names);
     } in
-    let text_of : IsTextOf (asked_in form) file (written_text form.csv c.names.result.now sums) =
-    subst (λ each. MatchOption each (IsWhole (asked_in form) file _) (λ n. IsOfParts (asked_in form) n file _)) (sym c.requires) whole in
-    answered (asked_in form) file (written_text form.csv c.names.result.now sums) c.write_sums.result _ _ text_of c.write_sums.ensures.written
+    let text_of : IsTextOf (asked_in form) file text =
+    subst (λ (each : Option ℕ). MatchOption each (IsWhole (asked_in form) file text) (λ n. IsOfParts (asked_in form) n file text)) (sym c.requires) whole in
+    answered (asked_in form) file text c.write_sums.result _ _ text_of c.write_sums.ensures.written
