@@ -21,13 +21,7 @@ fn put_stay_rows<O: Sink>(draft: &mut Draft, sink: &mut O, lead: &Lead<'_>, coun
         (row_text (lead_text lead.now) (codes ",times,") counts.now.begun.count
         ++ row_text (lead_text lead.now) (codes ",seconds,") counts.now.times.count) }
 {
-    put_row(
-        draft,
-        sink,
-        lead,
-        b",times,",
-        u64::from(counts.begun.count),
-    );
+    put_row(draft, sink, lead, b",times,", u64::from(counts.begun.count));
     put_row(
         draft,
         sink,
