@@ -1,8 +1,9 @@
-// Reads a log into columns, piece by piece. It refuses what log_report refuses, in the same order and words.
+// Reads a log into columns, piece by piece, up to a watcher's line. It refuses what log_report does, in its order and words.
 "use strict";
 
 const SPACE = 32, PLUS = 43, DASH = 45, COLON = 58, BAR = 124, FEED = 10, ZERO = 48, LETTER_I = 73, LETTER_S = 83;
 const TEXT = new TextDecoder("latin1"); // one letter for each byte
+const WATCH = Uint8Array.from("WATCH ", (letter) => letter.charCodeAt(0));
 
 /** A typed array that grows. */
 class Column {
@@ -45,6 +46,12 @@ function findByte(b, byte, from, to) {
 }
 
 const isDash = (b, from, to) => to - from === 1 && b[from] === DASH;
+
+// Whether the line is a watcher's, which stands behind a log.
+function isWatch(b, from, to) {
+  for (let i = 0; i < WATCH.length; i++) if (from + i >= to || b[from + i] !== WATCH[i]) return false;
+  return to - from <= LONGEST_LINE;
+}
 const stageIn = (text) => (/^([1-9]|[12][0-9]|3[0-2])$/.test(text) ? Number(text) : 0);
 
 // A refused command, as its rule and its groups or stages; null where the text is none.
@@ -72,6 +79,7 @@ function refusalsIn(text, groups) {
 class LogReader {
   constructor() {
     this.lines = 0; // lines read, and so the second that comes next
+    this.over = false; // a watcher's line was read, and nothing behind it is
     this.before = 0; // bytes before the piece that is read
     this.rest = new Uint8Array(0); // the beginning of a line whose end has not come
     this.bars = new Int32Array(5);
@@ -83,23 +91,24 @@ class LogReader {
   }
 
   feed(piece) {
+    if (this.over) return;
     let bytes = piece, at = 0;
     if (this.rest.length > 0) {
       bytes = new Uint8Array(this.rest.length + piece.length);
       bytes.set(this.rest);
       bytes.set(piece, this.rest.length);
     }
-    for (let end = bytes.indexOf(FEED); end >= 0; end = bytes.indexOf(FEED, at)) {
+    for (let end = bytes.indexOf(FEED); end >= 0 && !this.over; end = bytes.indexOf(FEED, at)) {
       this.line(bytes, at, end);
       at = end + 1;
     }
     this.rest = bytes.slice(at);
     this.before += at;
-    if (this.rest.length > LONGEST_LINE) this.line(this.rest, 0, this.rest.length);
+    if (!this.over && this.rest.length > LONGEST_LINE) this.line(this.rest, 0, this.rest.length);
   }
 
   end() {
-    if (this.rest.length > 0) this.line(this.rest, 0, this.rest.length);
+    if (!this.over && this.rest.length > 0) this.line(this.rest, 0, this.rest.length);
     if (this.lines === 0) throw new Refusal(1, "Header");
     return {
       names: this.names, seconds: this.lines - 1, ...doneColumns(this.seconds), ...doneColumns(this.counts),
@@ -108,6 +117,8 @@ class LogReader {
   }
 
   line(b, from, to) {
+    this.over = isWatch(b, from, to);
+    if (this.over) return;
     const why = this.lines === MOST_LINES ? "TooManySeconds" : to - from > LONGEST_LINE ? "LineTooLong"
       : this.lines === 0 ? this.takeHeader(TEXT.decode(b.subarray(from, to))) : this.takeRecord(b, from, to);
     const begin = () => TEXT.decode(b.subarray(from, Math.min(to, from + 200)));

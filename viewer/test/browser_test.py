@@ -228,12 +228,18 @@ class Browser(unittest.TestCase):
 
     def test_the_beginning_of_a_refused_log(self):
         page = self.page()
-        page.take_text("live.log", b"VAPLOG 1 K1\n1|S1|R|-|-|-\n2|S1|G|-|-|-\nWATCH 1 1 R\n")
-        self.assertTrue(page.text("message").startswith("live.log: 4: Fields."))
+        page.take_text("cut.log", b"VAPLOG 1 K1\n1|S1|R|-|-|-\n2|S1|G|-|-|-\n3|S1|G|-|-\n")
+        self.assertTrue(page.text("message").startswith("cut.log: 4: Fields."))
         page.call("document.querySelector('#message button').click()")
         page.rest()
         remark = "line 4 is refused (Fields), and what stands before it is shown"
-        self.assertEqual(page.text("about"), f"live.log: 2 seconds, 1 group; {remark}")
+        self.assertEqual(page.text("about"), f"cut.log: 2 seconds, 1 group; {remark}")
+
+    def test_a_log_with_watchers(self):
+        page = self.page()
+        page.take_text("live.log", b"VAPLOG 1 K1\n1|S1|R|-|-|-\n2|S1|G|-|-|-\nWATCH 1 1 R\n")
+        self.assertEqual(page.text("about"), "live.log: 2 seconds, 1 group")
+        self.assertEqual(page.text("message"), "")
 
     def test_a_log_of_one_second(self):
         page = self.page()

@@ -10,13 +10,14 @@ const all = (texts, wanted, logOf) => texts.map((text) => [logOf(text), wanted])
 const headers = [
   ...all(["", "\n", "VAPLOG 1\n", "VAPLOG 1 \n", "VAPLOG 2 K1\n", "VAPLOG 1 K1 k1\n", "VAPLOG 1 K1  K2\n", "VAPLOG 1 K1\r\n",
     "\xef\xbb\xbfVAPLOG 1 K1\n", "JUNCTION 1 0\n", `VAPLOG 1 ${names(65)}\n`, `VAPLOG 1 ${"a".repeat(33)}\n`,
-    "VAPLOG 1 <img>\n", "VAPLOG 1 1K\n"], "1: Header", (text) => text),
+    "VAPLOG 1 <img>\n", "VAPLOG 1 1K\n", "WATCH 1 1 RR\n", `WATCH 1 1 RR\n${HEADER}`], "1: Header", (text) => text),
   ...all([`VAPLOG 1 ${names(64)}\n`, `VAPLOG 1 ${"a".repeat(32)}\n`, HEADER, HEADER.trim()], "accepted", (text) => text),
 ];
 const lines = [
   ...all([RECORD, RECORD.trim()], "accepted", (text) => HEADER + text),
   ...all(["\n", "1|S1|RR|-|-\n", "7|S9x|Q|x|x\n", "x".repeat(262144)], "2: Fields", (text) => HEADER + text),
-  ...all(["\n", "WATCH 1 1 RR\n"], "3: Fields", (text) => HEADER + RECORD + text),
+  ...all(["\n", "WATCH\n", " WATCH 1 1 RR\n", "watch 1 1 RR\n", "WATCHER 1 1 RR\n"], "3: Fields",
+    (text) => HEADER + RECORD + text),
   ...all(["2", "01", "", "-1", "1 "], "2: Second", (text) => `${HEADER}${text}|S1|RR|-|-|-\n`),
   [HEADER + RECORD + RECORD, "3: Second"],
   [`${HEADER}${"x".repeat(262145)}\n`, "2: LineTooLong"],
@@ -26,6 +27,15 @@ const lines = [
   [`${HEADER}1|S1|Q|x|x|x\n`, "2: Aspects"],
   [`${HEADER}1|S1|RR|x|x|x\n`, "2: Counts"],
   [`${HEADER}1|S1|RR|-|x|x\n`, "2: Refused"],
+];
+
+// From a watcher's line on nothing is read.
+const watched = [
+  ...all(["WATCH 1 1 RR\n", "WATCH ", "WATCH 1 1 RR\nWATCH 2 0 RR\n", `WATCH 1 1 RR\n${RECORD}`, `WATCH \n\n${HEADER}`,
+    `WATCH \n${"x".repeat(300000)}\n`, `WATCH ${"x".repeat(262138)}\n`], "accepted", (text) => HEADER + RECORD + text),
+  [`${HEADER}WATCH 1 0 RR\n`, "accepted"],
+  [`${HEADER}WATCH ${"x".repeat(262139)}\n`, "2: LineTooLong"],
+  [`${HEADER}1|S9x|Q|x|x|x\nWATCH 1 1 RR\n`, "2: Stage"],
 ];
 
 const place = (text) => `${HEADER}1|${text}|RR|-|-|-\n`, letters = (text) => `${HEADER}1|S1|${text}|-|-|-\n`;
@@ -65,4 +75,4 @@ function casesOfTheGate(folder) {
   ];
 }
 
-module.exports = { hostile: [...headers, ...lines, ...fields], casesOfTheGate, HEADER };
+module.exports = { hostile: [...headers, ...lines, ...watched, ...fields], casesOfTheGate, HEADER };

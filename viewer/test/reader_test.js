@@ -45,6 +45,7 @@ test("a week is accepted, and one second more refused", () => {
   const week = HEADER + Array.from({ length: 604801 }, (_, k) => `${k + 1}|S1|RR|-|-|-\n`).join("");
   const refusal = (more) => refusalOf(() => readLog(bytesOf(week + more)));
   assert.strictEqual(refusal(""), "accepted");
+  assert.strictEqual(refusal("WATCH 1 604801 RR\n"), "accepted");
   assert.strictEqual(refusal("604802|S1|RR|-|-|-\n"), "604803: TooManySeconds");
   assert.strictEqual(refusal(`${"x".repeat(300000)}\n`), "604803: TooManySeconds");
 });
@@ -52,13 +53,20 @@ test("a refusal tells how many bytes stand before its line, and these are accept
   const accepted = `${HEADER}1|S1|RR|-|-|-\n2|S1|RR|-|-|-\n`;
   for (const piece of [1, 5, 40, 1000]) {
     try {
-      readLog(bytesOf(`${accepted}WATCH 1 1 RR\n`), piece);
+      readLog(bytesOf(`${accepted}3|S1|RR|-|-\n`), piece);
       assert.fail();
     } catch (error) {
-      assert.deepStrictEqual([error.before, error.text], [accepted.length, "WATCH 1 1 RR"]);
+      assert.deepStrictEqual([error.before, error.text], [accepted.length, "3|S1|RR|-|-"]);
     }
   }
   assert.strictEqual(readLog(bytesOf(accepted)).seconds, 2);
+});
+test("a log is read up to the first line of a watcher", () => {
+  const log = `${HEADER}1|S1|RR|-|-|-\n2|S1|RG|-|-|-\n`;
+  for (const piece of [1, 5, 40, 1000]) {
+    const watched = readLog(bytesOf(`${log}WATCH 1 2 RG\nWATCH 2 0 RR\n3|S1|RR|-|-|-\n`), piece);
+    assert.deepStrictEqual(JSON.stringify(watched), JSON.stringify(readLog(bytesOf(log))));
+  }
 });
 test("jumps lead to the next and to the one before", () => {
   const log = readLog(fs.readFileSync(path.join(examples, "four_arms", "log.txt")));

@@ -9,4 +9,5 @@ pub mod PlanPlaces
 pub mod RunRecords
 pub mod WrittenLogs
 pub mod LiveFrames
+pub mod WatchedTexts
 pub mod LiveLogs

@@ -11,10 +11,14 @@ use Rattle.junction_run.specs.declared.status.Status.TheVariants as status
 use Rattle.junction_run.specs.Answer.{Gains, answered, unloaded_answer}
 use Rattle.junction_run.specs.Form.{ProgramFile, SiteWords}
 use Rattle.junction_run.specs.Loading.{LoadsProgram, Playing, Refused, TooLong, Unloaded}
-use Rattle.junction_live.specs.Answer.{IsWholeText, frames_answer, live_answer}
+use Rattle.junction_run.specs.Records.{records_of}
+use Rattle.junction_live.specs.Answer.{IsWholeText, Meets, frames_answer, live_answer}
+use Rattle.junction_live.specs.Form.{LiveWords}
+use Rattle.log_view.specs.Laws.{IsLoggedRun}
 use Rattle.log_laws.specs.Laws.{IsReadWhole}
-use Rattle.log_laws.specs.LiveLaws.{LiveLogsAreReadWhole}
+use Rattle.log_laws.specs.LiveLaws.{LiveLogsAreReadWhole, LiveTextsAreReadWhole}
 use Rattle.log_laws.proofs.LiveFrames.{live_frames_loggable}
+use Rattle.log_laws.proofs.WatchedTexts.{read_as, whole_told}
 use Rattle.log_laws.proofs.WrittenLogs.{log_read, source_logged}
 
 -- ---- what out gained
@@ -37,27 +41,42 @@ unloaded_is_not_done (TooLong w) done = cc
 unloaded_is_not_done (Refused w line reason) done = cc
 
 module _ (keeps : KeepsParsed) (program : List ℕ) (words : SiteWords) (file : Contents) (watchers : ℕ) where
-  -- the log in a whole text is read whole
+  -- the log in a whole text is that of a run
+  whole_run : (playing : Playing) (frames : List Counts) (text : List ℕ) → AreFrames frames → LoadsProgram program words file (Ok playing) →
+      (whole : IsWholeText watchers playing frames text) → IsLoggedRun playing.site.plan.names (records_of playing whole.whole.made)
+  whole_run playing frames text are loads whole =
+      let log = whole.whole in
+      let loggable = live_frames_loggable frames are log.made log.sums log.printable log.count in
+      source_logged keeps (ProgramFile program) words file playing log.made loggable loads
+
+  -- it is read whole
   whole_read : (playing : Playing) (frames : List Counts) (text : List ℕ) → AreFrames frames → LoadsProgram program words file (Ok playing) →
       (whole : IsWholeText watchers playing frames text) → IsReadWhole playing whole.whole.made whole.log
   whole_read playing frames text are loads whole =
       let log = whole.whole in
-      let loggable = live_frames_loggable frames are log.made log.sums log.printable log.count in
-      let run = source_logged keeps (ProgramFile program) words file playing log.made loggable loads in
-      subst (IsReadWhole playing log.made) (sym log.text_is) (log_read playing log.made run)
+      subst (IsReadWhole playing log.made) (sym log.text_is) (log_read playing log.made (whole_run playing frames text are loads whole))
+
+  -- and so is the text as it
+  text_read : (playing : Playing) (frames : List Counts) (text : List ℕ) → AreFrames frames → LoadsProgram program words file (Ok playing) →
+      (whole : IsWholeText watchers playing frames text) → IsReadWhole playing whole.whole.made text
+  text_read playing frames text are loads whole =
+      read_as playing whole.whole.made whole.log text
+      (whole_told watchers playing frames text whole (whole_run playing frames text are loads whole))
+      (whole_read playing frames text are loads whole)
 
   -- what was written, over these frames
   abbrev WritesWhole : List Counts → Option (List ℕ) → Option (List ℕ) → Type 0
   WritesWhole frames old new =
       (playing : Playing) × LoadsProgram program words file (Ok playing)
       × ((text : List ℕ) × (new ≡ append_known old text)
-      × ((whole : IsWholeText watchers playing frames text) × IsReadWhole playing whole.whole.made whole.log))
+      × ((whole : IsWholeText watchers playing frames text)
+      × IsReadWhole playing whole.whole.made whole.log × IsReadWhole playing whole.whole.made text))
 
   written_of : (playing : Playing) (frames : List Counts) (old new : Option (List ℕ)) → AreFrames frames →
       LoadsProgram program words file (Ok playing) → (text : List ℕ) × IsWholeText watchers playing frames text × (new ≡ append_known old text) →
       WritesWhole frames old new
   written_of playing frames old new are loads (text, whole, gained) =
-      (playing, loads, (text, gained, (whole, whole_read playing frames text are loads whole)))
+      (playing, loads, (text, gained, (whole, whole_read playing frames text are loads whole, text_read playing frames text are loads whole)))
 
   written_by : (detectors : List ℕ) (stream : Stream) (r : Result Playing Unloaded) (old new : Option (List ℕ)) → AreFrames stream.frames →
       LoadsProgram program words file r → (answered (live_answer watchers detectors stream) r).status ≡ status.Done →
@@ -68,7 +87,18 @@ module _ (keeps : KeepsParsed) (program : List ℕ) (words : SiteWords) (file : 
       (whole_gained watchers detectors playing stream.frames stream.refusal old new done gains)
   written_by detectors stream (Err u) old new are loads done gains = absurd (unloaded_is_not_done u done)
 
-pub live_logs_are_read_whole : KeepsParsed → LiveLogsAreReadWhole
-live_logs_are_read_whole keeps form file old new meets =
+written_whole : (keeps : KeepsParsed) (form : LiveWords) (file : Contents) (old new : Option (List ℕ)) → Meets form file status.Done old new →
+    WritesWhole keeps form.program form.site file form.watchers (stream_of (file form.detectors)).frames old new
+written_whole keeps form file old new meets =
     written_by keeps form.program form.site file form.watchers form.detectors (stream_of (file form.detectors)) meets.0 old new
     (streams_are_frames (file form.detectors)) meets.1 meets.2 meets.3
+
+pub live_logs_are_read_whole : KeepsParsed → LiveLogsAreReadWhole
+live_logs_are_read_whole keeps form file old new meets =
+    let written = written_whole keeps form file old new meets in
+    (written.0, written.1, (written.2.0, written.2.1, (written.2.2.0, written.2.2.1)))
+
+pub live_texts_are_read_whole : KeepsParsed → LiveTextsAreReadWhole
+live_texts_are_read_whole keeps form file old new meets =
+    let written = written_whole keeps form file old new meets in
+    (written.0, written.1, (written.2.0, written.2.1, (written.2.2.0, written.2.2.2)))

@@ -18,3 +18,12 @@ LiveLogsAreReadWhole =
     × ((text : List ℕ) × (new ≡ append_known old text)
     × ((whole : IsWholeText form.watchers playing (stream_of (file form.detectors)).frames text)
     × IsReadWhole playing whole.whole.made whole.log))
+
+-- and the whole of what it writes is read as that log, also where lines of watchers stand behind it
+abbrev pub LiveTextsAreReadWhole : Type 0
+LiveTextsAreReadWhole =
+    (form : LiveWords) (file : Contents) (old new : Option (List ℕ)) → Meets form file status.Done old new →
+    (playing : Playing) × Loads form file (Ok playing)
+    × ((text : List ℕ) × (new ≡ append_known old text)
+    × ((whole : IsWholeText form.watchers playing (stream_of (file form.detectors)).frames text)
+    × IsReadWhole playing whole.whole.made text))

@@ -1,7 +1,7 @@
 //! What follows from the definitions of a run's answer and of the log that is read: the law is a function whose contract
 //! states it.
 ghost use Rattle.log_laws.specs.Laws.{LoadedRunsAreLogged, WrittenLogsAreReadWhole};
-ghost use Rattle.log_laws.specs.LiveLaws.{LiveLogsAreReadWhole};
+ghost use Rattle.log_laws.specs.LiveLaws.{LiveLogsAreReadWhole, LiveTextsAreReadWhole};
 
 use vap_check::readings_keep_trees;
 
@@ -17,9 +17,10 @@ pub fn run_logs_are_read_whole()
 }
 
 /// What `live` writes with status 0 begins with a log that is read back whole in the same way, as the records of the run over
-/// the frames that its seconds had. Behind it stands a line for each watcher.
+/// the frames that its seconds had. Behind it stands a line for each watcher; with these lines the text is read as that log.
 pub fn live_logs_are_read_whole()
-    ensures { LiveLogsAreReadWhole }
+    ensures logs { LiveLogsAreReadWhole }
+    ensures texts { LiveTextsAreReadWhole }
 {
     readings_keep_trees();
 }

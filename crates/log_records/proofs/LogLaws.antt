@@ -1,5 +1,5 @@
 -- Every text has one answer.
-use Rattle.std.proofs.Common.{◌≡◌, ◌∙◌, ℕ, suc, zero, ◌+◌, ◌-◌, ◌<◌, ◌≤◌, List, [], ◌∷◌, ◌++◌, length, get_or, Option, None, Some, is_none, refl, sym, ap, arith, inl, inr, ◌⊎◌}
+use Rattle.std.proofs.Common.{◌≡◌, ◌∙◌, ℕ, suc, zero, ◌+◌, ◌-◌, ◌<◌, ◌≤◌, false, List, [], ◌∷◌, ◌++◌, length, get_or, Option, None, Some, is_none, refl, sym, ap, arith, inl, inr, ◌⊎◌}
 use Rattle.std.proofs.lemmas.Bool.{cases_lt, le-leb, lt-leb, lt-ltb}
 use Rattle.std.specs.Option.{option_or}
 use Rattle.std.proofs.lemmas.List.{ext_get_or}
@@ -11,13 +11,15 @@ use Rattle.sig_types.specs.declared.refused.StageRefusal.{StageRefusal}
 use Rattle.sig_types.specs.declared.refused.TurnRefusal.{TurnRefusal}
 use Rattle.sig_types.specs.Counts.{Counts}
 use Rattle.sig_types.specs.Turns.{Picture}
-use Rattle.sig_types.specs.Text.{fed_lines, number_of, within}
+use Rattle.sig_types.specs.Text.{number_of, within}
 use Rattle.sig_types.specs.FirstRefused.{when}
 use Rattle.log_records.specs.declared.refusal.LogWhy.{LogWhy}
 use Rattle.log_records.specs.declared.refusal.LogWhy.TheVariants as why
 use Rattle.log_records.specs.Fields.{Fields, fault_in, fields_of, frame_in, names_in, picture_in, place_in, refused_in}
 use Rattle.log_records.specs.Records.{IsEntry, fields_reason, record_reason}
+use Rattle.log_records.specs.Watchers.{is_watch, told_lines}
 use Rattle.log_records.specs.Log.{HasRecords, IsLog, LinesTell, form_reason, line_at, line_reason, reason_at}
+use Rattle.log_records.proofs.WatcherLemmas.{header_unwatched, record_unwatched}
 use Rattle.log_records.proofs.LogLemmas.{by_form, ended, header_read, no_header, none_read, record_form, record_read, refused_line, too_long, too_many}
 
 some_names : (p q : List (List ℕ)) → Some p ≡ Some q → p ≡ q
@@ -160,7 +162,7 @@ tell_one names others lines rs ss (Some a) (Some b) p q =
     (same_records names others lines rs ss _ _ place p.0 q.0, ap (λ (n : ℕ). Some (n, a.1)) number ∙ ap (λ (w : LogWhy). Some (b.0, w)) reason)
 
 pub one_answer : (names others : List (List ℕ)) (bytes : List ℕ) (rs ss : List Record) (p q : Option (ℕ × LogWhy)) → IsLog names bytes rs p → IsLog others bytes ss q → (rs ≡ ss) × (p ≡ q)
-one_answer names others bytes rs ss p q told said = tell_one names others (fed_lines bytes) rs ss p q told said
+one_answer names others bytes rs ss p q told said = tell_one names others (told_lines bytes) rs ss p q told said
 
 -- lines that are all accepted are some
 some_lines : (names lines : List (List ℕ)) → reason_at names lines (length lines) ≡ None → 1 ≤ length lines
@@ -169,8 +171,8 @@ some_lines names (x ∷ xs) none = omega arith
 
 pub one_header : (names others : List (List ℕ)) (bytes : List ℕ) (rs ss : List Record) → IsLog names bytes rs None → IsLog others bytes ss None → names ≡ others
 one_header names others bytes rs ss p q =
-    let some = some_lines names (fed_lines bytes) p.1 in
-    same_names names others (fed_lines bytes) rs ss (length (fed_lines bytes)) (length (fed_lines bytes)) p.0 q.0 some some
+    let some = some_lines names (told_lines bytes) p.1 in
+    same_names names others (told_lines bytes) rs ss (length (told_lines bytes)) (length (told_lines bytes)) p.0 q.0 some some
 
 -- a part that isn't wanting
 there : {A : Type 0} (o : Option A) (w : LogWhy) (rest : Option LogWhy) → option_or (when (is_none o) w) rest ≡ None → ((x : A) × (o ≡ Some x)) × (rest ≡ None)
@@ -243,6 +245,15 @@ by_names line (Some names) is none = (names, is)
 has_names : (line : List ℕ) → line_reason [] 0 line ≡ None → (names : List (List ℕ)) × (names_in line ≡ Some names)
 has_names line none = by_names line (names_in line) refl (accepted_form [] 0 line none)
 
+-- a line that isn't refused is no watcher's
+pub accepted_unwatched : (names : List (List ℕ)) (k : ℕ) (line : List ℕ) → line_reason names k line ≡ None → is_watch line ≡ false
+accepted_unwatched names zero line none =
+    let found = has_names line (first_form [] names line ∙ none) in
+    header_unwatched found.0 line found.1
+accepted_unwatched names (suc k) line none =
+    let found = has_entry names (suc k) line (omega arith) none in
+    record_unwatched names (suc k) line found.0 found.1
+
 -- the records of the first n lines, or an answer
 abbrev SoFar : List (List ℕ) → List (List ℕ) → ℕ → Type 0
 SoFar names lines n = ((rs : List Record) × HasRecords names lines n rs) ⊎ ((rs : List Record) × ((p : Option (ℕ × LogWhy)) × LinesTell names lines rs p))
@@ -280,7 +291,7 @@ tell_first lines some None is =
     (found.0, tell_behind found.0 lines some (header_read found.0 lines some found.1 (first_form found.0 [] (line_at lines 0) ∙ is)))
 
 pub some_answer : (bytes : List ℕ) → (names : List (List ℕ)) × ((rs : List Record) × ((p : Option (ℕ × LogWhy)) × IsLog names bytes rs p))
-some_answer bytes = elim (cases_lt 0 (length (fed_lines bytes))) [
-  | inl some ↦ tell_first (fed_lines bytes) some (line_reason [] 0 (line_at (fed_lines bytes) 0)) refl
-  | inr none ↦ ([], ([], (Some (1, why.Header), no_header [] (fed_lines bytes) [] (none_read [] (fed_lines bytes)) none)))
+some_answer bytes = elim (cases_lt 0 (length (told_lines bytes))) [
+  | inl some ↦ tell_first (told_lines bytes) some (line_reason [] 0 (line_at (told_lines bytes) 0)) refl
+  | inr none ↦ ([], ([], (Some (1, why.Header), no_header [] (told_lines bytes) [] (none_read [] (told_lines bytes)) none)))
 ]

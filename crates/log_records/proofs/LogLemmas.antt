@@ -10,15 +10,15 @@ use Rattle.std.specs.Option.{option_or}
 use Rattle.sig_types.specs.Text.{is_empty, fed_lines, lines_of_parts}
 use Rattle.sig_types.specs.declared.record.Record.{Record}
 use Rattle.line_reader.specs.Unread.{BeginsWith}
-use Rattle.sig_types.specs.FirstRefused.{when}
+use Rattle.sig_types.specs.FirstRefused.{first_reason, when}
 use Rattle.log_records.specs.declared.refusal.LogWhy.{LogWhy}
 use Rattle.log_records.specs.declared.refusal.LogWhy.TheVariants as why
 use Rattle.log_records.specs.Fields.{names_in}
 use Rattle.log_records.specs.Records.{IsEntry, record_reason}
-use Rattle.log_records.specs.Log.{HasRecords, LinesTell, form_reason, line_at, line_reason}
+use Rattle.log_records.specs.Log.{HasRecords, LinesTell, form_reason, limit_reason, line_at, line_reason}
 
 -- the lines of a text, by its first one
-more_parts : (x : List ℕ) (parts : List (List ℕ)) → 0 < length parts → lines_of_parts (x ∷ parts) ≡ x ∷ lines_of_parts parts
+pub more_parts : (x : List ℕ) (parts : List (List ℕ)) → 0 < length parts → lines_of_parts (x ∷ parts) ≡ x ∷ lines_of_parts parts
 more_parts x [] lt = absurd (omega arith)
 more_parts x (y ∷ more) lt = refl
 
@@ -38,22 +38,44 @@ pub no_lines : fed_lines [] ≡ []
 unfolding fed_lines
 no_lines = refl
 
--- the first reason to refuse a line
-pub too_many : (names : List (List ℕ)) (k : ℕ) (line : List ℕ) → 604802 ≤ k → line_reason names k line ≡ Some why.TooManySeconds
-unfolding line_reason
-too_many names k line le = rw (le-leb 604802 k le) refl
+-- the first reason to refuse a line, whatever it says
+pub many_limited : (k : ℕ) (line : List ℕ) → 604802 ≤ k → limit_reason k line ≡ Some why.TooManySeconds
+unfolding limit_reason
+many_limited k line le = rw (le-leb 604802 k le) refl
 
-pub too_long : (names : List (List ℕ)) (k : ℕ) (line : List ℕ) → k < 604802 → 262144 < length line → line_reason names k line ≡ Some why.LineTooLong
-unfolding line_reason
-too_long names k line few long = rw (lt-leb 604802 k few, lt-ltb 262144 (length line) long) refl
+pub long_limited : (k : ℕ) (line : List ℕ) → k < 604802 → 262144 < length line → limit_reason k line ≡ Some why.LineTooLong
+unfolding limit_reason
+long_limited k line few long = rw (lt-leb 604802 k few, lt-ltb 262144 (length line) long) refl
+
+pub not_limited : (k : ℕ) (line : List ℕ) → k < 604802 → length line ≤ 262144 → limit_reason k line ≡ None
+unfolding limit_reason
+not_limited k line few short = rw (lt-leb 604802 k few, le-ltb 262144 (length line) short) refl
 
 last_reason : (o : Option LogWhy) → option_or o None ≡ o
 last_reason None = refl
 last_reason (Some x) = refl
 
+-- a reason before all others, or none before the last
+pub limit_first : (limit form : Option LogWhy) (w : LogWhy) → limit ≡ Some w → first_reason (limit ∷ form ∷ []) ≡ Some w
+limit_first limit form w is = rw is refl
+
+pub form_last : (limit form : Option LogWhy) → limit ≡ None → first_reason (limit ∷ form ∷ []) ≡ form
+form_last limit form none = rw none (last_reason form)
+
+-- the first reason to refuse a line
+pub limited : (names : List (List ℕ)) (k : ℕ) (line : List ℕ) (w : LogWhy) → limit_reason k line ≡ Some w → line_reason names k line ≡ Some w
+unfolding line_reason
+limited names k line w is = limit_first (limit_reason k line) (form_reason names k line) w is
+
+pub too_many : (names : List (List ℕ)) (k : ℕ) (line : List ℕ) → 604802 ≤ k → line_reason names k line ≡ Some why.TooManySeconds
+too_many names k line le = limited names k line why.TooManySeconds (many_limited k line le)
+
+pub too_long : (names : List (List ℕ)) (k : ℕ) (line : List ℕ) → k < 604802 → 262144 < length line → line_reason names k line ≡ Some why.LineTooLong
+too_long names k line few long = limited names k line why.LineTooLong (long_limited k line few long)
+
 pub by_form : (names : List (List ℕ)) (k : ℕ) (line : List ℕ) → k < 604802 → length line ≤ 262144 → line_reason names k line ≡ form_reason names k line
 unfolding line_reason
-by_form names k line few short = rw (lt-leb 604802 k few, le-ltb 262144 (length line) short) (last_reason (form_reason names k line))
+by_form names k line few short = form_last (limit_reason k line) (form_reason names k line) (not_limited k line few short)
 
 -- the reason of a record
 pub record_form : (names : List (List ℕ)) (k : ℕ) (line : List ℕ) → 1 ≤ k → form_reason names k line ≡ record_reason names k line

@@ -1,16 +1,16 @@
 -- What a reader of a log stands for, and what it answers.
 use Rattle.std.specs.Prelude.{◌≡◌, ℕ, ◌-◌, Bool, true, false, List, [], ◌∷◌, ◌++◌, drop, Some, None, Result, Ok, Err}
 use Rattle.sig_types.specs.declared.record.Record.{Record}
-use Rattle.sig_types.specs.Text.{fed_lines}
-use Rattle.line_reader.specs.Unread.{name_in, unread_bytes}
 use Rattle.log_records.specs.declared.records.LogRecords.{LogRecords}
 use Rattle.log_records.specs.declared.refusal.LogStop.{LogStop}
 use Rattle.log_records.specs.declared.refusal.LogStop.TheVariants.{Memory, Fault, At}
+use Rattle.log_records.specs.Left.{file_of, lines_left}
 use Rattle.log_records.specs.Log.{HasRecords, IsLog}
+use Rattle.log_records.specs.Watchers.{told_lines}
 
 -- the name of the file
 unfoldable pub name_of : LogRecords → List ℕ
-name_of r = name_in r.reader
+name_of r = file_of r.reader
 
 -- the names of the groups
 unfoldable pub names_of : LogRecords → List (List ℕ)
@@ -30,8 +30,8 @@ is_live r = r.live
 
 -- these records were given of a log with these bytes, and the rest of its lines is left
 pub record HasRead (r : LogRecords) (bytes : List ℕ) (records : List Record) : Type 0 where
-  pub rest : fed_lines (unread_bytes r.reader bytes) ≡ drop r.lines (fed_lines bytes)
-  pub accepted : HasRecords r.names.items (fed_lines bytes) r.lines records
+  pub rest : lines_left r.reader bytes ≡ drop r.lines (told_lines bytes)
+  pub accepted : HasRecords r.names.items (told_lines bytes) r.lines records
 
 -- these records were given of a log with these bytes
 unfoldable pub Reads : LogRecords → List ℕ → List Record → Type 0

@@ -2,35 +2,31 @@
 ghost use Rattle.std.specs.Prelude.{◌≡◌, ℕ, ◌<◌, ◌≤◌, ◌*◌, ◌+◌, ◌-◌, List, true, false, Ok, Err, IfOk, is_ok, length};
 ghost use Rattle.std.specs.Option.{ForSome};
 ghost use Rattle.sig_io.specs.Outside.{Rose};
-ghost use Rattle.line_reader.specs.Unread.{bytes_given, longest_of};
+ghost use Rattle.log_records.specs.Left.{bytes_told};
 
 use crate::header::names_in;
 use crate::record::read_record;
 use crate::refusal::{LogStop, LogWhy};
-use crate::take::{refused, take_line};
-use line_reader::LineReader;
+use crate::take::{refused_at, take_line};
+use crate::told::ToldLines;
 use sig_io::Files;
 use sig_types::{
     Frame, Memory, Picture, Record, Second, ShortName, StagePlace, StageRefusals, TurnRefusals,
 };
 use std::alloc::Global;
 
-// The most bytes of a line.
-const LONGEST: usize = 262144;
-
 /// A reader of a log behind its header, before one of its records. It keeps one buffer, and the record that it gave last.
 #[derive(Drop)]
 pub struct LogRecords {
-    reader: LineReader,
+    reader: ToldLines,
     names: Vec<ShortName>,
     current: Record,
     lines: u32,
     live: bool,
-    ghost longest: { longest_of reader ≡ 262144 },
     ghost few: { length names.items ≤ 64 },
     ghost some: { 1 ≤ lines },
     ghost at_most: { lines ≤ 604802 },
-    ghost read_at_most: { live ≡ true → bytes_given reader ≤ 262145 * lines },
+    ghost read_at_most: { live ≡ true → bytes_told reader ≤ 262145 * lines },
 }
 
 // A record of no second.
@@ -68,18 +64,18 @@ impl LogRecords {
         ensures later { F.faults files.old ≤ F.faults files.new }
         ensures cause { result ≡ Err LogStop.Fault → Rose (F.faults files.old) (F.faults files.new) }
     {
-        let mut reader = match LineReader::make(alloc, name, LONGEST) {
+        let mut reader = match ToldLines::make(alloc, name) {
             Ok(reader) => reader,
             Err(_) => return Err(LogStop::Memory),
         };
         match take_line(&mut reader, 0, files) {
             Ok(true) => {}
-            Ok(false) => return Err(refused(0, LogWhy::Header)),
+            Ok(false) => return Err(refused_at(0, LogWhy::Header)),
             Err(stop) => return Err(stop),
         }
         let names = match names_in(alloc, reader.line()) {
             Ok(Some(names)) => names,
-            Ok(None) => return Err(refused(0, LogWhy::Header)),
+            Ok(None) => return Err(refused_at(0, LogWhy::Header)),
             Err(_) => return Err(LogStop::Memory),
         };
         match no_record(alloc, names.len() as u8) {
@@ -94,8 +90,8 @@ impl LogRecords {
         }
     }
 
-    /// Reads the next record: true where there is one, which is then lent, and false where the log has been read to its end. It
-    /// takes no memory.
+    /// Reads the next record: true where there is one, which is then lent, and false where the log has been read to its end, or to
+    /// the first watcher's line. It takes no memory.
     ///
     /// It answers `Fault` only where a read failed. After a refusal the reader isn't live, and can't be asked again. The files are to
     /// be the same in all calls.
@@ -133,7 +129,7 @@ impl LogRecords {
             &mut self.current,
         ) {
             Ok(()) => {}
-            Err(why) => return Err(refused(self.lines, why)),
+            Err(why) => return Err(refused_at(self.lines, why)),
         }
         self.lines += 1;
         self.live = true;

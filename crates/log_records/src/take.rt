@@ -2,18 +2,19 @@
 ghost use Rattle.std.specs.Prelude.{◌≡◌, ◌<◌, ◌≤◌, ◌+◌, ◌^◌, true, false, Ok, Err, OnOk};
 ghost use Rattle.std.specs.Option.{ForSome};
 ghost use Rattle.sig_io.specs.Outside.{Rose};
-ghost use Rattle.line_reader.specs.Unread.{bytes_given, longest_of, name_in, unread_bytes};
+ghost use Rattle.log_records.specs.Left.{bytes_told, file_of, lines_left};
 ghost use Rattle.log_records.specs.Taken.{IsTooLong, LineIsTaken};
 
 use crate::refusal::{LogStop, LogWhy};
-use line_reader::{LineReader, LineRefusal};
+use crate::told::ToldLines;
+use line_reader::LineRefusal;
 use sig_io::Files;
 
 // The most lines of a log: the header, and a record for each second of the longest run.
 const MOST: u32 = 604802;
 
 /// The refusal of the line that follows so many lines.
-pub fn refused(lines: u32, why: LogWhy) -> LogStop
+pub fn refused_at(lines: u32, why: LogWhy) -> LogStop
     requires { lines ≤ 604802 }
     ensures { result ≡ LogStop.At (lines + 1) why }
 {
@@ -35,23 +36,21 @@ fn too_long(lines: u32) -> LogWhy
     }
 }
 
-/// Takes the line that follows so many lines; false where none is left. It is not too long, and not one too many.
+/// Takes the line that follows so many lines of a log; false where none is left. It is not too long, and not one too many.
 pub fn take_line<F: Files>(
-    reader: &mut LineReader,
+    reader: &mut ToldLines,
     lines: u32,
     files: &mut F,
 ) -> Result<bool, LogStop>
-    requires longest { longest_of reader.old ≡ 262144 }
     requires lines { lines ≤ 604802 }
-    requires given { bytes_given reader.old < 2 ^ 61 }
+    requires given { bytes_told reader.old < 2 ^ 61 }
     ensures taken { ForSome (F.told files.old) (λ file.
-        LineIsTaken lines (unread_bytes reader.old (file (name_in reader.old))) reader.new (file (name_in reader.old)) result) }
+        LineIsTaken lines (lines_left reader.old (file (file_of reader.old))) reader.new (file (file_of reader.old)) result) }
     ensures below { result ≡ Ok true → lines < 604802 }
     ensures no_memory { result ≡ Err LogStop.Memory → ⊥ }
-    ensures given { OnOk result (bytes_given reader.new ≤ bytes_given reader.old + 262145) }
-    ensures none_given { result ≡ Ok false → bytes_given reader.new ≡ bytes_given reader.old }
-    ensures longest { longest_of reader.new ≡ 262144 }
-    ensures name { name_in reader.new ≡ name_in reader.old }
+    ensures given { OnOk result (bytes_told reader.new ≤ bytes_told reader.old + 262145) }
+    ensures none_given { result ≡ Ok false → bytes_told reader.new ≤ bytes_told reader.old }
+    ensures name { file_of reader.new ≡ file_of reader.old }
     ensures contents_stay { F.told files.new ≡ F.told files.old }
     ensures later { F.faults files.old ≤ F.faults files.new }
     ensures cause { result ≡ Err LogStop.Fault → Rose (F.faults files.old) (F.faults files.new) }
@@ -60,10 +59,10 @@ pub fn take_line<F: Files>(
         Ok(true) => {}
         Ok(false) => return Ok(false),
         Err(LineRefusal::Fault) => return Err(LogStop::Fault),
-        Err(LineRefusal::TooLong) => return Err(refused(lines, too_long(lines))),
+        Err(LineRefusal::TooLong) => return Err(refused_at(lines, too_long(lines))),
     }
     if lines == MOST {
-        return Err(refused(lines, LogWhy::TooManySeconds));
+        return Err(refused_at(lines, LogWhy::TooManySeconds));
     }
     Ok(true)
 }

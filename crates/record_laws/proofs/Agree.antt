@@ -4,14 +4,15 @@ use Rattle.std.proofs.lemmas.Bool.{cases_lt}
 use Rattle.std.proofs.lemmas.List.{get_or-map, length-map}
 use Rattle.sig_types.specs.declared.record.Record.{Record}
 use Rattle.sig_types.specs.Turns.{Picture}
-use Rattle.sig_types.specs.Text.{fed_lines}
 use Rattle.log_lines.specs.Form.{picture_in}
-use Rattle.log_lines.specs.Log.{line_at, line_reason}
+use Rattle.log_lines.specs.Log.{LinesTell as LinesTellPictures, line_at, line_reason}
 use Rattle.log_lines.proofs.LogLemmas.{ended, header_right, record_right}
 use Rattle.log_records.specs.Log.{HasRecords, LinesTell, line_reason as record_line_reason}
 use Rattle.log_records.specs.Records.{IsEntry}
+use Rattle.log_records.specs.Watchers.{told_lines}
 use Rattle.log_records.proofs.LogLemmas.{too_long, too_many}
-use Rattle.record_laws.specs.Laws.{FirstPicturesAgree, PicturesAgree, pictures_of}
+use Rattle.log_records.proofs.WatcherLemmas.{unwatched_told}
+use Rattle.record_laws.specs.Laws.{FirstPicturesAgree, PicturesAgree, UnwatchedPicturesAgree, pictures_of}
 use Rattle.record_laws.proofs.Headers.{header_same}
 use Rattle.record_laws.proofs.Lines.{picture_same}
 
@@ -81,6 +82,11 @@ some_line names (line ∷ more) records told = omega arith
 
 pub agree : PicturesAgree
 agree names bytes records told =
-    let lines = fed_lines bytes in
+    let lines = told_lines bytes in
     ended names lines (length lines) (pictures_of records) (first_agree names lines (length lines) records told.0) (omega arith)
     (some_line names lines records told)
+
+pub unwatched_agree : UnwatchedPicturesAgree
+unwatched_agree names bytes records each told =
+    subst (λ (lines : List (List ℕ)). LinesTellPictures names lines (pictures_of records) None) (unwatched_told bytes each)
+    (agree names bytes records told)

@@ -3,25 +3,17 @@ use Rattle.std.proofs.Common.{◌≡◌, ◌∙◌, ℕ, ◌==◌, ◌&&◌, Boo
 use Rattle.std.specs.Prelude.{if◌then◌else◌}
 use Rattle.std.specs.List.{flat_map, fold, join_with_byte, slice_split}
 use Rattle.std.specs.Str.{bytes_eq}
-use Rattle.std.specs.Option.{option_and_then}
 use Rattle.std.proofs.lemmas.List.Splits.{join_with_byte-slice_split, length-slice_split}
 use Rattle.sig_types.specs.LogForm.{header_line, spaced}
 use Rattle.sig_types.specs.Text.{is_name, strip}
 use Rattle.sig_types.proofs.Fronts.{strip_found}
 use Rattle.log_lines.specs.Form.{is_header}
 use Rattle.log_records.specs.Fields.{listed_names, names_in, stands_in, with_name}
+use Rattle.log_records.proofs.Cuts.{and_then_is, some_is}
 
 same_bytes : (xs : List ℕ) → bytes_eq xs xs ≡ true
 same_bytes [] = refl
 same_bytes (x ∷ xs) = let here : nat_eq x x ≡ true = eq-eqb x x refl in rw here (same_bytes xs)
-
--- what an answer is made of
-pub and_then_is : {A B : Type 0} (f : A → Option B) (o : Option A) (y : B) → option_and_then f o ≡ Some y → (x : A) × (o ≡ Some x) × (f x ≡ Some y)
-and_then_is f None y e = absurd cc
-and_then_is f (Some x) y e = (x, refl, e)
-
-pub some_is : {A : Type 0} (x y : A) → Some x ≡ Some y → x ≡ y
-some_is x y e = cc
 
 -- ---- names that are read one after the other
 

@@ -9,10 +9,9 @@ use Rattle.sig_types.proofs.Fronts.{strip_again}
 use Rattle.code_file.proofs.Numerals.{number_found}
 use Rattle.log_lines.specs.Form.{after_bar, aspect_of, before_bar, picture_in, picture_of, shown_first, spelled}
 use Rattle.log_lines.proofs.RecordForms.{cut_is}
-use Rattle.log_records.specs.Fields.{Fields, cut_fifth, cut_first, cut_fourth, cut_second, cut_third, fields_of}
 use Rattle.log_records.specs.Fields.{picture_in as picture_by, spelled as spelled_by}
 use Rattle.log_records.specs.Records.{IsEntry}
-use Rattle.record_laws.proofs.Headers.{and_then_is, some_is}
+use Rattle.log_records.proofs.Cuts.{is_cut}
 
 -- ---- letters are aspects in the same way
 
@@ -22,34 +21,6 @@ same_spelled (b ∷ bs) = ap (λ o. shown_first (option_zip (aspect_of b) o)) (s
 
 same_picture : (groups : ℕ) (letters : List ℕ) → picture_of groups letters ≡ picture_by groups letters
 same_picture groups letters = ap (λ o. if length letters == groups then o else None) (same_spelled letters)
-
--- ---- the first three fields
-
--- a line is cut at its first three bars
-record IsCut (line : List ℕ) (f : Fields) : Type 0 where
-  pub places : List ℕ
-  pub aspects : List ℕ
-  pub rest : List ℕ
-  pub first : cut_at 124 line ≡ Some (f.second, places)
-  pub second : cut_at 124 places ≡ Some (f.place, aspects)
-  pub third : cut_at 124 aspects ≡ Some (f.aspects, rest)
-
-is_cut : (line : List ℕ) (f : Fields) → fields_of line ≡ Some f → IsCut line f
-unfolding fields_of
-is_cut line f e =
-    let one = and_then_is cut_first (cut_at 124 line) f e in
-    let two = and_then_is (cut_second one.0.0) (cut_at 124 one.0.1) f one.2 in
-    let three = and_then_is (cut_third one.0.0 two.0.0) (cut_at 124 two.0.1) f two.2 in
-    let four = and_then_is (cut_fourth one.0.0 two.0.0 three.0.0) (cut_at 124 three.0.1) f three.2 in
-    let five = and_then_is (cut_fifth one.0.0 two.0.0 three.0.0 four.0.0) (cut_at 124 four.0.1) f four.2 in
-    rw (← some_is _ f five.2) record {
-      places = one.0.1;
-      aspects = two.0.1;
-      rest = three.0.1;
-      first = one.1;
-      second = two.1;
-      third = three.1;
-    }
 
 -- ---- the number
 

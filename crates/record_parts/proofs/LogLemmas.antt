@@ -1,34 +1,29 @@
 -- The lines of a log, one after another.
-use Rattle.std.proofs.Common.{◌≡◌, ◌∙◌, ℕ, suc, zero, ◌+◌, ◌-◌, ◌<◌, ◌≤◌, true, false, not, List, [], ◌∷◌, ◌++◌, length, Option, None, Some, refl, ap, arith, inl, inr, length-append, ne_eqb}
-use Rattle.std.proofs.lemmas.Bool.{cases_eq, cases_lt, le-leb, lt-leb, le-ltb, lt-ltb}
+use Rattle.std.proofs.Common.{◌≡◌, ◌∙◌, ℕ, suc, zero, ◌+◌, ◌-◌, ◌<◌, ◌≤◌, true, false, not, List, [], ◌∷◌, ◌++◌, length, None, Some, refl, ap, arith, inl, inr, length-append, ne_eqb}
+use Rattle.std.proofs.lemmas.Bool.{cases_eq, cases_lt, le-ltb, lt-ltb}
 use Rattle.std.proofs.lemmas.List.{get_or_append_left}
 use Rattle.std.proofs.Math.Seq.{get_or-append_seam}
-use Rattle.std.specs.Option.{option_or}
 use Rattle.sig_types.specs.declared.record.Record.{Record}
 use Rattle.sig_types.specs.FirstRefused.{when}
 use Rattle.log_lines.specs.Form.{is_header}
 use Rattle.log_records.specs.declared.refusal.LogWhy.{LogWhy}
 use Rattle.log_records.specs.declared.refusal.LogWhy.TheVariants as why
+use Rattle.log_records.specs.Log.{limit_reason}
 use Rattle.log_records.specs.Records.{IsEntry, record_reason}
+use Rattle.log_records.proofs.LogLemmas.{form_last, limit_first, not_limited}
 use Rattle.log_parts.specs.Log.{first_of, line_at}
 use Rattle.record_parts.specs.Log.{HasRecords, LinesTell, form_reason, line_reason}
 
 -- the first reason to refuse a line
-pub too_many : (names : List (List ℕ)) (first k : ℕ) (line : List ℕ) → 604802 ≤ k → line_reason names first k line ≡ Some why.TooManySeconds
+pub limited : (names : List (List ℕ)) (first k : ℕ) (line : List ℕ) (w : LogWhy) → limit_reason k line ≡ Some w →
+    line_reason names first k line ≡ Some w
 unfolding line_reason
-too_many names first k line le = rw (le-leb 604802 k le) refl
-
-pub too_long : (names : List (List ℕ)) (first k : ℕ) (line : List ℕ) → k < 604802 → 262144 < length line → line_reason names first k line ≡ Some why.LineTooLong
-unfolding line_reason
-too_long names first k line few long = rw (lt-leb 604802 k few, lt-ltb 262144 (length line) long) refl
-
-last_reason : (o : Option LogWhy) → option_or o None ≡ o
-last_reason None = refl
-last_reason (Some x) = refl
+limited names first k line w is = limit_first (limit_reason k line) (form_reason names first k line) w is
 
 pub by_form : (names : List (List ℕ)) (first k : ℕ) (line : List ℕ) → k < 604802 → length line ≤ 262144 → line_reason names first k line ≡ form_reason names first k line
 unfolding line_reason
-by_form names first k line few short = rw (lt-leb 604802 k few, le-ltb 262144 (length line) short) (last_reason (form_reason names first k line))
+by_form names first k line few short =
+    form_last (limit_reason k line) (form_reason names first k line) (not_limited k line few short)
 
 -- the reason of a record
 pub record_form : (names : List (List ℕ)) (first k : ℕ) (line : List ℕ) → 1 ≤ k → form_reason names first k line ≡ record_reason names (first + (k - 1)) line

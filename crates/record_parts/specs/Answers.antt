@@ -1,17 +1,17 @@
 -- What a reader of a log stands for, and what it answers.
 use Rattle.std.specs.Prelude.{◌≡◌, ℕ, ◌-◌, ◌≤◌, Bool, true, false, List, [], ◌∷◌, ◌++◌, drop, Some, None, Result, Ok, Err}
 use Rattle.sig_types.specs.declared.record.Record.{Record}
-use Rattle.sig_types.specs.Text.{fed_lines}
-use Rattle.line_reader.specs.Unread.{name_in, unread_bytes}
 use Rattle.log_parts.specs.Log.{first_of}
 use Rattle.log_records.specs.declared.refusal.LogStop.{LogStop}
 use Rattle.log_records.specs.declared.refusal.LogStop.TheVariants.{Memory, Fault, At}
+use Rattle.log_records.specs.Left.{file_of, lines_left}
+use Rattle.log_records.specs.Watchers.{told_lines}
 use Rattle.record_parts.specs.declared.part.RecordPart.{RecordPart}
 use Rattle.record_parts.specs.Log.{HasRecords, IsPart}
 
 -- the name of the file
 unfoldable pub name_of : RecordPart → List ℕ
-name_of r = name_in r.reader
+name_of r = file_of r.reader
 
 -- the names of the groups
 unfoldable pub names_of : RecordPart → List (List ℕ)
@@ -31,9 +31,9 @@ is_live r = r.live
 
 -- these records were given of a log with these bytes, and the rest of its lines is left
 pub record HasRead (r : RecordPart) (bytes : List ℕ) (records : List Record) : Type 0 where
-  pub rest : fed_lines (unread_bytes r.reader bytes) ≡ drop r.lines (fed_lines bytes)
-  pub accepted : HasRecords r.names.items (fed_lines bytes) r.lines records
-  pub first : 2 ≤ r.lines → r.first ≡ first_of (fed_lines bytes)
+  pub rest : lines_left r.reader bytes ≡ drop r.lines (told_lines bytes)
+  pub accepted : HasRecords r.names.items (told_lines bytes) r.lines records
+  pub first : 2 ≤ r.lines → r.first ≡ first_of (told_lines bytes)
 
 -- these records were given of a log with these bytes
 unfoldable pub Reads : RecordPart → List ℕ → List Record → Type 0

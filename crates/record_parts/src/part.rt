@@ -3,13 +3,11 @@ ghost use Rattle.std.specs.Prelude.{◌≡◌, ◌<◌, ◌≤◌, ◌*◌, ◌+
 ghost use Rattle.std.specs.Option.{ForSome};
 ghost use Rattle.sig_io.specs.Outside.{Rose};
 ghost use Rattle.sig_types.specs.Recorded.{IsRecord};
-ghost use Rattle.line_reader.specs.Unread.{bytes_given, longest_of};
+ghost use Rattle.log_records.specs.Left.{bytes_told};
 
 use crate::names::names_of;
-use crate::take::{refused, take_line};
-use line_reader::LineReader;
 use log_parts::{first_after, is_header};
-use log_records::{LogStop, LogWhy, read_record};
+use log_records::{LogStop, LogWhy, ToldLines, read_record, refused_at, take_line};
 use pua_model::Plan;
 use sig_io::Files;
 use sig_types::{
@@ -17,25 +15,21 @@ use sig_types::{
 };
 use std::alloc::Global;
 
-// The most bytes of a line.
-const LONGEST: usize = 262144;
-
 /// A reader of a log behind its header, before one of its records. It keeps one buffer, the first second, and the record that it
 /// gave last.
 #[derive(Drop)]
 pub struct RecordPart {
-    reader: LineReader,
+    reader: ToldLines,
     names: Vec<ShortName>,
     current: Record,
     first: u32,
     lines: u32,
     live: bool,
-    ghost longest: { longest_of reader ≡ 262144 },
     ghost few: { length names.items ≤ 64 },
     ghost some: { 1 ≤ lines },
     ghost at_most: { lines ≤ 604802 },
     ghost first_at_most: { first ≤ 999999999 },
-    ghost read_at_most: { live ≡ true → bytes_given reader ≤ 262145 * lines },
+    ghost read_at_most: { live ≡ true → bytes_told reader ≤ 262145 * lines },
 }
 
 // A record of no second.
@@ -77,17 +71,17 @@ impl RecordPart {
         ensures later { F.faults files.old ≤ F.faults files.new }
         ensures cause { result ≡ Err LogStop.Fault → Rose (F.faults files.old) (F.faults files.new) }
     {
-        let mut reader = match LineReader::make(alloc, name, LONGEST) {
+        let mut reader = match ToldLines::make(alloc, name) {
             Ok(reader) => reader,
             Err(_) => return Err(LogStop::Memory),
         };
         match take_line(&mut reader, 0, files) {
             Ok(true) => {}
-            Ok(false) => return Err(refused(0, LogWhy::Header)),
+            Ok(false) => return Err(refused_at(0, LogWhy::Header)),
             Err(stop) => return Err(stop),
         }
         if !is_header(plan, reader.line()) {
-            return Err(refused(0, LogWhy::Header));
+            return Err(refused_at(0, LogWhy::Header));
         }
         let names = match names_of(alloc, plan) {
             Ok(names) => names,
@@ -106,8 +100,8 @@ impl RecordPart {
         }
     }
 
-    /// Reads the next record: true where there is one, which is then lent, and false where the log has been read to its end. It
-    /// takes no memory.
+    /// Reads the next record: true where there is one, which is then lent, and false where the log has been read to its end, or to
+    /// the first watcher's line. It takes no memory.
     ///
     /// It answers `Fault` only where a read failed. After a refusal the reader isn't live, and can't be asked again. The files are to
     /// be the same in all calls.
@@ -141,7 +135,7 @@ impl RecordPart {
         let second = self.first + (self.lines - 1);
         match read_record(&self.names, second, self.reader.line(), &mut self.current) {
             Ok(()) => {}
-            Err(why) => return Err(refused(self.lines, why)),
+            Err(why) => return Err(refused_at(self.lines, why)),
         }
         self.lines += 1;
         self.live = true;

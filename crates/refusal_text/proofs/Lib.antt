@@ -6,3 +6,4 @@ pub mod Same
 pub mod Found
 pub mod SumLines
 pub mod Texts
+pub mod Run

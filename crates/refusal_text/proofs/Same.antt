@@ -162,7 +162,7 @@ tab_length : {A : Type 0} (f : ℕ → A) (n : ℕ) → length (tabulate f n) �
 tab_length f zero = refl
 tab_length f (suc n) = length-append (tabulate f n) (f n ∷ []) ∙ (let before = tab_length f n in omega (arith, before))
 
-tab_at : {A : Type 0} (f : ℕ → A) (n i : ℕ) (d : A) → i < n → get_or (tabulate f n) i d ≡ f i
+pub tab_at : {A : Type 0} (f : ℕ → A) (n i : ℕ) (d : A) → i < n → get_or (tabulate f n) i d ≡ f i
 tab_at f zero i d lt = absurd (omega (arith, lt))
 tab_at f (suc n) i d lt = (
     let long = tab_length f n in

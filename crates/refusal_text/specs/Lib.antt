@@ -8,3 +8,4 @@ pub mod Counted
 pub mod Sums
 pub mod Text
 pub mod Kept
+pub mod Laws

@@ -6,6 +6,7 @@
 #![tactic(auto)]
 
 mod finder;
+pub mod laws;
 mod line;
 mod refusal;
 mod row;

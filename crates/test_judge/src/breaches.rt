@@ -80,6 +80,19 @@ fn a_gap_in_the_seconds(rt: HostRuntime) -> Result<(), Fail> {
 }
 
 #[test]
+fn a_log_with_watchers(rt: HostRuntime) -> Result<(), Fail> {
+    let told = call(
+        rt.alloc(),
+        "VAPLOG 1 K1 K2\n1|-|RR|\nWATCH 1 1 RR\n",
+        INTERGREENS,
+        &[],
+    )?;
+    assert_eq!(rt; told.status, Status::Refused);
+    assert_eq!(rt; told.notes.bytes(), b"log_report: l:3: Line\n".as_slice());
+    Ok(())
+}
+
+#[test]
 fn a_pair_that_is_listed_one_way(rt: HostRuntime) -> Result<(), Fail> {
     let told = call(rt.alloc(), PART, ONE_WAY, &[])?;
     assert_eq!(rt; told.status, Status::Refused);

@@ -80,6 +80,16 @@ fn a_part_with_an_unknown_past(rt: HostRuntime) -> Result<(), Fail> {
     Ok(())
 }
 
+#[test]
+fn a_log_with_watchers(rt: HostRuntime) -> Result<(), Fail> {
+    let mut log = String::from_str(rt.alloc(), PART)?;
+    log.push_str("WATCH 1 1 RR\nWATCH 2 0 RR\n")?;
+    let told = call(rt.alloc(), log.as_str(), &["--csv"])?;
+    assert_eq!(rt; told.out.bytes(), PART_TABLE.as_bytes());
+    assert_eq!(rt; told.status, Status::Done);
+    Ok(())
+}
+
 // Logs of which a line is refused, with their notes. What stands before the line is not told.
 const REFUSED: [(&str, &str); 7] = [
     (

@@ -1,5 +1,8 @@
-use Rattle.record_laws.proofs.Agree.{agree}
+use Rattle.record_laws.proofs.Agree.{agree, unwatched_agree}
 use Rattle.record_laws.proofs.laws.pictures_agree.Goals as goal
 
-pub returns : goal.returns
-returns c = agree
+pub returns-clause-lines : goal.returns-clause-lines
+returns-clause-lines c = agree
+
+pub returns-clause-unwatched : goal.returns-clause-unwatched
+returns-clause-unwatched c = unwatched_agree

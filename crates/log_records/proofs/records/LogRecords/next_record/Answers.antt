@@ -1,6 +1,5 @@
 use Rattle.std.proofs.Common.{◌∙◌, sym, ap, Ok}
-use Rattle.line_reader.specs.Unread.{line_of, unread_bytes}
-use Rattle.sig_types.specs.Text.{fed_lines}
+use Rattle.log_records.specs.Left.{line_told, lines_left}
 use Rattle.log_records.specs.Answers.{Reads, name_of, names_of, record_given}
 use Rattle.log_records.proofs.LogLemmas.{record_judged}
 use Rattle.log_records.proofs.Steps.{step_ended, step_record, step_refused, step_wrong}
@@ -12,8 +11,8 @@ returns-in-Ok-false-clause-next g c file told records read =
     let r = c.args.self.now in
     let bytes = file (name_of r) in
     let taken = rw c.in-Ok-false.field-0-test at (c.in-Ok-false.ensures.taken file told) in (
-      step_ended r.names.items bytes r.lines records (unread_bytes r.reader bytes) r.some read.rest read.accepted taken.0,
-      record { rest = ap fed_lines taken.1 ∙ sym (ap fed_lines taken.0) ∙ read.rest; accepted = read.accepted },
+      step_ended r.names.items bytes r.lines records (lines_left r.reader bytes) r.some read.rest read.accepted taken.0,
+      record { rest = taken.1 ∙ sym taken.0 ∙ read.rest; accepted = read.accepted },
     )
 
 pub returns-in-Err-clause-next : goal.returns-in-Err-clause-next
@@ -21,7 +20,7 @@ unfolding Reads name_of names_of
 returns-in-Err-clause-next g c file told records read =
     let r = c.args.self.now in
     let bytes = file (name_of r) in
-    step_wrong r.names.items bytes r.lines records (unread_bytes r.reader bytes) c.take_line.new.reader c.in-Err.stop read.rest read.accepted
+    step_wrong r.names.items bytes r.lines records (lines_left r.reader bytes) c.take_line.new.reader c.in-Err.stop read.rest read.accepted
     (c.in-Err.ensures.taken file told)
 
 pub returns-in-Err-read_record-clause-next : goal.returns-in-Err-read_record-clause-next
@@ -30,9 +29,9 @@ returns-in-Err-read_record-clause-next g c file told records read =
     let r = c.args.self.now in
     let bytes = file (name_of r) in
     let taken = rw c.in-Ok-true.field-0-test at (c.in-Ok-true.ensures.taken file told) in
-    let line = line_of c.take_line.new.reader in
-    rw c.refused.ensures
-    (step_refused r.names.items bytes r.lines records (unread_bytes r.reader bytes) line (fed_lines (unread_bytes c.take_line.new.reader bytes)) _
+    let line = line_told c.take_line.new.reader in
+    rw c.refused_at.ensures
+    (step_refused r.names.items bytes r.lines records (lines_left r.reader bytes) line (lines_left c.take_line.new.reader bytes) _
     read.rest read.accepted taken.0
     (record_judged r.names.items r.lines line r.some (c.in-Ok-true.ensures.below (ap Ok c.in-Ok-true.field-0-test)) taken.1
     ∙ rw (c.line.ensures, c.deref.ensures.value) at c.in-Err-read_record.ensures.reason))
@@ -43,8 +42,8 @@ returns-clause-next g c file told records read =
     let r = c.args.self.now in
     let bytes = file (name_of r) in
     let taken = rw c.in-Ok-true.field-0-test at (c.in-Ok-true.ensures.taken file told) in
-    let line = line_of c.take_line.new.reader in
-    let more = step_record r.names.items bytes r.lines records (unread_bytes r.reader bytes) line (fed_lines (unread_bytes c.take_line.new.reader bytes))
+    let line = line_told c.take_line.new.reader in
+    let more = step_record r.names.items bytes r.lines records (lines_left r.reader bytes) line (lines_left c.take_line.new.reader bytes)
     c.read_record.new.rec r.some (c.in-Ok-true.ensures.below (ap Ok c.in-Ok-true.field-0-test)) read.rest read.accepted taken.0 taken.1
     (rw (c.line.ensures, c.deref.ensures.value) at c.in-Ok.ensures.reason) (rw (c.line.ensures, c.deref.ensures.value) at c.in-Ok.ensures.entry) in
     record { rest = more.rest; accepted = more.accepted }
