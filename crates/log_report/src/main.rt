@@ -61,7 +61,7 @@ fn main(rt: HostRuntime) -> ExitCode {
     let status = match words_of(alloc, env::args(&rt)) {
         Ok(words) => answer(alloc, &words, &mut files, &mut out, &mut notes),
         Err(_) => {
-            write_stop(&mut notes, &Stop::Memory);
+            write_stop(&mut notes, &[], &Stop::Memory);
             exit_status(Status::Memory)
         }
     };

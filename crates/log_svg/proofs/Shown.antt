@@ -1,5 +1,5 @@
 -- The texts of a diagram with one piece more.
-use Rattle.std.proofs.Common.{◌≡◌, ℕ, suc, ◌+◌, List, [], ◌++◌, get_or, refl, arith, add-one, ap}
+use Rattle.std.proofs.Common.{◌≡◌, ℕ, suc, ◌+◌, Bool, List, [], ◌++◌, get_or, refl, arith, add-one, ap}
 use Rattle.sig_types.specs.declared.aspect.Aspect.{Aspect}
 use Rattle.log_chart.specs.declared.span.Span.{Span}
 use Rattle.log_svg.specs.declared.layout.Layout.{Layout}
@@ -23,14 +23,14 @@ unfolding axis_text
 axis_more layout end n = rw add-one refl
 
 -- one detector more
-pub shown_more : (marks : List FrontMark) (n : ℕ) → shown_to marks (n + 1) ≡ shown_to marks n + row_count marks (n + 1)
+pub shown_more : (marks : List FrontMark) (covers : List (List (Span Bool))) (n : ℕ) → shown_to marks covers (n + 1) ≡ shown_to marks covers n + row_count marks covers (n + 1)
 unfolding shown_to
-shown_more marks n = let next : n + 1 ≡ suc n = omega arith in ap (λ k. shown_to marks k) next
+shown_more marks covers n = let next : n + 1 ≡ suc n = omega arith in ap (λ k. shown_to marks covers k) next
 
-pub detectors_more : (layout : Layout) (row : ℕ) (marks : List FrontMark) (n : ℕ) →
-    detectors_text layout row marks (n + 1) ≡ detectors_text layout row marks n ++ shown_text layout (row + shown_to marks n) marks (n + 1)
+pub detectors_more : (layout : Layout) (row : ℕ) (marks : List FrontMark) (covers : List (List (Span Bool))) (n : ℕ) →
+    detectors_text layout row marks covers (n + 1) ≡ detectors_text layout row marks covers n ++ shown_text layout (row + shown_to marks covers n) marks covers (n + 1)
 unfolding detectors_text
-detectors_more layout row marks n = let next : n + 1 ≡ suc n = omega arith in ap (λ k. detectors_text layout row marks k) next
+detectors_more layout row marks covers n = let next : n + 1 ≡ suc n = omega arith in ap (λ k. detectors_text layout row marks covers k) next
 
 -- the parts of a strip with one more
 pub parts_more : (sheet : Sheet) (s : Shown) (strip k n : ℕ) → parts_text sheet s strip k (n + 1) ≡ parts_text sheet s strip k n ++ part_text sheet s strip k n

@@ -1,5 +1,5 @@
 -- The text of a whole signal timing diagram.
-use Rattle.std.specs.Prelude.{ℕ, zero, suc, ◌+◌, ◌-◌, ◌*◌, ◌/◌, ◌<◌, ◌≤◌, min, List, [], ◌∷◌, ◌++◌, None, codes, length, All, if◌then◌else◌, ◌==◌, ◌||◌, not}
+use Rattle.std.specs.Prelude.{ℕ, zero, suc, ◌+◌, ◌-◌, ◌*◌, ◌/◌, ◌<◌, ◌≤◌, ◌≡◌, min, Bool, List, [], ◌∷◌, ◌++◌, None, codes, length, All, if◌then◌else◌, ◌==◌, ◌||◌, not}
 use Rattle.std.specs.Fmt.{decimal}
 use Rattle.sig_types.specs.declared.aspect.Aspect.{Aspect}
 use Rattle.sig_types.specs.declared.aspect.Rule.{Rule}
@@ -21,7 +21,7 @@ use Rattle.log_svg.specs.Marks.{IsRefused, detectors_text, faults_text, marks_te
 use Rattle.log_svg.specs.Groups.{groups_text}
 
 -- what a diagram shows: the names of the groups, the seconds, the spans of each group, the stays at stages and interstages, and
--- the marks of fronts, refused commands and faults
+-- the marks of fronts, refused commands and faults, and the spans of each detector in which it is covered, or isn't
 pub record Shown : Type 0 where
   pub names : List (List ℕ)
   pub from : ℕ
@@ -29,6 +29,7 @@ pub record Shown : Type 0 where
   pub rows : List (List (Span Aspect))
   pub stays : List Stay
   pub fronts : List FrontMark
+  pub covers : List (List (Span Bool))
   pub refusals : List RefusalMark
   pub faults : List FaultMark
 
@@ -51,7 +52,7 @@ bars_style =
     codes "<style>@page{size:A4 landscape;margin:12.667mm 10mm}@media print{svg{width:100%;height:auto}}\n"
     ++ codes ".r{fill:#c4161c}.u{fill:url(#u);stroke:#000;stroke-width:.4}\n"
     ++ codes ".g{fill:#00843d;stroke:#000;stroke-width:.6}.a{fill:url(#a);stroke:#000;stroke-width:.6}\n"
-    ++ codes ".s{fill:#eef1f4;stroke:#000;stroke-width:.8}.i{fill:url(#i);stroke:#000;stroke-width:.8}\n"
+    ++ codes ".s{fill:#eef1f4;stroke:#000;stroke-width:.8}.i{fill:url(#i);stroke:#000;stroke-width:.8}.q{fill:#9db4cc}\n"
 
 -- how words look
 unfoldable pub words_style : List ℕ
@@ -70,7 +71,7 @@ marks_style =
 unfoldable pub dark_style : List ℕ
 dark_style =
     codes "@media screen and (prefers-color-scheme:dark){text{fill:#e6e8ea}.w,.p{fill:#16191c}.s{fill:#2b3036}.s,.i{stroke:#c3c8cd}\n"
-    ++ codes ".m,.x{stroke:#16191c}.k{fill:#fff}.b{stroke:#3a4047}.c,.t,.f{stroke:#e6e8ea}.r{fill:#ff5a5f}}</style>\n"
+    ++ codes ".m,.x{stroke:#16191c}.k{fill:#fff}.q{fill:#4a6480}.b{stroke:#3a4047}.c,.t,.f{stroke:#e6e8ea}.r{fill:#ff5a5f}}</style>\n"
 
 -- red-amber is dark over light
 unfoldable pub half_pattern : List ℕ
@@ -161,9 +162,14 @@ fronts_key y =
     upright_text (codes "t") 638 (y + 6) (y + 12) ++ upright_text (codes "t") 646 (y + 3) (y + 12)
     ++ upright_text (codes "t") 654 y (y + 12) ++ label_text (codes "o") 664 (y + 10) (codes "1, 2, more fronts")
 
--- the legend: aspects, interstages, faults and fronts, and below them the rules
+-- what a covered detector looks like
+unfoldable pub cover_key : ℕ → List ℕ
+cover_key y = box_text (codes "q") 800 (y + 6) 24 6 ++ label_text (codes "o") 830 (y + 10) (codes "covered")
+
+-- the legend: aspects, interstages, faults, fronts and covered detectors, and below them the rules
 unfoldable pub legend_text : ℕ → List ℕ
-legend_text y = aspects_key y ++ key_text (codes "i") 436 y (codes "interstage") ++ fault_key y ++ fronts_key y ++ rules_key (y + 20)
+legend_text y =
+    aspects_key y ++ key_text (codes "i") 436 y (codes "interstage") ++ fault_key y ++ fronts_key y ++ cover_key y ++ rules_key (y + 20)
 
 -- ---- the whole
 
@@ -173,13 +179,13 @@ legend_text y = aspects_key y ++ key_text (codes "i") 436 y (codes "interstage")
 abbrev pub fault_rows : List FaultMark → ℕ
 fault_rows faults = if length faults == 0 then 0 else 1
 
--- the rows of groups come first, then that of faults, where there are any, and then one for each detector with a front
+-- the rows of groups come first, then that of faults, where there are any, and then one for each detector that has one
 abbrev pub detectors_row : Shown → ℕ
 detectors_row s = length s.names + fault_rows s.faults
 
 -- how many rows there are
 abbrev pub rows_in : Shown → ℕ
-rows_in s = detectors_row s + shown_to s.fronts 64
+rows_in s = detectors_row s + shown_to s.fronts s.covers 64
 
 -- the seconds of a whole strip, or all where there are fewer
 abbrev pub strip_seconds : Shown → ℕ → ℕ
@@ -228,7 +234,7 @@ upper_text layout s =
 -- the rows of faults and detectors
 unfoldable pub lower_text : Layout → Shown → List ℕ
 lower_text layout s =
-    faults_row layout (length s.names) s.faults ++ detectors_text layout (detectors_row s) s.fronts 64
+    faults_row layout (length s.names) s.faults ++ detectors_text layout (detectors_row s) s.fronts s.covers 64
 
 -- what follows stands so far below
 unfoldable pub shift_text : ℕ → List ℕ
@@ -265,7 +271,7 @@ abbrev pub IsStrip : ℕ → Type 0
 IsStrip strip = (30 ≤ strip) × (strip ≤ 600)
 
 -- a diagram of 1 to 3,600 seconds of a log, of at most 64 groups, whose rows are a chart of these seconds
--- and whose refused turns are of these groups
+-- and whose refused turns are of these groups, with the spans of 64 detectors
 pub record IsShowable (s : Shown) : Type 0 where
   pub order : s.from ≤ s.to
   pub hour : s.to < s.from + 3600
@@ -274,3 +280,4 @@ pub record IsShowable (s : Shown) : Type 0 where
   pub history : History
   pub chart : IsChart history (length s.names) s.from (s.to + 1) s.rows
   pub refusals : All (λ m. IsRefused (length s.names) m.refused) s.refusals
+  pub covers : length s.covers ≡ 64

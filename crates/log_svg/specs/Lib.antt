@@ -2,6 +2,7 @@ pub mod Layout
 pub mod Svg
 pub mod Axis
 pub mod Band
+pub mod Covers
 pub mod Marks
 pub mod Groups
 pub mod Diagram

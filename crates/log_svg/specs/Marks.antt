@@ -1,5 +1,5 @@
 -- The marks of refused commands, faults and fronts.
-use Rattle.std.specs.Prelude.{zero, suc, Bool, true, ℕ, ◌+◌, ◌-◌, ◌*◌, ◌<◌, min, List, [], ◌∷◌, ◌++◌, codes, Option, Some, None, false, if◌then◌else◌, ◌==◌, ◌&&◌}
+use Rattle.std.specs.Prelude.{zero, suc, Bool, true, ℕ, ◌+◌, ◌-◌, ◌*◌, ◌<◌, min, List, [], ◌∷◌, ◌++◌, codes, Option, Some, None, false, if◌then◌else◌, ◌==◌, ◌&&◌, ◌||◌}
 use Rattle.std.specs.List.{flat_map, fold, list_any}
 use Rattle.std.specs.Fmt.{decimal}
 use Rattle.std.specs.Option.{ForSome}
@@ -7,6 +7,7 @@ use Rattle.sig_types.specs.declared.aspect.Rule.{Rule}
 use Rattle.sig_types.specs.declared.aspect.Rule.TheVariants.{Sequence, MinGreen, MinRed, Conflict, Intergreen, Running, WrongStage, NoInterstage}
 use Rattle.sig_types.specs.declared.numbers.GroupNo.{GroupNo}
 use Rattle.signal_log.specs.Log.{fault_text, stage_refusal_text, turn_text}
+use Rattle.log_chart.specs.declared.span.Span.{Span}
 use Rattle.log_svg.specs.declared.layout.Layout.{Layout}
 use Rattle.log_svg.specs.declared.marks.Refused.{Refused}
 use Rattle.log_svg.specs.declared.marks.Refused.TheVariants.{Command, Turn}
@@ -15,6 +16,7 @@ use Rattle.log_svg.specs.declared.marks.FaultMark.{FaultMark}
 use Rattle.log_svg.specs.declared.fronts.FrontMark.{FrontMark}
 use Rattle.log_svg.specs.Layout.{has_row, has_second, middle_of, right_of, y_of}
 use Rattle.log_svg.specs.Svg.{across_text, cross_text, label_begin, upright_text}
+use Rattle.log_svg.specs.Covers.{covers_text, is_covered, spans_of}
 
 -- the letter of a rule: a large one of a turn, a small one of a stage command
 abbrev pub rule_letter : Rule → ℕ
@@ -132,30 +134,35 @@ fronts_of layout y d marks = flat_map (λ m. if m.detector.0 == d && has_second 
 unfoldable pub detector_name : Layout → ℕ → ℕ → List ℕ
 detector_name layout y d = label_begin (codes "d") (layout.left - 12) (y + 14) ++ codes "D" ++ decimal d ++ codes "</text>\n"
 
--- a detector's row: its name, a thin line across and its fronts
-unfoldable pub detector_text : Layout → ℕ → List FrontMark → ℕ → List ℕ
-detector_text layout y marks d =
-    detector_name layout y d ++ across_text (y + 19) (right_of layout) ++ fronts_of layout y d marks
+-- a detector's row: its name, a thin line across, a bar as long as it is covered and its fronts
+unfoldable pub detector_text : Layout → ℕ → List FrontMark → List (Span Bool) → ℕ → List ℕ
+detector_text layout y marks spans d =
+    detector_name layout y d ++ across_text (y + 19) (right_of layout) ++ covers_text layout y d spans ++ fronts_of layout y d marks
 
 -- a detector has a front in the diagram
 abbrev pub has_front : List FrontMark → ℕ → Bool
 has_front marks d = list_any (λ m. m.detector.0 == d) marks
 
--- how many rows a detector has: one where it has a front
-abbrev pub row_count : List FrontMark → ℕ → ℕ
-row_count marks d = if has_front marks d then 1 else 0
+-- a detector has a row where it has a front or is covered in the diagram
+abbrev pub is_told : List FrontMark → List (List (Span Bool)) → ℕ → Bool
+is_told marks covers d = has_front marks d || is_covered (spans_of covers d)
 
--- how many of the first n detectors have a front
-unfoldable pub shown_to : List FrontMark → ℕ → ℕ
-shown_to marks zero = 0
-shown_to marks (suc n) = shown_to marks n + row_count marks (n + 1)
+-- how many rows a detector has
+abbrev pub row_count : List FrontMark → List (List (Span Bool)) → ℕ → ℕ
+row_count marks covers d = if is_told marks covers d then 1 else 0
 
--- a detector's row where it has a front and its row is in the part
-abbrev pub shown_text : Layout → ℕ → List FrontMark → ℕ → List ℕ
-shown_text layout row marks d =
-    if has_front marks d && has_row layout row then detector_text layout (y_of layout row) marks d else []
+-- how many rows the first n detectors have
+unfoldable pub shown_to : List FrontMark → List (List (Span Bool)) → ℕ → ℕ
+shown_to marks covers zero = 0
+shown_to marks covers (suc n) = shown_to marks covers n + row_count marks covers (n + 1)
 
--- the rows of those of the first n detectors that have a front, one below the other from this row on
-unfoldable pub detectors_text : Layout → ℕ → List FrontMark → ℕ → List ℕ
-detectors_text layout row marks zero = []
-detectors_text layout row marks (suc n) = detectors_text layout row marks n ++ shown_text layout (row + shown_to marks n) marks (n + 1)
+-- a detector's row where it has one and that is in the part
+abbrev pub shown_text : Layout → ℕ → List FrontMark → List (List (Span Bool)) → ℕ → List ℕ
+shown_text layout row marks covers d =
+    if is_told marks covers d && has_row layout row then detector_text layout (y_of layout row) marks (spans_of covers d) d else []
+
+-- the rows of the first n detectors, one below the other from this row on
+unfoldable pub detectors_text : Layout → ℕ → List FrontMark → List (List (Span Bool)) → ℕ → List ℕ
+detectors_text layout row marks covers zero = []
+detectors_text layout row marks covers (suc n) =
+    detectors_text layout row marks covers n ++ shown_text layout (row + shown_to marks covers n) marks covers (n + 1)

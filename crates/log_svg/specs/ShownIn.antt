@@ -1,5 +1,6 @@
 -- What a diagram shows.
 use Rattle.log_svg.specs.declared.diagram.Diagram.{Diagram}
+use Rattle.log_svg.specs.Covers.{spans_in}
 use Rattle.log_svg.specs.Diagram.{Shown}
 
 -- the parts of a diagram
@@ -11,6 +12,7 @@ shown_in d = record {
   rows = d.chart.rows;
   stays = d.stays.items;
   fronts = d.fronts.items;
+  covers = spans_in d.covers.items;
   refusals = d.refusals.items;
   faults = d.faults.items;
 }

@@ -15,7 +15,7 @@ use crate::layout::{Layout, Sheet, end_of, has_row, top_of, y_of};
 use crate::legend::put_legend;
 use crate::marks::{FaultMark, RefusalMark, put_faults, put_marks};
 use crate::pieces::put_label;
-use log_chart::{Chart, Span};
+use log_chart::{Chart, Cover, Span};
 use sig_io::{Draft, Sink};
 use sig_types::{ShortName, StagePlace};
 
@@ -34,6 +34,8 @@ pub struct Diagram {
     pub stays: Vec<Span<StagePlace>>,
     /// The fronts of the detectors.
     pub fronts: Vec<FrontMark>,
+    /// The 64 detectors, with the spans in which they are covered.
+    pub covers: Vec<Cover>,
     /// The refused commands.
     pub refusals: Vec<RefusalMark>,
     /// The faults.
@@ -72,7 +74,7 @@ fn rows_in(diagram: &Diagram) -> u32
     ensures rows { result ≡ rows_in (shown_in diagram.now) }
     ensures fits { result ≤ 129 }
 {
-    detectors_row(diagram) + count_shown(&diagram.fronts)
+    detectors_row(diagram) + count_shown(&diagram.fronts, &diagram.covers)
 }
 
 // The seconds of a whole strip.
@@ -217,7 +219,14 @@ fn put_lower<O: Sink>(draft: &mut Draft, sink: &mut O, layout: Layout, diagram: 
     ensures { Puts O.taken O.faults draft.old draft.new sink.old sink.new (lower_text layout (shown_in diagram.now)) }
 {
     put_faults_row(draft, sink, layout, faults_at(diagram), &diagram.faults);
-    put_detectors(draft, sink, layout, detectors_row(diagram), &diagram.fronts);
+    put_detectors(
+        draft,
+        sink,
+        layout,
+        detectors_row(diagram),
+        &diagram.fronts,
+        &diagram.covers,
+    );
 }
 
 // Puts that what follows stands so far below.

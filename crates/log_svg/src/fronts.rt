@@ -1,12 +1,15 @@
 // The rows of the detectors.
-ghost use Rattle.std.specs.Prelude.{◌≡◌, ◌+◌, ◌-◌, ◌*◌, ◌^◌, ◌<◌, ◌≤◌, ◌++◌, ◌==◌, min, ℕ, List, Option};
+ghost use Rattle.std.specs.Prelude.{◌≡◌, ◌+◌, ◌-◌, ◌*◌, ◌^◌, ◌<◌, ◌≤◌, ◌++◌, ◌==◌, ◌||◌, min, ℕ, List, Option, length};
 ghost use Rattle.sig_io.specs.Draft.{Puts};
 ghost use Rattle.log_svg.specs.Layout.{IsLayout};
-ghost use Rattle.log_svg.specs.Marks.{fronts_of, has_front, row_count, shown_to};
+ghost use Rattle.log_svg.specs.Covers.{spans_in};
+ghost use Rattle.log_svg.specs.Marks.{fronts_of, has_front, is_told, row_count, shown_to};
 ghost use Rattle.log_svg.specs.Marks.{detector_name, detector_text, detectors_text, front_text, shown_text};
 
+use crate::covers::{is_covered, put_covers, spans_of};
 use crate::layout::{Layout, has_row, has_second, middle_of, right_of, y_of};
 use crate::pieces::{begin_label, put_across, put_upright};
+use log_chart::{Cover, Span};
 use sig_io::{Draft, Sink};
 use sig_types::DetNo;
 
@@ -70,7 +73,7 @@ fn put_name<O: Sink>(draft: &mut Draft, sink: &mut O, layout: Layout, y: u32, de
     draft.put(sink, b"</text>\n");
 }
 
-// Puts a detector's row at this height: its name, a thin line across and its fronts.
+// Puts a detector's row at this height: its name, a thin line across, its bars and its fronts.
 fn put_detector<O: Sink>(
     draft: &mut Draft,
     sink: &mut O,
@@ -78,13 +81,15 @@ fn put_detector<O: Sink>(
     y: u32,
     detector: DetNo,
     marks: &[FrontMark],
+    spans: &[Span<bool>],
 )
     requires layout { IsLayout layout }
     requires y { y ≤ 100000 }
-    ensures { Puts O.taken O.faults draft.old draft.new sink.old sink.new (detector_text layout y marks.now detector.0) }
+    ensures { Puts O.taken O.faults draft.old draft.new sink.old sink.new (detector_text layout y marks.now spans.now detector.0) }
 {
     put_name(draft, sink, layout, y, detector);
     put_across(draft, sink, y + 19, right_of(layout));
+    put_covers(draft, sink, layout, y, detector, spans);
     put_fronts(draft, sink, layout, y, detector, marks);
 }
 
@@ -95,15 +100,30 @@ fn has_front(marks: &[FrontMark], detector: DetNo) -> bool
     marks.iter().any(|mark| mark.detector.0 == detector.0)
 }
 
-// How many rows a detector has: one where it has a front.
-fn row_count(marks: &[FrontMark], detector: DetNo) -> u32
-    ensures count { result ≡ row_count marks.now detector.0 }
-    ensures few { result ≤ 1 }
+// Whether a detector has a row: it has a front or is covered in the diagram.
+fn is_told(marks: &[FrontMark], covers: &[Cover], detector: DetNo) -> bool
+    requires covers { length covers.now ≡ 64 }
+    requires detector { (1 ≤ detector.0) × (detector.0 ≤ 64) }
+    ensures { result ≡ is_told marks.now (spans_in covers.now) detector.0 }
 {
-    if has_front(marks, detector) { 1 } else { 0 }
+    has_front(marks, detector) || is_covered(spans_of(covers, detector))
 }
 
-// Puts a detector's row, where it has a front and the row is in the part.
+// How many rows a detector has.
+fn row_count(marks: &[FrontMark], covers: &[Cover], detector: DetNo) -> u32
+    requires covers { length covers.now ≡ 64 }
+    requires detector { (1 ≤ detector.0) × (detector.0 ≤ 64) }
+    ensures count { result ≡ row_count marks.now (spans_in covers.now) detector.0 }
+    ensures few { result ≤ 1 }
+{
+    if is_told(marks, covers, detector) {
+        1
+    } else {
+        0
+    }
+}
+
+// Puts a detector's row, where it has one and that is in the part.
 fn put_shown<O: Sink>(
     draft: &mut Draft,
     sink: &mut O,
@@ -111,45 +131,62 @@ fn put_shown<O: Sink>(
     row: u32,
     detector: DetNo,
     marks: &[FrontMark],
+    covers: &[Cover],
 )
     requires layout { IsLayout layout }
     requires row { layout.row ≤ 20000 }
-    ensures { Puts O.taken O.faults draft.old draft.new sink.old sink.new (shown_text layout row marks.now detector.0) }
+    requires covers { length covers.now ≡ 64 }
+    requires detector { (1 ≤ detector.0) × (detector.0 ≤ 64) }
+    ensures { Puts O.taken O.faults draft.old draft.new sink.old sink.new
+        (shown_text layout row marks.now (spans_in covers.now) detector.0) }
 {
-    if has_front(marks, detector) && has_row(layout, row) {
-        put_detector(draft, sink, layout, y_of(layout, row), detector, marks);
+    if is_told(marks, covers, detector) && has_row(layout, row) {
+        let spans = spans_of(covers, detector);
+        put_detector(
+            draft,
+            sink,
+            layout,
+            y_of(layout, row),
+            detector,
+            marks,
+            spans,
+        );
     }
 }
 
-/// How many detectors have a front in the diagram.
-pub fn count_shown(marks: &[FrontMark]) -> u32
-    ensures count { result ≡ shown_to marks.now 64 }
+/// How many rows the detectors have.
+pub fn count_shown(marks: &[FrontMark], covers: &[Cover]) -> u32
+    requires { length covers.now ≡ 64 }
+    ensures count { result ≡ shown_to marks.now (spans_in covers.now) 64 }
     ensures fits { result ≤ 64 }
 {
     let mut count = 0;
     for place in 0..64u8 {
-        count += row_count(marks, DetNo(place + 1));
+        count += row_count(marks, covers, DetNo(place + 1));
     }
     count
 }
 
-/// Puts the rows of the detectors that have a front, from this row on, as far as they are in the part.
+/// Puts the rows of the detectors, from this row on, as far as they are in the part.
 pub fn put_detectors<O: Sink>(
     draft: &mut Draft,
     sink: &mut O,
     layout: Layout,
     row: u32,
     marks: &[FrontMark],
+    covers: &[Cover],
 )
     requires layout { IsLayout layout }
     requires part { layout.row ≤ 20000 }
     requires row { row ≤ 100000 }
-    ensures { Puts O.taken O.faults draft.old draft.new sink.old sink.new (detectors_text layout row marks.now 64) }
+    requires covers { length covers.now ≡ 64 }
+    ensures { Puts O.taken O.faults draft.old draft.new sink.old sink.new
+        (detectors_text layout row marks.now (spans_in covers.now) 64) }
 {
     let mut shown = 0;
     for place in 0..64u8 {
         let detector = DetNo(place + 1);
-        put_shown(draft, sink, layout, row + shown, detector, marks);
-        shown += row_count(marks, detector);
+        put_shown(draft, sink, layout, row + shown, detector, marks, covers);
+        shown += row_count(marks, covers, detector);
     }
 }

@@ -51,7 +51,7 @@ fn put_bars_style<O: Sink>(draft: &mut Draft, sink: &mut O)
     );
     draft.put(
         sink,
-        b".s{fill:#eef1f4;stroke:#000;stroke-width:.8}.i{fill:url(#i);stroke:#000;stroke-width:.8}\n",
+        b".s{fill:#eef1f4;stroke:#000;stroke-width:.8}.i{fill:url(#i);stroke:#000;stroke-width:.8}.q{fill:#9db4cc}\n",
     );
 }
 
@@ -94,7 +94,7 @@ fn put_dark_style<O: Sink>(draft: &mut Draft, sink: &mut O)
     );
     draft.put(
         sink,
-        b".m,.x{stroke:#16191c}.k{fill:#fff}.b{stroke:#3a4047}.c,.t,.f{stroke:#e6e8ea}.r{fill:#ff5a5f}}</style>\n",
+        b".m,.x{stroke:#16191c}.k{fill:#fff}.q{fill:#4a6480}.b{stroke:#3a4047}.c,.t,.f{stroke:#e6e8ea}.r{fill:#ff5a5f}}</style>\n",
     );
 }
 

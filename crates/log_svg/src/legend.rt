@@ -2,7 +2,7 @@
 ghost use Rattle.std.specs.Prelude.{◌+◌, ◌*◌, ◌^◌, ◌<◌, ◌≤◌, ◌++◌, ℕ, List, Option, codes, length};
 ghost use Rattle.sig_io.specs.Draft.{Puts};
 ghost use Rattle.log_svg.specs.Svg.{box_text, label_text};
-ghost use Rattle.log_svg.specs.Diagram.{aspects_key, commands_key, fault_key, fronts_key, key_text, legend_text, rule_key, rules_key, turns_key};
+ghost use Rattle.log_svg.specs.Diagram.{aspects_key, commands_key, cover_key, fault_key, fronts_key, key_text, legend_text, rule_key, rules_key, turns_key};
 
 use crate::marks::rule_letter;
 use crate::pieces::{begin_cross, begin_label, put_box, put_label, put_upright};
@@ -109,6 +109,15 @@ fn put_fronts_key<O: Sink>(draft: &mut Draft, sink: &mut O, y: u32)
     put_label(draft, sink, b"o", 664, y + 10, b"1, 2, more fronts");
 }
 
+// Puts the bar of a covered detector with its word.
+fn put_cover_key<O: Sink>(draft: &mut Draft, sink: &mut O, y: u32)
+    requires { y ≤ 200000 }
+    ensures { Puts O.taken O.faults draft.old draft.new sink.old sink.new (cover_key y) }
+{
+    put_box(draft, sink, b"q", (800, y + 6), 24, 6);
+    put_label(draft, sink, b"o", 830, y + 10, b"covered");
+}
+
 /// Puts the legend at this height.
 pub fn put_legend<O: Sink>(draft: &mut Draft, sink: &mut O, y: u32)
     requires { y ≤ 100000 }
@@ -118,5 +127,6 @@ pub fn put_legend<O: Sink>(draft: &mut Draft, sink: &mut O, y: u32)
     put_key(draft, sink, b"i", 436, y, b"interstage");
     put_fault_key(draft, sink, y);
     put_fronts_key(draft, sink, y);
+    put_cover_key(draft, sink, y);
     put_rules_key(draft, sink, y + 20);
 }

@@ -1,11 +1,12 @@
 //! A signal timing diagram as SVG text, in strips of seconds one below the other: the band of stages and interstages, a row for
-//! each group with its spans, the fronts of detectors, and marks for refused commands and faults.
+//! each group with its spans, bars and fronts of detectors, and marks for refused commands and faults.
 //!
-//! `specs/Diagram` has the whole text, piece by piece over `specs/Svg`, `specs/Axis`, `specs/Band` and `specs/Marks`.
+//! `specs/Diagram` has the whole text, piece by piece over `specs/Svg`, `specs/Axis`, `specs/Band`, `specs/Covers` and `specs/Marks`.
 #![tactic(auto)]
 
 mod axis;
 mod band;
+mod covers;
 mod diagram;
 mod fronts;
 mod groups;
@@ -17,6 +18,7 @@ mod pieces;
 mod row;
 
 pub use band::put_place;
+pub use covers::spans_of;
 pub use diagram::{Diagram, put_diagram};
 pub use fronts::FrontMark;
 pub use layout::{Layout, Sheet};

@@ -1,12 +1,15 @@
 -- The texts of a diagram of characters, one part more.
-use Rattle.std.proofs.Common.{◌≡◌, ◌∙◌, ℕ, suc, ◌+◌, List, [], ◌∷◌, ◌++◌, replicate, refl, sym, ap, arith, add-one, append_assoc, Option}
+use Rattle.std.proofs.Common.{◌≡◌, ◌∙◌, ℕ, suc, ◌+◌, Bool, List, [], ◌∷◌, ◌++◌, replicate, refl, sym, ap, arith, add-one, append_assoc, Option}
 use Rattle.std.proofs.lemmas.List.{replicate-append-replicate}
 use Rattle.sig_io.specs.Draft.{Held, Puts}
 use Rattle.sig_io.proofs.Drafts.{same_put, then}
+use Rattle.log_chart.specs.declared.span.Span.{Span}
 use Rattle.log_svg.specs.declared.fronts.FrontMark.{FrontMark}
+use Rattle.log_svg.specs.Covers.{spans_of}
 use Rattle.log_svg.specs.Diagram.{Shown}
 use Rattle.log_view.specs.declared.letters.Block.{Block}
-use Rattle.log_view.specs.Letters.{block_at, block_text, blocks_to, free_after, free_to, fronts_row, fronts_rows, group_rows, groups_rows, number_cell, numbers_to, tick_of, ticks_to}
+use Rattle.log_view.specs.declared.letters.MarkRow.{MarkRow}
+use Rattle.log_view.specs.Letters.{block_at, block_text, blocks_to, covered_to, detector_row, detector_rows, free_after, free_to, group_rows, groups_rows, number_cell, numbers_to, tick_of, ticks_to, with_letter}
 
 -- the same character once more
 pub times_more : (n letter : ℕ) → replicate n letter ++ letter ∷ [] ≡ replicate (n + 1) letter
@@ -25,10 +28,16 @@ pub ticks_more : (first n : ℕ) → ticks_to first (n + 1) ≡ ticks_to first n
 unfolding ticks_to
 ticks_more first n = rw add-one refl
 
+-- one covered second more
+pub covered_more : (block : Block) (row : MarkRow) (t n : ℕ) → covered_to block row t (n + 1) ≡ with_letter block (covered_to block row t n) (t + n) 61
+unfolding covered_to
+covered_more block row t n = rw add-one refl
+
 -- one detector more
-pub fronts_more : (block : Block) (marks : List FrontMark) (n : ℕ) → fronts_rows block marks (n + 1) ≡ fronts_rows block marks n ++ fronts_row block marks (n + 1)
-unfolding fronts_rows
-fronts_more block marks n = let next : n + 1 ≡ suc n = omega arith in ap (λ k. fronts_rows block marks k) next
+pub detectors_more : (block : Block) (marks : List FrontMark) (covers : List (List (Span Bool))) (n : ℕ) →
+    detector_rows block marks covers (n + 1) ≡ detector_rows block marks covers n ++ detector_row block marks (spans_of covers (n + 1)) (n + 1)
+unfolding detector_rows
+detectors_more block marks covers n = let next : n + 1 ≡ suc n = omega arith in ap (λ k. detector_rows block marks covers k) next
 
 -- one group more
 pub groups_more : (block : Block) (s : Shown) (n : ℕ) → groups_rows block s (n + 1) ≡ groups_rows block s n ++ group_rows block s n

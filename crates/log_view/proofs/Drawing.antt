@@ -1,6 +1,7 @@
 -- A diagram, as records are drawn.
 use Rattle.std.proofs.Common.{◌≡◌, ◌∙◌, ℕ, suc, zero, ◌+◌, ◌-◌, ◌<◌, ◌≤◌, List, [], ◌∷◌, ◌++◌, length, get_or, take, drop, map, refl, sym, ap, arith, length-append}
 use Rattle.std.specs.Prelude.{replicate}
+use Rattle.std.specs.Global.{Vec}
 use Rattle.std.specs.List.{flat_map}
 use Rattle.std.proofs.lemmas.Grind.{flat_map-append}
 use Rattle.std.proofs.lemmas.List.{append-nil, drop-append-le, drop_all, get_or_append_left, length-drop, length-map, map-append, take-append-le, take_all}
@@ -10,6 +11,7 @@ use Rattle.sig_types.specs.declared.numbers.StagePlace.{StagePlace}
 use Rattle.sig_types.specs.declared.numbers.StagePlace.TheVariants.{NoPlan}
 use Rattle.sig_types.specs.declared.record.Record.{Record}
 use Rattle.sig_types.specs.Turns.{History}
+use Rattle.log_chart.specs.declared.cover.Cover.{Cover}
 use Rattle.log_chart.specs.Spans.{AreSpans, IsChart}
 use Rattle.log_chart.specs.Stays.{without_second}
 use Rattle.log_svg.specs.declared.diagram.Diagram.{Diagram}
@@ -91,6 +93,32 @@ pub record IsPut (old new : Diagram) (r : Record) : Type 0 where
   pub fronts : new.fronts.items ≡ old.fronts.items ++ fronts_in r
   pub refusals : new.refusals.items ≡ old.refusals.items ++ refusals_in r
   pub faults : new.faults.items ≡ old.faults.items ++ faults_in r
+
+-- other detectors change nothing of what else is drawn
+pub recovered : (names : List (List ℕ)) (records : List Record) (from to : ℕ) (d : Diagram) (covers : Vec Cover) → IsDrawn names records from to d →
+    IsDrawn names records from to (record {
+      names = d.names;
+      from = d.from;
+      to = d.to;
+      chart = d.chart;
+      stays = d.stays;
+      fronts = d.fronts;
+      covers = covers;
+      refusals = d.refusals;
+      faults = d.faults;
+    })
+recovered names records from to d covers is = record {
+  names_are = is.names_are;
+  from_is = is.from_is;
+  to_is = is.to_is;
+  begins = is.begins;
+  past_is = is.past_is;
+  chart = is.chart;
+  stays = is.stays;
+  fronts = is.fronts;
+  refusals = is.refusals;
+  faults = is.faults;
+}
 
 -- a chart of all histories that show the same has a row for each group
 pub rows_of : (names : List (List ℕ)) (records : List Record) (from to : ℕ) (d : Diagram) → IsDrawn names records from to d → length d.chart.rows ≡ length names

@@ -1,10 +1,12 @@
 pub mod Marks
 pub mod Drawing
+pub mod Covering
 pub mod Ranges
 pub mod Showable
 pub mod Reading
 pub mod Blocks
 pub mod Calls
+pub mod NoteTexts
 pub mod NumberTexts
 pub mod CutTexts
 pub mod NameTexts

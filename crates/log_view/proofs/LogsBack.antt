@@ -4,7 +4,7 @@ use Rattle.std.proofs.lemmas.List.{append-nil}
 use Rattle.std.specs.Fmt.{decimal}
 use Rattle.std.specs.Option.{option_and_then}
 use Rattle.sig_types.specs.LogForm.{header_line, letter}
-use Rattle.sig_types.specs.Text.{fed_lines, number_of, within}
+use Rattle.sig_types.specs.Text.{number_of, within}
 use Rattle.sig_types.specs.declared.record.Record.{Record}
 use Rattle.signal_log.specs.Log.{count_text, counted_from, fault_text, header_text, log_text, or_dash, place_text, record_line, record_text, records_text, refused_texts}
 use Rattle.signal_log.proofs.FieldTexts.{counts_plain, letters_plain, or_dash_plain, place_plain, refused_plain}
@@ -16,10 +16,11 @@ use Rattle.log_records.specs.declared.refusal.LogWhy.{LogWhy}
 use Rattle.log_records.specs.Fields.{Fields, cut_fifth, cut_first, cut_fourth, cut_second, cut_third, fields_of}
 use Rattle.log_records.specs.Log.{HasRecords, IsLog}
 use Rattle.log_records.specs.Records.{IsEntry, record_reason}
+use Rattle.log_records.specs.Watchers.{told_lines}
 use Rattle.log_records.proofs.LogLaws.{one_answer, one_header}
-use Rattle.log_records.proofs.LogLemmas.{first_line}
 use Rattle.log_records.proofs.Steps.{step_ended, step_header, step_record}
-use Rattle.log_view.specs.Laws.{AreGroups, AreOfRun, IsLoggedRun, IsOfRun, OnlyWrittenIsRead, WrittenIsRead}
+use Rattle.log_records.proofs.WatcherLemmas.{header_unwatched, line_first, nothing_told, record_unwatched, watch_cuts}
+use Rattle.log_view.specs.Laws.{AreGroups, AreOfRun, IsLoggedRun, IsOfRun, OnlyWrittenIsRead, WatcherIsBehindLog, WrittenIsRead}
 use Rattle.log_view.proofs.CountsBack.{frame_again}
 use Rattle.log_view.proofs.CutTexts.{cut_again}
 use Rattle.log_view.proofs.FieldsBack.{fault_again, picture_again, place_again}
@@ -114,18 +115,18 @@ log_is names rs =
 read_on : (names : List (List ℕ)) (bytes : List ℕ) (n : ℕ) (done rs : List Record) → AreGroups names → 1 ≤ n →
     n + length rs ≤ 604802 →
     AreOfRun (length names) n rs →
-    fed_lines (lines_text names rs) ≡ drop n (fed_lines bytes) → HasRecords names (fed_lines bytes) n done →
+    told_lines (lines_text names rs) ≡ drop n (told_lines bytes) → HasRecords names (told_lines bytes) n done →
     IsLog names bytes (done ++ rs) None
 read_on names bytes n done [] groups some few are rest read =
-    rw (append-nil done) (step_ended names bytes n done [] some rest read refl)
+    rw (append-nil done) (step_ended names bytes n done (told_lines []) some rest read nothing_told)
 read_on names bytes n done (r ∷ rs) groups some few are rest read =
     let line : List ℕ = record_line names r in
-    let next : fed_lines (line ++ 10 ∷ lines_text names rs) ≡ line ∷ fed_lines (lines_text names rs) =
-    first_line (line ++ 10 ∷ lines_text names rs) line true (lines_text names rs)
-    record { no_feed = (lines_have_no_feed names groups.names_are).1 r; cut = refl } in
     let entry = line_entry names n r groups (omega arith) are.0 in
+    let next : told_lines (line ++ 10 ∷ lines_text names rs) ≡ line ∷ told_lines (lines_text names rs) =
+    line_first (line ++ 10 ∷ lines_text names rs) line true (lines_text names rs)
+    record { no_feed = (lines_have_no_feed names groups.names_are).1 r; cut = refl } (record_unwatched names n line r entry) in
     let short : length line ≤ 262144 = lines_are_short names r groups.names_are groups.few are.0.parts are.0.bounded in
-    let more = step_record names bytes n done (line ++ 10 ∷ lines_text names rs) line (fed_lines (lines_text names rs)) r some
+    let more = step_record names bytes n done (told_lines (line ++ 10 ∷ lines_text names rs)) line (told_lines (lines_text names rs)) r some
     (omega arith) rest read next short
     (not_refused names n line r entry) entry in
     subst (λ (all : List Record). IsLog names bytes all None) (append_assoc done (r ∷ []) rs)
@@ -136,11 +137,12 @@ lines_read : (names : List (List ℕ)) (rs : List Record) → IsLoggedRun names 
 lines_read names rs run =
     let bytes : List ℕ = header_line names ++ 10 ∷ lines_text names rs in
     let groups = run.groups in
-    let next : fed_lines bytes ≡ header_line names ∷ fed_lines (lines_text names rs) =
-    first_line bytes (header_line names) true (lines_text names rs)
-    record { no_feed = (lines_have_no_feed names groups.names_are).0; cut = refl } in
-    let more = step_header names bytes bytes (header_line names) (fed_lines (lines_text names rs)) refl next
-    (header_is_short names groups.names_are groups.few) (header_again names groups) in
+    let header = header_again names groups in
+    let next : told_lines bytes ≡ header_line names ∷ told_lines (lines_text names rs) =
+    line_first bytes (header_line names) true (lines_text names rs)
+    record { no_feed = (lines_have_no_feed names groups.names_are).0; cut = refl } (header_unwatched names (header_line names) header) in
+    let more = step_header names bytes (told_lines bytes) (header_line names) (told_lines (lines_text names rs)) refl next
+    (header_is_short names groups.names_are groups.few) header in
     read_on names bytes 1 [] rs groups (omega arith) (omega (arith, run.few)) run.records_are more.rest more.accepted
 
 pub written_is_read : WrittenIsRead
@@ -153,3 +155,24 @@ only_written_is_read names others rs read refused run said =
     let whole : IsLog others (log_text names rs) read None =
     subst (λ (o : Option (ℕ × LogWhy)). IsLog others (log_text names rs) read o) (sym one.1) said in
     (sym (one_header names others (log_text names rs) rs read (written_is_read names rs run) whole), sym one.0, sym one.1)
+
+-- ---- what stands behind the log
+
+-- a log ends with a line feed
+record IsFed (text : List ℕ) : Type 0 where
+  front : List ℕ
+  is : text ≡ front ++ 10 ∷ []
+
+fed_behind : (front : List ℕ) (names : List (List ℕ)) (rs : List Record) → IsFed (front ++ 10 ∷ lines_text names rs)
+fed_behind front names [] = record { front = front; is = refl }
+fed_behind front names (r ∷ rs) =
+    subst IsFed (append_assoc front (10 ∷ record_line names r) (10 ∷ lines_text names rs))
+    (fed_behind (front ++ 10 ∷ record_line names r) names rs)
+
+pub watcher_is_behind_log : WatcherIsBehindLog
+watcher_is_behind_log names rs line rest no_feed is =
+    let log = log_text names rs in
+    let fed = subst IsFed (sym (log_is names rs)) (fed_behind (header_line names) names rs) in
+    let behind : log ++ (line ++ 10 ∷ rest) ≡ fed.front ++ 10 ∷ (line ++ 10 ∷ rest) =
+    ap (λ l. l ++ (line ++ 10 ∷ rest)) fed.is ∙ append_assoc fed.front (10 ∷ []) (line ++ 10 ∷ rest) in
+    ap told_lines behind ∙ watch_cuts fed.front line rest no_feed is ∙ ap told_lines (sym fed.is)

@@ -14,10 +14,11 @@ use Rattle.log_records.specs.Records.{IsEntry}
 use Rattle.log_svg.specs.declared.diagram.Diagram.{Diagram}
 use Rattle.log_view.specs.declared.form.Window.{Window}
 use Rattle.log_view.specs.Answers.{EndsEarly, IsDiagramOf, IsUndrawn}
-use Rattle.log_view.specs.Drawn.{AreSaid, IsDrawn}
+use Rattle.log_view.specs.Drawn.{AreCovered, AreSaid, IsDrawn}
 use Rattle.log_view.specs.Form.{IsWindow}
 use Rattle.log_view.specs.Gathered.{history_of, places_of}
 use Rattle.log_view.specs.Notes.{stop_of}
+use Rattle.log_view.proofs.Covering.{cover_whole}
 
 -- these records were read of a log, and are drawn
 pub record HasDrawn (told : Option Contents) (name : List ℕ) (r : LogRecords) (window : Window) (d : Diagram) : Type 0 where
@@ -26,10 +27,12 @@ pub record HasDrawn (told : Option Contents) (name : List ℕ) (r : LogRecords) 
   pub said : AreSaid (names_of r) records
   pub reads : ForSome told (λ file. Reads r (file name) records)
   pub drawn : IsDrawn (names_of r) records window.from window.to d
+  pub covers : AreCovered records window.from window.to d.covers.items
 
 pub draw_first : (told : Option Contents) (name : List ℕ) (r : LogRecords) (window : Window) (d : Diagram) → records_given r ≡ 0 → ForSome told (λ file. Reads r (file name) []) →
-    IsDrawn (names_of r) [] window.from window.to d → HasDrawn told name r window d
-draw_first told name r window d none reads drawn = record { records = []; count = sym none; said = λ k e lt. absurd (omega arith); reads = reads; drawn = drawn }
+    IsDrawn (names_of r) [] window.from window.to d → AreCovered [] window.from window.to d.covers.items → HasDrawn told name r window d
+draw_first told name r window d none reads drawn covers =
+    record { records = []; count = sym none; said = λ k e lt. absurd (omega arith); reads = reads; drawn = drawn; covers = covers }
 
 pub said_more : (names : List (List ℕ)) (records : List Record) (r : Record) (n : ℕ) → n ≡ length records + 1 → AreSaid names records → (line : List ℕ) × IsEntry names n line r → AreSaid names (records ++ r ∷ [])
 said_more names records r n place said more k d lt = elim (cases_lt k (length records)) [
@@ -43,8 +46,10 @@ pub draw_next : (told : Option Contents) (name : List ℕ) (old new : LogRecords
     records_given new ≡ records_given old + 1 → ForSome told (λ file. AnswersNext (file (name_of old)) old new (Ok true)) →
     (line : List ℕ) × IsEntry (names_of new) (records_given new) line (record_given new) →
     ((names : List (List ℕ)) (records : List Record) (w : Window) → IsWindow w → (record_given new).second.0 ≡ length records + 1 → IsDrawn names records w.from w.to d →
-    IsDrawn names (records ++ record_given new ∷ []) w.from w.to e) → HasDrawn told name old window d → HasDrawn told name new window e
-draw_next told name old new window d e is named names given next said take drawn =
+    IsDrawn names (records ++ record_given new ∷ []) w.from w.to e) →
+    ((records : List Record) → (record_given new).second.0 ≡ length records + 1 → d.to < 2147483648 → AreCovered records d.from d.to d.covers.items →
+    AreCovered (records ++ record_given new ∷ []) d.from d.to e.covers.items) → HasDrawn told name old window d → HasDrawn told name new window e
+draw_next told name old new window d e is named names given next said take cover drawn =
     let place : records_given new ≡ length drawn.records + 1 = omega (arith, given, drawn.count) in
     record {
       records = drawn.records ++ record_given new ∷ [];
@@ -52,6 +57,8 @@ draw_next told name old new window d e is named names given next said take drawn
       said = said_more (names_of new) drawn.records (record_given new) (records_given new) place (rw (← names) at drawn.said) said;
       reads = λ file told_is. rw named at (next file told_is drawn.records (rw (← named) at (drawn.reads file told_is)));
       drawn = rw names (take (names_of old) drawn.records window is (said.1.second ∙ place) drawn.drawn);
+      covers = rw (drawn.drawn.from_is, drawn.drawn.to_is) at (cover drawn.records (said.1.second ∙ place) (omega (arith, is.last, drawn.drawn.to_is))
+          (rw (drawn.drawn.from_is, drawn.drawn.to_is) drawn.covers));
     }
 
 -- why a log isn't drawn
@@ -91,6 +98,7 @@ draw_whole told name old new window d count window_is named given same whole nex
         chart = rw past at (drawn.drawn.chart (history_of (length (names_of old)) drawn.records) (λ t le. refl));
         stays = rw past at (drawn.drawn.stays (places_of drawn.records) (λ t le. refl));
         fronts = drawn.drawn.fronts;
+        covers = cover_whole drawn.records window.from window.to d.covers.items window_is.order long drawn.covers;
         refusals = drawn.drawn.refusals;
         faults = drawn.drawn.faults;
       };

@@ -15,6 +15,7 @@ use Rattle.log_view.specs.declared.form.Window.{Window}
 use Rattle.log_view.specs.Drawn.{AreSaid, IsDrawn}
 use Rattle.log_view.specs.Form.{IsWindow}
 use Rattle.log_view.specs.Gathered.{history_of, refusals_in, window_in}
+use Rattle.log_view.proofs.Covering.{spans_count}
 use Rattle.log_view.proofs.Ranges.{AreFew, IsRanged, ranged}
 
 none_of : {A : Type 0} (P : A → Type 0) → All P []
@@ -97,8 +98,8 @@ refusals_ok n r few =
 
 -- a diagram of a whole window can be shown
 pub showable : (names : List (List ℕ)) (records : List Record) (window : Window) (d : Diagram) → IsWindow window → length names ≤ 64 → AreSaid names records → window.to ≤ length records →
-    IsDrawn names records window.from window.to d → IsShowable (shown_in d)
-showable names records window d is few said long drawn =
+    IsDrawn names records window.from window.to d → length d.covers.items ≡ 64 → IsShowable (shown_in d)
+showable names records window d is few said long drawn size =
     let from = window.from in
     let to = window.to in
     let past : d.chart.past ≡ to + 1 = omega (arith, drawn.past_is, long, is.order) in
@@ -112,4 +113,5 @@ showable names records window d is few said long drawn =
       chart = rw past at (drawn.chart (history_of (length names) records) (λ t le. refl));
       refusals = all_added (λ m. IsRefused (length names) m.refused) refusals_in (window_in from to records) (λ i r lt.
           refusals_ok (length names) (get_or (window_in from to records) i r) (inside i r lt).refused);
+      covers = spans_count d.covers.items size;
     }

@@ -15,14 +15,19 @@ use Rattle.log_view.specs.declared.stop.Stop.TheVariants.{Memory, Words, TooMany
 use Rattle.log_view.specs.Answers.{IsDiagramOf, IsUndrawn}
 use Rattle.log_view.specs.Form.{Asked, Diagram, Help, Text, Version, form_of}
 use Rattle.log_view.specs.Letters.{letters_text}
+use Rattle.log_view.specs.declared.named.FormName.TheVariants as name
+use Rattle.log_view.specs.Named.{form_words}
 use Rattle.log_view.specs.Notes.{status_of, stop_note}
 
 -- how it is called
 unfoldable pub usage_text : List ℕ
 usage_text =
-    codes "log_report diagram LOG FROM TO [--strip N]\n                                 an SVG signal timing diagram of these seconds, at most 3600, in strips of N (120)\n"
-    ++ codes "log_report text LOG FROM TO      the same as characters\n"
-    ++ codes "log_report sums LOG [FROM TO] [--each SECONDS] [--csv]\n                                 what groups, stages, refusals, faults and detectors add up to, in parts of so many seconds\n"
+    form_words name.Diagram
+    ++ codes "\n                                 an SVG signal timing diagram of these seconds, at most 3600, in strips of N (120)\n"
+    ++ form_words name.Text
+    ++ codes "      the same as characters\n"
+    ++ form_words name.Sums
+    ++ codes "\n                                 what groups, stages, refusals, faults and detectors add up to, in parts of so many seconds\n"
     ++ codes "log_report breaches LOG PUA TIMES INTERGREENS [--amber-tolerance N] [--csv]\n                                 each breach of the rules by any controller, in words or as a table\n"
     ++ codes "log_report protocol LOG PUA TIMES INTERGREENS [--csv]\n                                 what came in the log of any controller, beside what the tables say\n"
     ++ codes "log_report refusals LOG PUA TIMES INTERGREENS [FROM TO] [--csv]\n                                 why each command and each turn was refused, in numbers\n"
@@ -71,10 +76,10 @@ abbrev pub status_by : Result (Unit {0}) Stop → Status
 status_by (Ok x) = Done
 status_by (Err stop) = status_of stop
 
--- the note of a call that gives this: none where all was done
-abbrev pub IsNoted : Result (Unit {0}) Stop → Seen (List ℕ) → Type 0
-IsNoted (Ok x) notes = notes.new ≡ notes.old
-IsNoted (Err stop) notes = (Rose notes.before notes.after → ⊥) → notes.new ≡ append_known notes.old (stop_note stop)
+-- the note of a call with these words that gives this: none where all was done
+abbrev pub IsNoted : List (List ℕ) → Result (Unit {0}) Stop → Seen (List ℕ) → Type 0
+IsNoted words (Ok x) notes = notes.new ≡ notes.old
+IsNoted words (Err stop) notes = (Rose notes.before notes.after → ⊥) → notes.new ≡ append_known notes.old (stop_note words stop)
 
 -- words that are no form are not answered; what a form asks for is answered where the files tell what they hold
 abbrev pub IsAnswerTo : Result Asked Stop → Seen Contents → Seen (List ℕ) → Result (Unit {0}) Stop → Type 0
@@ -86,6 +91,6 @@ pub record IsReported (words : List (List ℕ)) (files : Seen Contents) (out not
   pub given : Result (Unit {0}) Stop
   pub answer : IsAnswerTo (form_of words) files out given
   pub status_is : status ≡ status_by given
-  pub note : IsNoted given notes
+  pub note : IsNoted words given notes
   pub read_fault : given ≡ Err ReadFault → Rose files.before files.after
   pub write_fault : given ≡ Err WriteFault → Rose out.before out.after

@@ -4,8 +4,11 @@ use Rattle.std.specs.List.{flat_map}
 use Rattle.sig_types.specs.declared.numbers.StagePlace.{StagePlace}
 use Rattle.sig_types.specs.declared.record.Record.{Record}
 use Rattle.sig_types.specs.Turns.{History}
+use Rattle.log_chart.specs.declared.cover.Cover.{Cover}
 use Rattle.log_chart.specs.Spans.{AreSpans, IsChart}
+use Rattle.log_cover.specs.Covers.{IsCover}
 use Rattle.log_records.specs.Records.{IsEntry}
+use Rattle.record_sums.specs.Told.{AgreesTo, fronts_by, rears_by, told}
 use Rattle.log_svg.specs.declared.diagram.Diagram.{Diagram}
 use Rattle.log_view.specs.Gathered.{faults_in, fronts_in, history_of, places_of, refusals_in, window_in}
 
@@ -39,3 +42,9 @@ pub record IsDrawn (names : List (List ℕ)) (records : List Record) (from to : 
   pub fronts : d.fronts.items ≡ flat_map fronts_in (window_in from to records)
   pub refusals : d.refusals.items ≡ flat_map refusals_in (window_in from to records)
   pub faults : d.faults.items ≡ flat_map faults_in (window_in from to records)
+
+-- what is known of the detectors behind those of these records that are not after second `to`, whatever follows them
+pub record AreCovered (records : List Record) (from to : ℕ) (covers : List Cover) : Type 0 where
+  pub size : length covers ≡ 64
+  pub each : (p : ℕ) (d : Cover) (f r : ℕ → ℕ) → p < 64 → AgreesTo f (told (fronts_by p) 0 records) (length records) →
+      AgreesTo r (told (rears_by p) 0 records) (length records) → IsCover f r from (min to (length records)) (slice_index_or covers p d)

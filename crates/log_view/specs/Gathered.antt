@@ -1,5 +1,5 @@
 -- What a diagram gathers of the records of a log.
-use Rattle.std.specs.Prelude.{◌≡◌, ℕ, ◌+◌, ◌-◌, ◌==◌, if◌then◌else◌}
+use Rattle.std.specs.Prelude.{◌≡◌, ℕ, ◌+◌, ◌-◌, ◌<◌, ◌==◌, Bool, if◌then◌else◌}
 use Rattle.std.specs.Prelude.{List, [], ◌∷◌, ◌++◌, length, map, take, drop, replicate, slice_index_or, Option, Some, None}
 use Rattle.std.specs.List.{flat_map}
 use Rattle.sig_types.specs.declared.aspect.Aspect.TheVariants.{Red}
@@ -10,6 +10,8 @@ use Rattle.sig_types.specs.declared.refused.Fault.{Fault}
 use Rattle.sig_types.specs.declared.refused.StageRefusal.{StageRefusal}
 use Rattle.sig_types.specs.declared.refused.TurnRefusal.{TurnRefusal}
 use Rattle.sig_types.specs.Turns.{History}
+use Rattle.log_sums.specs.Detectors.{occupied}
+use Rattle.record_sums.specs.Told.{fronts_by, rears_by, told}
 use Rattle.log_chart.specs.Spans.{AreSpans, IsChart}
 use Rattle.log_chart.specs.Stays.{without_second}
 use Rattle.log_svg.specs.declared.fronts.FrontMark.{FrontMark}
@@ -25,6 +27,11 @@ history_of groups records = replicate groups Red ∷ map (λ r. r.picture) recor
 -- the place of the run in second t
 abbrev pub places_of : List Record → ℕ → StagePlace
 places_of records t = without_second (slice_index_or (NoPlan ∷ map (λ r. r.place) records) t NoPlan)
+
+-- the detector at this place, which is its number less 1, is covered at the end of second t: its fronts so far are more than its
+-- rears so far
+abbrev pub covered_in : List Record → ℕ → ℕ → Bool
+covered_in records p t = occupied (told (fronts_by p) 0 records) (told (rears_by p) 0 records) t
 
 -- the records of the seconds from `from` to `to`
 abbrev pub window_in : ℕ → ℕ → List Record → List Record
@@ -72,5 +79,6 @@ pub record IsGathered (names : List (List ℕ)) (records : List Record) (from to
   pub chart : IsChart (history_of (length names) records) (length names) from (to + 1) s.rows
   pub stays : AreSpans (places_of records) from (to + 1) s.stays
   pub fronts : s.fronts ≡ flat_map fronts_in (window_in from to records)
+  pub covers : (p : ℕ) → p < 64 → AreSpans (covered_in records p) from (to + 1) (slice_index_or s.covers p [])
   pub refusals : s.refusals ≡ flat_map refusals_in (window_in from to records)
   pub faults : s.faults ≡ flat_map faults_in (window_in from to records)

@@ -1,5 +1,5 @@
 -- What a run's log says is read of it.
-use Rattle.std.specs.Prelude.{◌≡◌, ℕ, ◌+◌, ◌^◌, ◌<◌, ◌≤◌, true, List, [], ◌∷◌, length, All, Option, None, Some}
+use Rattle.std.specs.Prelude.{◌≡◌, ◌==◌, ℕ, ◌+◌, ◌^◌, ◌<◌, ◌≤◌, true, false, List, [], ◌∷◌, ◌++◌, length, All, Option, None, Some}
 use Rattle.std.specs.Option.{ForSome}
 use Rattle.pua_model.specs.Plan.{are_apart, are_names}
 use Rattle.sig_types.specs.declared.aspect.Rule.{Rule}
@@ -16,6 +16,7 @@ use Rattle.signal_log.specs.Laws.{IsBounded}
 use Rattle.signal_log.specs.Log.{log_text}
 use Rattle.log_records.specs.declared.refusal.LogWhy.{LogWhy}
 use Rattle.log_records.specs.Log.{IsLog}
+use Rattle.log_records.specs.Watchers.{is_watch, told_lines}
 
 -- names of the groups of a plan: 1 to 64, of which none stands twice, in any case
 pub record AreGroups (names : List (List ℕ)) : Type 0 where
@@ -98,3 +99,8 @@ abbrev pub OnlyWrittenIsRead : Type 0
 OnlyWrittenIsRead =
     (names others : List (List ℕ)) (records read : List Record) (refused : Option (ℕ × LogWhy)) → IsLoggedRun names records →
     IsLog others (log_text names records) read refused → (others ≡ names) × (read ≡ records) × (refused ≡ None)
+
+-- Behind such a log a watcher's line changes nothing of the lines that tell it, whatever stands behind that line.
+abbrev pub WatcherIsBehindLog : Type 0
+WatcherIsBehindLog = (names : List (List ℕ)) (records : List Record) (line rest : List ℕ) → All (λ b. (b == 10) ≡ false) line →
+    is_watch line ≡ true → told_lines (log_text names records ++ (line ++ 10 ∷ rest)) ≡ told_lines (log_text names records)

@@ -15,6 +15,7 @@ use Rattle.log_svg.specs.declared.fronts.FrontMark.{FrontMark}
 use Rattle.log_svg.specs.declared.marks.FaultMark.{FaultMark}
 use Rattle.log_svg.specs.declared.marks.RefusalMark.{RefusalMark}
 use Rattle.log_svg.specs.Band.{place_name}
+use Rattle.log_svg.specs.Covers.{spans_of}
 use Rattle.log_svg.specs.Marks.{is_of, rule_letter, rule_of}
 use Rattle.log_svg.specs.Diagram.{Shown}
 use Rattle.log_view.specs.declared.letters.Block.{Block}
@@ -174,14 +175,25 @@ with_front block d row m = if m.detector.0 == d then with_letter block row m.sec
 abbrev pub detector_word : ℕ → List ℕ
 detector_word d = codes "D" ++ decimal d ++ (if nat_lt d 10 then codes " " else [])
 
--- the row of a detector's fronts
-unfoldable pub fronts_row : Block → List FrontMark → ℕ → List ℕ
-fronts_row block marks d = marks_text block (detector_word d) (fold (with_front block d) empty_row marks)
+-- the row with the sign of a covered detector in the first n seconds from second t on
+unfoldable pub covered_to : Block → MarkRow → ℕ → ℕ → MarkRow
+covered_to block row t zero = row
+covered_to block row t (suc n) = with_letter block (covered_to block row t n) (t + n) 61
+
+-- the row with the seconds of a span, where the detector is covered in them
+abbrev pub with_cover : Block → MarkRow → Span Bool → MarkRow
+with_cover block row s = if s.shown then covered_to block row (max block.first s.first.0) (seconds_in block s.first.0 s.last.0) else row
+
+-- the row of a detector: its fronts, and where there are none, that it is covered
+unfoldable pub detector_row : Block → List FrontMark → List (Span Bool) → ℕ → List ℕ
+detector_row block marks spans d =
+    marks_text block (detector_word d) (fold (with_front block d) (fold (with_cover block) empty_row spans) marks)
 
 -- the rows of the first k detectors
-unfoldable pub fronts_rows : Block → List FrontMark → ℕ → List ℕ
-fronts_rows block marks zero = []
-fronts_rows block marks (suc k) = fronts_rows block marks k ++ fronts_row block marks (k + 1)
+unfoldable pub detector_rows : Block → List FrontMark → List (List (Span Bool)) → ℕ → List ℕ
+detector_rows block marks covers zero = []
+detector_rows block marks covers (suc k) =
+    detector_rows block marks covers k ++ detector_row block marks (spans_of covers (k + 1)) (k + 1)
 
 -- ---- the whole
 
@@ -207,7 +219,7 @@ block_head block s =
 
 -- the groups, the faults and the detectors of a block
 unfoldable pub block_rows : Block → Shown → List ℕ
-block_rows block s = groups_rows block s (length s.names) ++ faults_row block s.faults ++ fronts_rows block s.fronts 64
+block_rows block s = groups_rows block s (length s.names) ++ faults_row block s.faults ++ detector_rows block s.fronts s.covers 64
 
 -- the rows of a block
 unfoldable pub block_text : Block → Shown → List ℕ
@@ -229,7 +241,7 @@ blocks_to s (suc k) = blocks_to s k ++ block_text (block_at s k) s
 -- what the characters mean
 unfoldable pub key_text : List ℕ
 key_text =
-    codes "- red  / red-amber  # green  \\ amber  X fault  1 to 9, * fronts\n"
+    codes "- red  / red-amber  # green  \\ amber  X fault  1 to 9, * fronts  = covered\n"
     ++ codes "refused: G minimum green  R minimum red  C conflict  I intergreen  S sequence  r interstage runs  w wrong stage  n no interstage\n"
 
 -- the whole text

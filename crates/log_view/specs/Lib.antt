@@ -1,5 +1,6 @@
 pub mod Form
 pub mod Asked
+pub mod Named
 pub mod Notes
 pub mod Gathered
 pub mod Drawn

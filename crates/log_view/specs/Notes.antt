@@ -1,14 +1,16 @@
 -- How a call that stopped ends, and its note.
-use Rattle.std.specs.Prelude.{ℕ, List, ◌++◌, codes}
+use Rattle.std.specs.Prelude.{ℕ, List, ◌++◌, codes, Option, None, Some}
 use Rattle.std.specs.Fmt.{decimal}
 use Rattle.log_records.specs.declared.refusal.LogWhy.{LogWhy}
 use Rattle.log_records.specs.declared.refusal.LogWhy.TheVariants as why
 use Rattle.log_records.specs.declared.refusal.LogStop.{LogStop}
 use Rattle.log_records.specs.declared.refusal.LogStop.TheVariants as log
+use Rattle.log_view.specs.declared.named.FormName.{FormName}
 use Rattle.log_view.specs.declared.stop.Status.{Status}
 use Rattle.log_view.specs.declared.stop.Status.TheVariants as status
 use Rattle.log_view.specs.declared.stop.Stop.{Stop}
 use Rattle.log_view.specs.declared.stop.Stop.TheVariants.{Memory, Words, TooManySeconds, ReadFault, WriteFault, Line, LogEnds}
+use Rattle.log_view.specs.Named.{form_begun, form_words, log_named}
 
 -- how a call ends that stopped so
 abbrev pub status_of : Stop → Status
@@ -48,16 +50,25 @@ reason_name why.Fault = codes "Fault"
 reason_name why.LineTooLong = codes "LineTooLong"
 reason_name why.TooManySeconds = codes "TooManySeconds"
 
--- what the note says of a stop
-abbrev pub stop_words : Stop → List ℕ
-stop_words Memory = codes "Memory"
-stop_words Words = codes "Words"
-stop_words TooManySeconds = codes "TooManySeconds 3600"
-stop_words ReadFault = codes "ReadFault"
-stop_words WriteFault = codes "WriteFault"
-stop_words (Line line why) = decimal line ++ codes ": " ++ reason_name why
-stop_words (LogEnds last) = codes "LogEnds " ++ decimal last
+-- what would be words of a form: those of the form that is begun, and else what the usage tells
+abbrev pub right_words : Option FormName → List ℕ
+right_words None = codes "see log_report --help"
+right_words (Some form) = form_words form ++ codes ", or --help"
 
--- the note of a stop
-unfoldable pub stop_note : Stop → List ℕ
-stop_note stop = codes "log_report: " ++ stop_words stop ++ codes "\n"
+-- what the note says of a stop of a call with these words: of a log that wasn't read to its end, its name
+abbrev pub stop_words : List (List ℕ) → Stop → List ℕ
+stop_words words Memory = codes "Memory"
+stop_words words Words = codes "Words: " ++ right_words (form_begun words)
+stop_words words TooManySeconds = codes "TooManySeconds 3600"
+stop_words words ReadFault = log_named words ++ codes ": ReadFault"
+stop_words words WriteFault = codes "WriteFault"
+stop_words words (Line line why) = log_named words ++ codes ":" ++ decimal line ++ codes ": " ++ reason_name why
+stop_words words (LogEnds last) = log_named words ++ codes ": LogEnds " ++ decimal last
+
+-- a note, with the name of the program before it and its line feed
+abbrev pub note_of : List ℕ → List ℕ
+note_of text = codes "log_report: " ++ text ++ codes "\n"
+
+-- the note of a stop of a call with these words
+unfoldable pub stop_note : List (List ℕ) → Stop → List ℕ
+stop_note words stop = note_of (stop_words words stop)

@@ -14,6 +14,7 @@ ghost use Rattle.log_view.specs.Letters.{letters_text};
 use crate::form::{Form, form_of};
 use crate::gathering::gather;
 use crate::letters::put_text;
+use crate::named::{FormName, form_words};
 use crate::stop::{Status, Stop, status_of, write_stop};
 use log_svg::{Diagram, put_diagram};
 use sig_io::{Draft, Files, Sink};
@@ -24,17 +25,17 @@ use std::alloc::Global;
 fn put_usage<O: Sink>(draft: &mut Draft, sink: &mut O)
     ensures { Puts O.taken O.faults draft.old draft.new sink.old sink.new usage_text }
 {
+    draft.put(sink, form_words(FormName::Diagram));
     draft.put(
         sink,
-        b"log_report diagram LOG FROM TO [--strip N]\n                                 an SVG signal timing diagram of these seconds, at most 3600, in strips of N (120)\n",
+        b"\n                                 an SVG signal timing diagram of these seconds, at most 3600, in strips of N (120)\n",
     );
+    draft.put(sink, form_words(FormName::Text));
+    draft.put(sink, b"      the same as characters\n");
+    draft.put(sink, form_words(FormName::Sums));
     draft.put(
         sink,
-        b"log_report text LOG FROM TO      the same as characters\n",
-    );
-    draft.put(
-        sink,
-        b"log_report sums LOG [FROM TO] [--each SECONDS] [--csv]\n                                 what groups, stages, refusals, faults and detectors add up to, in parts of so many seconds\n",
+        b"\n                                 what groups, stages, refusals, faults and detectors add up to, in parts of so many seconds\n",
     );
     draft.put(
         sink,
@@ -171,14 +172,14 @@ pub fn report<F: Files, O: Sink, N: Sink>(
     let form = match form_of(words) {
         Ok(form) => form,
         Err(stop) => {
-            write_stop(notes, &stop);
+            write_stop(notes, words, &stop);
             return status_of(&stop);
         }
     };
     match do_form(alloc, form, files, out) {
         Ok(()) => Status::Done,
         Err(stop) => {
-            write_stop(notes, &stop);
+            write_stop(notes, words, &stop);
             status_of(&stop)
         }
     }

@@ -12,13 +12,14 @@ ghost use Rattle.log_svg.specs.Diagram.{IsShowable};
 ghost use Rattle.log_svg.specs.ShownIn.{shown_in};
 ghost use Rattle.log_view.specs.declared.form.Window.{Window};
 ghost use Rattle.log_view.specs.Answers.{IsGathering, IsOfReading};
-ghost use Rattle.log_view.specs.Drawn.{IsDrawn};
+ghost use Rattle.log_view.specs.Drawn.{AreCovered, IsDrawn};
 ghost use Rattle.log_view.specs.Form.{IsWindow};
 ghost use Rattle.log_view.specs.Gathered.{commands_by, fault_by, faults_in, front_by, fronts_from, fronts_in, refusals_in, turns_by};
 
 use crate::form::Window;
 use crate::stop::{Stop, stop_of};
-use log_chart::{Chart, add_stay};
+use log_chart::{Chart, Cover, add_stay};
+use log_cover::{no_covers, take_frame};
 use log_records::LogRecords;
 use log_svg::{Diagram, FaultMark, FrontMark, RefusalMark, Refused};
 use sig_io::Files;
@@ -161,6 +162,7 @@ fn add_second(diagram: &mut Diagram, rec: &Record) -> Result<(), Memory>
         a rec.now.second.0 ≡ without_second rec.now.place → AreSpans a from rec.now.second.0 diagram.old.stays.items →
         AreSpans a from (rec.now.second.0 + 1) diagram.new.stays.items) }
     ensures fronts { OnOk result (diagram.new.fronts.items ≡ diagram.old.fronts.items ++ fronts_in rec.now) }
+    ensures covers { diagram.new.covers ≡ diagram.old.covers }
     ensures refusals { OnOk result (diagram.new.refusals.items ≡ diagram.old.refusals.items ++ refusals_in rec.now) }
     ensures faults { OnOk result (diagram.new.faults.items ≡ diagram.old.faults.items ++ faults_in rec.now) }
 {
@@ -187,7 +189,8 @@ fn add_second(diagram: &mut Diagram, rec: &Record) -> Result<(), Memory>
 fn begin(alloc: Global, names: &[ShortName], window: Window) -> Result<Diagram, Memory>
     requires few { length names.now ≤ 64 }
     requires window { IsWindow window }
-    ensures { IfOk result (λ d. IsDrawn names.now [] window.from window.to d) }
+    ensures drawn { IfOk result (λ d. IsDrawn names.now [] window.from window.to d) }
+    ensures covers { IfOk result (λ d. AreCovered [] window.from window.to d.covers.items) }
 {
     let copies = match copy_names(alloc, names) {
         Ok(copies) => copies,
@@ -197,6 +200,10 @@ fn begin(alloc: Global, names: &[ShortName], window: Window) -> Result<Diagram, 
         Ok(chart) => chart,
         Err(memory) => return Err(memory),
     };
+    let covers = match no_covers(alloc) {
+        Ok(covers) => covers,
+        Err(memory) => return Err(memory),
+    };
     Ok(Diagram {
         names: copies,
         from: window.from,
@@ -204,18 +211,20 @@ fn begin(alloc: Global, names: &[ShortName], window: Window) -> Result<Diagram, 
         chart,
         stays: Vec::new(alloc),
         fronts: Vec::new(alloc),
+        covers,
         refusals: Vec::new(alloc),
         faults: Vec::new(alloc),
     })
 }
 
-// Takes the next record, of which the diagram shows what is in its seconds.
-fn take_record(diagram: &mut Diagram, rec: &Record) -> Result<(), Memory>
+// Takes the next record, of which a diagram's charts and marks show what is in its seconds.
+fn take_window(diagram: &mut Diagram, rec: &Record) -> Result<(), Memory>
     requires groups { length rec.now.picture ≡ length diagram.old.chart.rows }
     requires fits { diagram.old.chart.past < 2 ^ 32 - 1 }
-    ensures { OnOk result ((names : List (List ℕ)) (records : List Record) (window : Window) → IsWindow window →
+    ensures drawn { OnOk result ((names : List (List ℕ)) (records : List Record) (window : Window) → IsWindow window →
         rec.now.second.0 ≡ length records + 1 → IsDrawn names records window.from window.to diagram.old →
         IsDrawn names (records ++ rec.now ∷ []) window.from window.to diagram.new) }
+    ensures covers { diagram.new.covers ≡ diagram.old.covers }
 {
     let second = rec.second.0;
     if diagram.from <= second && second <= diagram.to {
@@ -225,6 +234,43 @@ fn take_record(diagram: &mut Diagram, rec: &Record) -> Result<(), Memory>
         }
     }
     Ok(())
+}
+
+// Takes the next record for the detectors, which count from second 1 on.
+fn take_covers(covers: &mut Vec<Cover>, from: u32, to: u32, rec: &Record) -> Result<(), Memory>
+    requires { length covers.old.items ≡ 64 }
+    ensures { OnOk result ((records : List Record) → rec.now.second.0 ≡ length records + 1 → to < 2 ^ 31 →
+        AreCovered records from to covers.old.items → AreCovered (records ++ rec.now ∷ []) from to covers.new.items) }
+{
+    if to < rec.second.0 {
+        return Ok(());
+    }
+    match take_frame(covers, from, rec.second.0, &rec.frame) {
+        Ok(()) => Ok(()),
+        Err(memory) => Err(memory),
+    }
+}
+
+// Takes the next record.
+fn take_record(diagram: &mut Diagram, rec: &Record) -> Result<(), Memory>
+    requires groups { length rec.now.picture ≡ length diagram.old.chart.rows }
+    requires fits { diagram.old.chart.past < 2 ^ 32 - 1 }
+    requires covers { length diagram.old.covers.items ≡ 64 }
+    ensures drawn { OnOk result ((names : List (List ℕ)) (records : List Record) (window : Window) → IsWindow window →
+        rec.now.second.0 ≡ length records + 1 → IsDrawn names records window.from window.to diagram.old →
+        IsDrawn names (records ++ rec.now ∷ []) window.from window.to diagram.new) }
+    ensures covers { OnOk result ((records : List Record) → rec.now.second.0 ≡ length records + 1 → diagram.old.to < 2 ^ 31 →
+        AreCovered records diagram.old.from diagram.old.to diagram.old.covers.items →
+        AreCovered (records ++ rec.now ∷ []) diagram.old.from diagram.old.to diagram.new.covers.items) }
+{
+    match take_covers(&mut diagram.covers, diagram.from, diagram.to, rec) {
+        Ok(()) => {}
+        Err(memory) => return Err(memory),
+    }
+    match take_window(diagram, rec) {
+        Ok(()) => Ok(()),
+        Err(memory) => Err(memory),
+    }
 }
 
 /// Reads a log to its end, and gathers what it has in these seconds.

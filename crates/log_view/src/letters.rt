@@ -2,29 +2,33 @@
 ghost use Rattle.std.specs.Prelude.{◌≡◌, ◌+◌, ◌-◌, ◌*◌, ◌/◌, ◌^◌, ◌<◌, ◌≤◌, ◌++◌, ℕ, List, Option, length, replicate};
 ghost use Rattle.std.specs.Fmt.{decimal};
 ghost use Rattle.sig_io.specs.Draft.{Puts};
+ghost use Rattle.log_svg.specs.Covers.{spans_in};
 ghost use Rattle.log_svg.specs.Diagram.{IsShowable};
 ghost use Rattle.log_svg.specs.ShownIn.{shown_in};
 ghost use Rattle.log_view.specs.Letters.{IsBlock, block_at, block_head, block_rows, block_text, letters_in, letters_text};
-ghost use Rattle.log_view.specs.Letters.{band_row, faults_row, fronts_row, fronts_rows, group_row, group_rows, groups_rows};
+ghost use Rattle.log_view.specs.Letters.{band_row, detector_row, detector_rows, faults_row, group_row, group_rows, groups_rows};
 ghost use Rattle.log_view.specs.Letters.{empty_row, numbers_row, refusals_row, ticks_row, filler_of, free_after, margin_of};
 ghost use Rattle.log_view.specs.Letters.{detector_word, front_letter, is_numbered, key_text, letter_of, number_cell, seconds_in};
 ghost use Rattle.log_view.specs.Letters.{marks_text, name_text, span_text, stay_cells, stay_text, tick_of, with_first, with_front, with_letter, with_refusal};
 
+use crate::covers::with_covers;
 use itoa::Buffer;
-use log_chart::Span;
-use log_svg::{Diagram, FaultMark, FrontMark, RefusalMark, is_of, put_place, rule_letter, rule_of};
+use log_chart::{Cover, Span};
+use log_svg::{
+    Diagram, FaultMark, FrontMark, RefusalMark, is_of, put_place, rule_letter, rule_of, spans_of,
+};
 use sig_io::{Draft, Sink};
-use sig_types::{Aspect, GroupNo, ShortName, StagePlace};
+use sig_types::{Aspect, DetNo, GroupNo, ShortName, StagePlace};
 
 // How many seconds stand in a row.
 const BLOCK: u32 = 60;
 
 // A block's first second, how many seconds it has, and how many columns stand before them.
 #[derive(Clone, Copy)]
-struct Block {
-    first: u32,
-    count: u32,
-    margin: usize,
+pub(crate) struct Block {
+    pub(crate) first: u32,
+    pub(crate) count: u32,
+    pub(crate) margin: usize,
 }
 
 // Puts the same character so many times.
@@ -52,7 +56,7 @@ fn put_name<O: Sink>(draft: &mut Draft, sink: &mut O, block: Block, name: &[u8])
 }
 
 // How many of the seconds from `first` to `last` the block has.
-fn seconds_in(block: Block, first: u32, last: u32) -> u32
+pub(crate) fn seconds_in(block: Block, first: u32, last: u32) -> u32
     requires { IsBlock block }
     ensures seconds { result ≡ seconds_in block first last }
     ensures few { result ≤ 60 }
@@ -252,13 +256,13 @@ fn put_row<O: Sink>(
 
 // A row of marks: its cells, and how many they are up to the last mark.
 #[derive(Clone, Copy)]
-struct MarkRow {
-    cells: [u8; 60],
-    end: usize,
+pub(crate) struct MarkRow {
+    pub(crate) cells: [u8; 60],
+    pub(crate) end: usize,
 }
 
 // A row of spaces.
-fn empty_row() -> MarkRow
+pub(crate) fn empty_row() -> MarkRow
     ensures { result ≡ empty_row }
 {
     MarkRow {
@@ -268,7 +272,7 @@ fn empty_row() -> MarkRow
 }
 
 // The row with a letter in a second, if that is in the block.
-fn with_letter(block: Block, row: MarkRow, second: u32, letter: u8) -> MarkRow
+pub(crate) fn with_letter(block: Block, row: MarkRow, second: u32, letter: u8) -> MarkRow
     requires block { IsBlock block }
     requires end { row.end ≤ 60 }
     ensures row { result ≡ with_letter block row second letter }
@@ -397,32 +401,42 @@ fn with_front(block: Block, number: u8, row: MarkRow, mark: &FrontMark) -> MarkR
     }
 }
 
-// Puts the fronts of a detector in their seconds.
-fn put_fronts<O: Sink>(
+// Puts the fronts of a detector in their seconds, and where there are none, that it is covered.
+fn put_detector<O: Sink>(
     draft: &mut Draft,
     sink: &mut O,
     block: Block,
     marks: &[FrontMark],
+    spans: &[Span<bool>],
     number: u8,
 )
     requires block { IsBlock block }
     requires number { number < 100 }
-    ensures { Puts O.taken O.faults draft.old draft.new sink.old sink.new (fronts_row block marks.now number) }
+    ensures { Puts O.taken O.faults draft.old draft.new sink.old sink.new (detector_row block marks.now spans.now number) }
 {
-    let mut row = empty_row();
+    let mut row = with_covers(block, spans);
     for mark in marks {
         row = with_front(block, number, row, mark);
     }
     put_marks(draft, sink, block, &detector_name(number), row);
 }
 
-// Puts the fronts of all detectors.
-fn put_detectors<O: Sink>(draft: &mut Draft, sink: &mut O, block: Block, marks: &[FrontMark])
-    requires { IsBlock block }
-    ensures { Puts O.taken O.faults draft.old draft.new sink.old sink.new (fronts_rows block marks.now 64) }
+// Puts the rows of all detectors.
+fn put_detectors<O: Sink>(
+    draft: &mut Draft,
+    sink: &mut O,
+    block: Block,
+    marks: &[FrontMark],
+    covers: &[Cover],
+)
+    requires block { IsBlock block }
+    requires covers { length covers.now ≡ 64 }
+    ensures { Puts O.taken O.faults draft.old draft.new sink.old sink.new
+        (detector_rows block marks.now (spans_in covers.now) 64) }
 {
     for place in 0..64u8 {
-        put_fronts(draft, sink, block, marks, place + 1);
+        let spans = spans_of(covers, DetNo(place + 1));
+        put_detector(draft, sink, block, marks, spans, place + 1);
     }
 }
 
@@ -478,7 +492,7 @@ fn put_block_rows<O: Sink>(draft: &mut Draft, sink: &mut O, diagram: &Diagram, b
 {
     put_groups(draft, sink, diagram, block);
     put_faults(draft, sink, block, &diagram.faults);
-    put_detectors(draft, sink, block, &diagram.fronts);
+    put_detectors(draft, sink, block, &diagram.fronts, &diagram.covers);
 }
 
 // Puts a block.
@@ -525,7 +539,7 @@ fn put_key<O: Sink>(draft: &mut Draft, sink: &mut O)
 {
     draft.put(
         sink,
-        b"- red  / red-amber  # green  \\ amber  X fault  1 to 9, * fronts\n",
+        b"- red  / red-amber  # green  \\ amber  X fault  1 to 9, * fronts  = covered\n",
     );
     draft.put(
         sink,

@@ -3,10 +3,12 @@
 #![tactic(auto)]
 
 mod call;
+mod covers;
 mod form;
 mod gathering;
 mod laws;
 mod letters;
+mod named;
 mod stop;
 
 pub use call::report;
@@ -14,4 +16,5 @@ pub use form::{Form, Window, form_of};
 pub use gathering::gather;
 pub use laws::a_written_log_is_read_whole;
 pub use letters::put_text;
+pub use named::{FormName, form_begun, form_words, log_named};
 pub use stop::{Status, Stop, exit_status, status_of, stop_of, write_stop};

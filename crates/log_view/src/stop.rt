@@ -1,12 +1,15 @@
 // Why a call ended before all was done, and how it ended.
-ghost use Rattle.std.specs.Prelude.{◌≡◌, ◌+◌, ◌*◌, ◌^◌, ◌<◌, ◌≤◌, ◌++◌, ℕ, List, Option, length};
+ghost use Rattle.std.specs.Prelude.{◌≡◌, ◌++◌, ℕ, List, Option, codes, map, string_bytes};
+ghost use Rattle.std.specs.Fmt.{decimal};
 ghost use Rattle.std.specs.Io.KnownBytes.{append_known};
-ghost use Rattle.sig_io.specs.Draft.{Puts};
+ghost use Rattle.std.specs.List.{flat_map};
 ghost use Rattle.sig_io.specs.Outside.{Rose};
-ghost use Rattle.log_view.specs.Notes.{exit_number, reason_name, status_of, stop_note, stop_of, stop_words};
+ghost use Rattle.log_view.specs.Notes.{exit_number, note_of, reason_name, right_words, status_of, stop_note, stop_of};
 
+use crate::named::{FormName, form_begun, form_words, log_named};
+use itoa::Buffer;
 use log_records::{LogStop, LogWhy};
-use sig_io::{Draft, Sink};
+use sig_io::{Sink, put_each};
 
 /// Why a call ended before all was done.
 #[derive(Clone, Copy, Debug, PartialEq, Eq)]
@@ -86,8 +89,7 @@ pub fn status_of(stop: &Stop) -> Status
 
 // The name of a reason.
 fn reason_name(why: LogWhy) -> &'static [u8]
-    ensures name { result.now ≡ reason_name why }
-    ensures short { length result.now ≤ 14 }
+    ensures { result.now ≡ reason_name why }
 {
     match why {
         LogWhy::Header => b"Header",
@@ -103,52 +105,89 @@ fn reason_name(why: LogWhy) -> &'static [u8]
     }
 }
 
-// Puts a line and why it is refused.
-fn put_line<O: Sink>(draft: &mut Draft, sink: &mut O, line: u32, why: LogWhy)
-    ensures { Puts O.taken O.faults draft.old draft.new sink.old sink.new (stop_words (Stop.Line line why)) }
+// Writes a note of these pieces. One of at most 4,096 bytes is given to the sink whole. A fault changes nothing else.
+fn write_pieces<N: Sink>(notes: &mut N, pieces: &[&[u8]])
+    ensures { (Rose (N.faults notes.old) (N.faults notes.new) → ⊥) →
+        N.taken notes.new ≡ append_known (N.taken notes.old) (flat_map (λ piece. piece.now) pieces.now) }
 {
-    draft.put_number(sink, line);
-    draft.put(sink, b": ");
-    draft.put(sink, reason_name(why));
+    let _fault = put_each(notes, pieces);
 }
 
-// Puts what the note says of a stop.
-fn put_words<O: Sink>(draft: &mut Draft, sink: &mut O, stop: Stop)
-    ensures { Puts O.taken O.faults draft.old draft.new sink.old sink.new (stop_words stop) }
+// Writes the note on words that are no form.
+fn write_words<N: Sink>(notes: &mut N, form: Option<FormName>)
+    ensures { (Rose (N.faults notes.old) (N.faults notes.new) → ⊥) →
+        N.taken notes.new ≡ append_known (N.taken notes.old) (note_of (codes "Words: " ++ right_words form)) }
 {
-    match stop {
-        Stop::Memory => draft.put(sink, b"Memory"),
-        Stop::Words => draft.put(sink, b"Words"),
-        Stop::TooManySeconds => draft.put(sink, b"TooManySeconds 3600"),
-        Stop::ReadFault => draft.put(sink, b"ReadFault"),
-        Stop::WriteFault => draft.put(sink, b"WriteFault"),
-        Stop::LogEnds(last) => {
-            draft.put(sink, b"LogEnds ");
-            draft.put_number(sink, last);
-        }
-        Stop::Line { line, why } => put_line(draft, sink, line, why),
+    match form {
+        Some(form) => write_pieces(
+            notes,
+            &[b"log_report: Words: ", form_words(form), b", or --help\n"],
+        ),
+        None => write_pieces(notes, &[b"log_report: Words: see log_report --help\n"]),
     }
 }
 
-// Puts the note of a stop.
-#[tactic(auto, unfolding(crate::specs::Notes::stop_note))]
-fn put_note<O: Sink>(draft: &mut Draft, sink: &mut O, stop: Stop)
-    ensures { Puts O.taken O.faults draft.old draft.new sink.old sink.new (stop_note stop) }
+// Writes the note on a log that could not be read.
+fn write_unread<N: Sink>(notes: &mut N, log: &str)
+    ensures { (Rose (N.faults notes.old) (N.faults notes.new) → ⊥) →
+        N.taken notes.new ≡ append_known (N.taken notes.old) (note_of (log.now ++ codes ": ReadFault")) }
 {
-    draft.put(sink, b"log_report: ");
-    put_words(draft, sink, stop);
-    draft.put(sink, b"\n");
+    write_pieces(notes, &[b"log_report: ", log.as_bytes(), b": ReadFault\n"]);
 }
 
-/// Writes a note of one line that tells why a call stopped. Where the sink for notes fails, less may be written.
-pub fn write_stop<N: Sink>(notes: &mut N, stop: &Stop)
+// Writes the note on a log that ends with this second.
+fn write_end<N: Sink>(notes: &mut N, log: &str, last: u32)
     ensures { (Rose (N.faults notes.old) (N.faults notes.new) → ⊥) →
-        N.taken notes.new ≡ append_known (N.taken notes.old) (stop_note stop.now) }
+        N.taken notes.new ≡ append_known (N.taken notes.old) (note_of (log.now ++ codes ": LogEnds " ++ decimal last)) }
 {
-    let mut draft = Draft::new();
-    put_note(&mut draft, notes, *stop);
-    match draft.finish(notes) {
-        Ok(()) => {}
-        Err(_fault) => {}
+    let mut digits = Buffer::new();
+    write_pieces(
+        notes,
+        &[
+            b"log_report: ",
+            log.as_bytes(),
+            b": LogEnds ",
+            digits.format(last).as_bytes(),
+            b"\n",
+        ],
+    );
+}
+
+// Writes the note on a line of a log that is refused for a reason of this name.
+fn write_line<N: Sink>(notes: &mut N, log: &str, line: u32, reason: &[u8])
+    ensures { (Rose (N.faults notes.old) (N.faults notes.new) → ⊥) →
+        N.taken notes.new ≡ append_known (N.taken notes.old)
+        (note_of (log.now ++ codes ":" ++ decimal line ++ codes ": " ++ reason.now)) }
+{
+    let mut digits = Buffer::new();
+    write_pieces(
+        notes,
+        &[
+            b"log_report: ",
+            log.as_bytes(),
+            b":",
+            digits.format(line).as_bytes(),
+            b": ",
+            reason,
+            b"\n",
+        ],
+    );
+}
+
+/// Writes a note of one line that tells why a call with these words stopped: with the log where it wasn't read to its end, and with
+/// what would be words of a form where these are none. Where the sink for notes fails, less may be written.
+#[tactic(auto, unfolding(crate::specs::Notes::stop_note))]
+pub fn write_stop<N: Sink>(notes: &mut N, words: &[String], stop: &Stop)
+    ensures { (Rose (N.faults notes.old) (N.faults notes.new) → ⊥) →
+        N.taken notes.new ≡ append_known (N.taken notes.old) (stop_note (map string_bytes words.now) stop.now) }
+{
+    match *stop {
+        Stop::Memory => write_pieces(notes, &[b"log_report: Memory\n"]),
+        Stop::Words => write_words(notes, form_begun(words)),
+        Stop::TooManySeconds => write_pieces(notes, &[b"log_report: TooManySeconds 3600\n"]),
+        Stop::ReadFault => write_unread(notes, log_named(words)),
+        Stop::WriteFault => write_pieces(notes, &[b"log_report: WriteFault\n"]),
+        Stop::Line { line, why } => write_line(notes, log_named(words), line, reason_name(why)),
+        Stop::LogEnds(last) => write_end(notes, log_named(words), last),
     }
 }

@@ -67,6 +67,6 @@ pub record IsReported (words : List (List ℕ)) (files : Seen Contents) (out not
   pub given : Result (Unit {0}) Stop
   pub answer : IsAnswerTo (form_of words) files out given
   pub status_is : status ≡ status_by given
-  pub note : IsNoted given notes
+  pub note : IsNoted words given notes
   pub read_fault : given ≡ Err ReadFault → Rose files.before files.after
   pub write_fault : given ≡ Err WriteFault → Rose out.before out.after

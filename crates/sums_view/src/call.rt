@@ -201,13 +201,13 @@ pub fn report_sums<F: Files, O: Sink, N: Sink>(
     ensures contents_stay { F.told files.new ≡ F.told files.old }
 {
     let Some(form) = form_of(words) else {
-        write_stop(notes, &Stop::Words);
+        write_stop(notes, words, &Stop::Words);
         return Status::Words;
     };
     match do_form(alloc, &form, files, out) {
         Ok(()) => Status::Done,
         Err(stop) => {
-            write_stop(notes, &stop);
+            write_stop(notes, words, &stop);
             status_of(&stop)
         }
     }

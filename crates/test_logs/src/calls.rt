@@ -14,7 +14,7 @@ pub(crate) const LOG: &str = "VAPLOG 1 K1 K2\n\
 5|I1-2+1|RU|-|-|Number@7\n\
 6|S2|RG|-|-|-\n";
 
-const TEXT: &str = "- red  / red-amber  # green  \\ amber  X fault  1 to 9, * fronts\n\
+const TEXT: &str = "- red  / red-amber  # green  \\ amber  X fault  1 to 9, * fronts  = covered\n\
 refused: G minimum green  R minimum red  C conflict  I intergreen  S sequence  r interstage runs  w wrong stage  n no interstage\n\
 \n\
 \x20        1     \n\
@@ -25,7 +25,7 @@ K1       -/#\\--\n\
 K2       ----/#\n\
 \x20refused C C\n\
 fault       XX\n\
-D2        1 *\n";
+D2        1=*==\n";
 
 const SUMS: &str = "SECONDS 6\n\
 GROUP K1 greens:1 ended:1 shortest:1 mean:1.0 longest:1 longest_red:2 longest_red_from:5 \
@@ -117,6 +117,23 @@ fn a_diagram_ends_whole(rt: HostRuntime) -> Result<(), Fail> {
     Ok(())
 }
 
+// The row of the covered detector.
+const COVERED: &str = "<text class=\"d\" x=\"54\" y=\"158\">D2</text>\n\
+<path class=\"b\" d=\"M12 163H186\"/>\n\
+<rect class=\"q\" x=\"86\" y=\"157\" width=\"100\" height=\"6\"><title>detector 2 covered from 2</title></rect>\n\
+<path class=\"t\" d=\"M96 157V163\"/>\n\
+<path class=\"t\" d=\"M136 151V163\"/>\n\
+</g>\n\
+</svg>\n";
+
+#[test]
+fn a_detector_is_covered(rt: HostRuntime) -> Result<(), Fail> {
+    let told = call(rt.alloc(), &["diagram", "l", "1", "6"], LOG)?;
+    assert_eq!(rt; told.status, Status::Done);
+    assert!(rt; told.out.bytes().ends_with(COVERED.as_bytes()));
+    Ok(())
+}
+
 // 33 seconds of one group that is green from second 30 to 32.
 const LONGER: &str = "VAPLOG 1 K1\n\
 1|S1|R|-|1-2:Running|-\n\
@@ -190,18 +207,24 @@ fn a_green_goes_over_the_end_of_a_strip(rt: HostRuntime) -> Result<(), Fail> {
 // Words of a call over the log, the status and the note.
 type Stopped = (&'static [&'static str], Status, &'static str);
 
-const STOPPED: [Stopped; 12] = [
-    (&["sum", "l"], Status::Words, "log_report: Words\n"),
-    (
-        &["text", "l", "0", "6"],
-        Status::Words,
-        "log_report: Words\n",
-    ),
-    (
-        &["text", "l", "6", "5"],
-        Status::Words,
-        "log_report: Words\n",
-    ),
+// Notes on words that are no form.
+const DIAGRAM_WORDS: &str =
+    "log_report: Words: log_report diagram LOG FROM TO [--strip N], or --help\n";
+
+const TEXT_WORDS: &str = "log_report: Words: log_report text LOG FROM TO, or --help\n";
+
+const SUMS_WORDS: &str =
+    "log_report: Words: log_report sums LOG [FROM TO] [--each SECONDS] [--csv], or --help\n";
+
+const HELP_WORDS: &str = "log_report: Words: see log_report --help\n";
+
+const STOPPED: [Stopped; 17] = [
+    (&[], Status::Words, HELP_WORDS),
+    (&["sum", "l"], Status::Words, HELP_WORDS),
+    (&["--help", "l"], Status::Words, HELP_WORDS),
+    (&["text"], Status::Words, TEXT_WORDS),
+    (&["text", "l", "0", "6"], Status::Words, TEXT_WORDS),
+    (&["text", "l", "6", "5"], Status::Words, TEXT_WORDS),
     (
         &["text", "l", "1", "3601"],
         Status::Words,
@@ -210,34 +233,36 @@ const STOPPED: [Stopped; 12] = [
     (
         &["text", "l", "1", "7"],
         Status::Refused,
-        "log_report: LogEnds 6\n",
+        "log_report: l: LogEnds 6\n",
     ),
+    (
+        &["diagram", "m", "1", "7"],
+        Status::ReadFault,
+        "log_report: m: ReadFault\n",
+    ),
+    (&["diagram"], Status::Words, DIAGRAM_WORDS),
     (
         &["diagram", "l", "1", "6", "--strip", "29"],
         Status::Words,
-        "log_report: Words\n",
+        DIAGRAM_WORDS,
     ),
     (
         &["text", "l", "1", "6", "--strip", "60"],
         Status::Words,
-        "log_report: Words\n",
-    ),
-    (&["sums", "m"], Status::ReadFault, "log_report: ReadFault\n"),
-    (&["sums", "l", "3"], Status::Words, "log_report: Words\n"),
-    (
-        &["sums", "l", "5", "3"],
-        Status::Words,
-        "log_report: Words\n",
+        TEXT_WORDS,
     ),
     (
-        &["sums", "l", "--each", "59"],
-        Status::Words,
-        "log_report: Words\n",
+        &["sums", "m"],
+        Status::ReadFault,
+        "log_report: m: ReadFault\n",
     ),
+    (&["sums", "l", "3"], Status::Words, SUMS_WORDS),
+    (&["sums", "l", "5", "3"], Status::Words, SUMS_WORDS),
+    (&["sums", "l", "--each", "59"], Status::Words, SUMS_WORDS),
     (
         &["sums", "l", "--csv", "--each", "60"],
         Status::Words,
-        "log_report: Words\n",
+        SUMS_WORDS,
     ),
 ];
 
@@ -260,7 +285,10 @@ fn a_refused_line_is_named(rt: HostRuntime) -> Result<(), Fail> {
         "VAPLOG 1 K1\n1|S1|R|-|-|-\n2|S1|B|-|-|-\n",
     )?;
     assert_eq!(rt; told.status, Status::Refused);
-    assert_eq!(rt; told.notes.bytes(), b"log_report: 3: Aspects\n".as_slice());
+    assert_eq!(rt;
+        told.notes.bytes(),
+        b"log_report: l:3: Aspects\n".as_slice()
+    );
     Ok(())
 }
 

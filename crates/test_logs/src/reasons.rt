@@ -75,6 +75,18 @@ const REFUSED: [Case; 10] = [
     (b"1|S1|RR|-|-|Number@01\n", Some((2, LogWhy::Fault))),
 ];
 
+// From a watcher's line on nothing is read.
+const WATCHED: [Case; 8] = [
+    (b"WATCH 1 0 RR\n", None),
+    (b"1|S1|RR|-|-|-\nWATCH 1 1 RR\nWATCH 2 0 RR\n", None),
+    (b"1|S1|RR|-|-|-\nWATCH ", None),
+    (b"1|S1|RR|-|-|-\nWATCH 1 1 RR\n2|S33|RR|-|-|-\n", None),
+    (b"1|S1|RR|-|-\nWATCH 1 1 RR\n", Some((2, LogWhy::Fields))),
+    (b"1|S1|RR|-|-|-\nWATCH\n", Some((3, LogWhy::Fields))),
+    (b"1|S1|RR|-|-|-\n WATCH 1 1 RR\n", Some((3, LogWhy::Fields))),
+    (b"1|S1|RR|-|-|-\nwatch 1 1 RR\n", Some((3, LogWhy::Fields))),
+];
+
 // Whether a log of these bytes behind its header is refused as the case says.
 fn is_right(alloc: Global, case: &Case) -> Result<bool, Fail> {
     let (rest, refused) = *case;
@@ -117,8 +129,30 @@ fn refusals_and_faults(rt: HostRuntime) -> Result<(), Fail> {
     Ok(())
 }
 
+#[test]
+fn watchers(rt: HostRuntime) -> Result<(), Fail> {
+    assert_eq!(rt; first_wrong(rt.alloc(), &WATCHED)?, None);
+    Ok(())
+}
+
+#[test]
+fn an_end_is_told_again(rt: HostRuntime) -> Result<(), Fail> {
+    let log = b"VAPLOG 1 K1\n1|S1|R|-|-|-\nWATCH 1 1 R\n2|S1|R|-|-|-\n";
+    let mut files = file(rt.alloc(), log, NEVER)?;
+    let opened = LogRecords::open(rt.alloc(), &mut files, "l");
+    assert!(rt; opened.is_ok());
+    let Ok(mut records) = opened else {
+        return Ok(());
+    };
+    assert_eq!(rt; records.next_record(&mut files), Ok(true));
+    assert_eq!(rt; records.next_record(&mut files), Ok(false));
+    assert_eq!(rt; records.next_record(&mut files), Ok(false));
+    assert_eq!(rt; records.count(), 1);
+    Ok(())
+}
+
 // Headers, and whether they are accepted.
-const HEADERS: [(&[u8], bool); 9] = [
+const HEADERS: [(&[u8], bool); 10] = [
     (b"VAPLOG 1 K1\n", true),
     (b"VAPLOG 1 abcdefghijklmnopqrstuvwxyz_12345", true),
     (b"VAPLOG 1 abcdefghijklmnopqrstuvwxyz_123456", false),
@@ -128,6 +162,7 @@ const HEADERS: [(&[u8], bool); 9] = [
     (b"VAPLOG 1 K1 k1\n", false),
     (b"VAPLOG 1 K1  K2\n", false),
     (b"VAPLOG 1 <K1>\n", false),
+    (b"WATCH 1 0 K1\n", false),
 ];
 
 #[test]

@@ -5,5 +5,5 @@ use Rattle.log_svg.proofs.legend.put_legend.Goals as goal
 pub returns : goal.returns
 unfolding legend_text
 returns g c =
-    then (then (then (then c.put_aspects_key.ensures c.put_key.ensures)
-    c.put_fault_key.ensures) c.put_fronts_key.ensures) c.put_rules_key.ensures
+    then (then (then (then (then c.put_aspects_key.ensures c.put_key.ensures)
+    c.put_fault_key.ensures) c.put_fronts_key.ensures) c.put_cover_key.ensures) c.put_rules_key.ensures

@@ -5,4 +5,7 @@ use Rattle.log_view.proofs.call.put_usage.Goals as goal
 pub returns : goal.returns
 unfolding usage_text
 returns g c =
-    then (then (then (then (then (then c.put.ensures c.put-2.ensures) c.put-3.ensures) c.put-4.ensures) c.put-5.ensures) c.put-6.ensures) c.put-7.ensures
+    let diagram = rw c.form_words.ensures at c.put.ensures in
+    let text = rw c.form_words-2.ensures at c.put-3.ensures in
+    let sums = rw c.form_words-3.ensures at c.put-5.ensures in
+    then (then (then (then (then (then (then (then (then diagram c.put-2.ensures) text) c.put-4.ensures) sums) c.put-6.ensures) c.put-7.ensures) c.put-8.ensures) c.put-9.ensures) c.put-10.ensures

@@ -13,7 +13,7 @@ returns-in-Err-clause-gathering g c file told =
 pub loop-line-init : goal.loop-line-init
 loop-line-init g c = record {
   drawn = draw_first (g.F.Files.told c.args.files.now) c.args.log.now c.in-Ok.records c.args.window c.in-Ok-begin.diagram
-      c.in-Ok.ensures.given c.in-Ok.ensures.opened (rw c.names.ensures.names at c.in-Ok-begin.ensures);
+      c.in-Ok.ensures.given c.in-Ok.ensures.opened (rw c.names.ensures.names at c.in-Ok-begin.ensures.drawn) c.in-Ok-begin.ensures.covers;
   told = c.in-Ok.ensures.contents_stay;
   name = c.in-Ok.ensures.name;
   live = c.in-Ok.ensures.live;
@@ -33,7 +33,9 @@ loop-line-preserved g c =
           before.name c.in-Ok-true.ensures.names (c.in-Ok-true.ensures.given found)
           (λ file told. rw c.in-Ok-true.field-0-test at (c.in-Ok-true.ensures.next file (before.told ∙ told))) (c.in-Ok-true.ensures.said found)
           (λ names records window is second drawn. rw c.current.ensures at
-          (c.in-Ok-take_record.ensures names records window is (rw c.current.ensures second) drawn)) before.drawn;
+          (c.in-Ok-take_record.ensures.drawn names records window is (rw c.current.ensures second) drawn))
+          (λ records second small covers. rw c.current.ensures at
+          (c.in-Ok-take_record.ensures.covers records (rw c.current.ensures second) small covers)) before.drawn;
       told = c.in-Ok-true.ensures.contents_stay ∙ before.told;
       name = c.in-Ok-true.ensures.name ∙ before.name;
       live = c.in-Ok-true.ensures.live;
@@ -51,6 +53,9 @@ take_record-requires-clause-groups g c =
     let is = ranged (names_of new) (records_given new) said.0 (record_given new) said.1 in
     let rows = rows_of (names_of c.loop-line.records) before.records c.args.window.from c.args.window.to c.loop-line.diagram before.drawn in
     rw c.current.ensures (is.picture ∙ ap length c.in-Ok-true.ensures.names ∙ sym rows)
+
+pub take_record-requires-clause-covers : goal.take_record-requires-clause-covers
+take_record-requires-clause-covers g c = c.loop-line.invariant.drawn.covers.size
 
 pub take_record-requires-clause-fits : goal.take_record-requires-clause-fits
 take_record-requires-clause-fits g c = omega (arith, c.loop-line.invariant.drawn.drawn.past_is, c.requires.order, c.requires.last)
@@ -76,7 +81,7 @@ returns-in-Ok-false-clause-shown g c =
     let before = c.loop-line.invariant in
     showable (names_of c.loop-line.records) before.drawn.records c.args.window c.loop-line.diagram c.requires before.few before.drawn.said
     (omega (arith, c.if-count-window.false, c.count-count.ensures, before.drawn.count, c.in-Ok-false.ensures.no_record (ap Ok c.in-Ok-false.field-0-test)))
-    before.drawn.drawn
+    before.drawn.drawn before.drawn.covers.size
 
 pub returns-in-Err-next_record-clause-gathering : goal.returns-in-Err-next_record-clause-gathering
 returns-in-Err-next_record-clause-gathering g c file told =

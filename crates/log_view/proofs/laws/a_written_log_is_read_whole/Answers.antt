@@ -1,4 +1,4 @@
-use Rattle.log_view.proofs.LogsBack.{only_written_is_read, written_is_read}
+use Rattle.log_view.proofs.LogsBack.{only_written_is_read, watcher_is_behind_log, written_is_read}
 use Rattle.log_view.proofs.laws.a_written_log_is_read_whole.Goals as goal
 
 pub returns-clause-whole : goal.returns-clause-whole
@@ -6,3 +6,6 @@ returns-clause-whole c = written_is_read
 
 pub returns-clause-alone : goal.returns-clause-alone
 returns-clause-alone c = only_written_is_read
+
+pub returns-clause-watched : goal.returns-clause-watched
+returns-clause-watched c = watcher_is_behind_log

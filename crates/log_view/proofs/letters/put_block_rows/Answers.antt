@@ -6,4 +6,4 @@ pub returns : goal.returns
 unfolding block_rows
 returns g c =
     then (then c.put_groups.ensures (rw c.deref.ensures.value at c.put_faults.ensures))
-    (rw c.deref-2.ensures.value at c.put_detectors.ensures)
+    (rw (c.deref-2.ensures.value, c.deref-3.ensures.value) at c.put_detectors.ensures)

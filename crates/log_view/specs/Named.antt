@@ -1,0 +1,28 @@
+-- The forms that read one log, by their first word, and the log that the words of a call name.
+use Rattle.std.specs.Prelude.{ℕ, List, [], ◌∷◌, codes, Option, None, Some, if◌then◌else◌}
+use Rattle.std.specs.Str.{bytes_eq}
+use Rattle.log_view.specs.declared.named.FormName.{FormName}
+use Rattle.log_view.specs.declared.named.FormName.TheVariants.{Diagram, Text, Sums}
+
+-- how a form is written
+abbrev pub form_words : FormName → List ℕ
+form_words Diagram = codes "log_report diagram LOG FROM TO [--strip N]"
+form_words Text = codes "log_report text LOG FROM TO"
+form_words Sums = codes "log_report sums LOG [FROM TO] [--each SECONDS] [--csv]"
+
+-- the form with this first word
+abbrev pub form_called : List ℕ → Option FormName
+form_called word =
+    if bytes_eq word (codes "diagram") then Some Diagram
+    else (if bytes_eq word (codes "text") then Some Text else (if bytes_eq word (codes "sums") then Some Sums else None))
+
+-- the form that the words begin
+abbrev pub form_begun : List (List ℕ) → Option FormName
+form_begun [] = None
+form_begun (word ∷ words) = form_called word
+
+-- the log that the words name: the second of them
+abbrev pub log_named : List (List ℕ) → List ℕ
+log_named [] = []
+log_named (word ∷ []) = []
+log_named (word ∷ log ∷ words) = log
