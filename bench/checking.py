@@ -2,9 +2,10 @@
 """checking.py PROGRAM: processor time and peak memory of a built `junction_check` over files at their limits.
 
 The site is the four-arm junction of crates/junction/examples/four_arms with one of its files in the place of another: much that is
-warned of, in many lines and in one; a plan of many parts; tables of records that are refused; a detector file beyond 16 MiB. Each
-workload stands at half and at whole size, so that a time which grows faster than its file shows. A row is the workload, the
-bytes of its file, the warnings and refusals by the last line, processor seconds and megabytes (millions of bytes).
+warned of, in many lines and in one, the same and another each time; a plan of many parts; tables of records that are refused; a
+detector file beyond 16 MiB. Each workload stands at half and at whole size, so that a time which grows faster than its file shows.
+A row is the workload, the bytes of its file, the warnings and refusals by the last line, processor seconds and megabytes (millions
+of bytes).
 """
 import os
 import resource
@@ -22,7 +23,7 @@ FILES = {
     "intergreens": "intergreens.csv",
     "detectors": "traffic.txt",
 }
-MOST = 1_000_000
+MOST = 1_045_000
 
 
 def unused(count, gap):
@@ -31,9 +32,9 @@ def unused(count, gap):
     return f"PROGRAM unused;\nCONST\n{names};\nPROG_ENDE: .\n"
 
 
-def wrong_numbers(count, gap):
-    """Returns a program that asks so often for a stage that isn't there, with this between two questions."""
-    asked = gap.join("IF Stage_active(99) THEN x := 1 END;" for _ in range(count))
+def wrong_numbers(count, gap, step):
+    """Returns a program that asks so often for a stage that isn't there, the next one so much higher, with this between two questions."""
+    asked = gap.join(f"IF Stage_active({99 + step * k}) THEN x := 1 END;" for k in range(count))
     return f"PROGRAM numbers;\n{asked}\nPROG_ENDE: .\n"
 
 
@@ -55,10 +56,11 @@ def lines(count):
 
 
 WORKLOADS = {
-    "constants, a line each": ("program", lambda part: unused(MOST // 14 // part, "\n")),
-    "constants, one line": ("program", lambda part: unused(MOST // 14 // part, " ")),
-    "numbers, a line each": ("program", lambda part: wrong_numbers(16_000 // part, "\n")),
-    "numbers, one line": ("program", lambda part: wrong_numbers(16_000 // part, " ")),
+    "constants, a line each": ("program", lambda part: unused(MOST // 13 // part, "\n")),
+    "constants, one line": ("program", lambda part: unused(MOST // 13 // part, " ")),
+    "numbers, a line each": ("program", lambda part: wrong_numbers(8_000 // part, "\n", 0)),
+    "numbers, one line": ("program", lambda part: wrong_numbers(8_000 // part, " ", 0)),
+    "other numbers, one line": ("program", lambda part: wrong_numbers(8_000 // part, " ", 1)),
     "section words": ("plan", lambda part: misspelt(MOST // 7 // part)),
     "records": ("times", lambda part: refused(MOST // 11 // part)),
     "detector lines": ("detectors", lambda part: lines(600_000 // part)),

@@ -13,7 +13,7 @@ use Rattle.site_findings.specs.Escaped.{escaped}
 use Rattle.site_findings.specs.ReasonProse.{unread_prose}
 use Rattle.site_findings.specs.Reasons.{refusal_subject, refusal_word}
 use Rattle.site_findings.specs.Slips.{refusal_prose}
-use Rattle.site_findings.specs.Text.{column_of, editor_line_of, file_name, line_of_finding, record_text}
+use Rattle.site_findings.specs.Text.{begin_of_finding, column_of, file_name, line_of_finding, meant_of_finding, record_text}
 use Rattle.site_findings.specs.Warnings.{warning_name, warning_text}
 
 -- a text of JSON
@@ -53,7 +53,7 @@ line_sentence examined file (Warned warning) line = warning_text examined.plan w
 unfoldable pub sentence_text : Examined → Finding → List ℕ
 sentence_text examined finding =
     line_sentence examined finding.file finding.told (line_of_finding examined finding)
-    ++ record_text (editor_line_of examined finding) finding.spot.line
+    ++ record_text (begin_of_finding examined finding).line finding.spot.line
 
 -- what to do; nothing of a table that wasn't judged
 abbrev pub cure_text : Examined → FileKind → Told → List ℕ → List ℕ
@@ -77,7 +77,7 @@ json_told severity word sentence cure =
 -- the line of a finding
 unfoldable pub json_line : SiteNames → Examined → Finding → List ℕ
 json_line names examined finding =
-    json_place (file_name names finding.file) (editor_line_of examined finding) finding.spot
+    json_place (file_name names finding.file) (begin_of_finding examined finding).line (meant_of_finding examined finding)
     ++ json_told (severity_text finding.told) (word_text examined finding.told) (sentence_text examined finding)
     (cure_text examined finding.file finding.told (line_of_finding examined finding))
 

@@ -4,16 +4,17 @@ ghost use Rattle.site_findings.specs.Json.{cure_text, end_of, json_line, json_nu
 ghost use Rattle.site_findings.specs.Json.{json_text, json_told, line_sentence, severity_text, word_text};
 ghost use Rattle.site_findings.specs.Put.{Puts};
 ghost use Rattle.site_findings.specs.Sheets.{AreSheetsOf};
-ghost use Rattle.site_findings.specs.Text.{editor_line, line_at, record_text};
+ghost use Rattle.site_findings.specs.Text.{editor_begin, line_at, record_text};
 
 use crate::cures::warning_cure;
 use crate::escaped::put_escaped;
 use crate::finding::{Examined, FileKind, Finding, SiteNames, Told};
+use crate::meant::meant_spot;
 use crate::reasons::put_refusal;
 use crate::sentences::unread;
 use crate::slips::said_of;
 use crate::text::{
-    Sheets, Text, column_of, editor_line, file_name, line_at, put_means, put_record, sheets_of,
+    Sheets, Text, column_of, editor_begin, file_name, line_at, put_means, put_record, sheets_of,
 };
 use crate::warned::{put_warning, warning_name};
 use pua_lines::Spot;
@@ -188,9 +189,10 @@ fn put_json_line(
     let Finding { file, spot, told } = finding;
     let line = line_at(sheets, *file, spot.line);
     let word = word_in(alloc, examined, told)?;
-    let at = editor_line(sheets, *file, spot.line);
-    let sentence = sentence_in(alloc, examined, finding, line, at)?;
-    put_json_place(text, file_name(names, *file).as_bytes(), at, *spot)?;
+    let begin = editor_begin(sheets, *file, spot.line);
+    let sentence = sentence_in(alloc, examined, finding, line, begin.line)?;
+    let meant = meant_spot(examined, finding, begin, line);
+    put_json_place(text, file_name(names, *file).as_bytes(), begin.line, meant)?;
     let cure = cure_of(examined, *file, told, line);
     put_json_told(text, severity_text(told), &word, &sentence, cure)
 }

@@ -21,9 +21,9 @@ const SOME: &[&str] = &[
 ];
 
 const LEFT: &[u8] =
-    b"g.csv:2: short-intergreen: the intergreen from K1 to K2 is 2 seconds, and the amber of K1 3, so K2 may be green while K1 shows amber
+    b"g.csv:2:1: short-intergreen: the intergreen from K1 to K2 is 2 seconds, and the amber of K1 3, so K2 may be green while K1 shows amber
   K1,K2,2
-  ^^^^^^^
+  ^^^^^
 worst case: 14 s from a wish to what is shown (K1: its minimum green and amber)
 files refused: 0, warnings: 1
 ";
@@ -70,7 +70,7 @@ const AS_JSON: &[&str] = &[
 
 const OBJECTS: &[u8] =
     b"{\"file\":\"p.pua\",\"line\":7,\"column\":1,\"end\":2,\"severity\":\"warning\",\"word\":\"stage-in-conflict\",\"sentence\":\"stage 2 has K2 and K3 green, which are in conflict: a run never shows both green\",\"cure\":\"take one of them out of the stage; or take the pair out of the table, if the two are in no conflict\"}
-{\"file\":\"g.csv\",\"line\":2,\"column\":null,\"end\":null,\"severity\":\"warning\",\"word\":\"short-intergreen\",\"sentence\":\"the intergreen from K1 to K2 is 2 seconds, and the amber of K1 3, so K2 may be green while K1 shows amber\",\"cure\":\"the seconds of the clearance, the amber among them\"}
+{\"file\":\"g.csv\",\"line\":2,\"column\":1,\"end\":5,\"severity\":\"warning\",\"word\":\"short-intergreen\",\"sentence\":\"the intergreen from K1 to K2 is 2 seconds, and the amber of K1 3, so K2 may be green while K1 shows amber\",\"cure\":\"the seconds of the clearance, the amber among them\"}
 ";
 
 // A record with a backslash and a control byte, shown in a sentence, behind a blank line.
@@ -80,7 +80,7 @@ const QUOTED: Case<'static> = Case {
 };
 
 const QUOTED_OBJECT: &[u8] =
-    b"{\"file\":\"g.csv\",\"line\":3,\"column\":null,\"end\":null,\"severity\":\"error\",\"word\":\"UnknownName\",\"sentence\":\"`K1,K\\\\?9` names a group that the PUA file doesn't have (record 2)\",\"cure\":\"names as in `$SIGNAL_GROUPS`, in upper and lower case too\"}
+    b"{\"file\":\"g.csv\",\"line\":3,\"column\":4,\"end\":7,\"severity\":\"error\",\"word\":\"UnknownName\",\"sentence\":\"`K1,K\\\\?9` names a group that the PUA file doesn't have (record 2)\",\"cure\":\"names as in `$SIGNAL_GROUPS`, in upper and lower case too\"}
 ";
 
 #[test]

@@ -40,37 +40,72 @@ const OF_PLANS: [Case<'static>; 5] = [
 const OF_TABLES: [Case<'static>; 7] = [
     Case {
         times: b"group;min_green;red_amber;amber\n",
-        text: b"t.csv:1: Header: the fields are parted by `;`, and have to be by `,`\n",
+        text: b"t.csv:1:1: Header: the fields are parted by `;`, and have to be by `,`\n",
         ..REFUSED
     },
     Case {
         times: b"from,to,seconds\n",
-        text: b"t.csv:1: Header: the table of intergreens stands in the place of the table of times\n",
+        text: b"t.csv:1:1: Header: the table of intergreens stands in the place of the table of times\n",
         ..REFUSED
     },
     Case {
         intergreens: b"group,min_green,red_amber,amber\n",
-        text: b"g.csv:1: Header: the table of times stands in the place of the table of intergreens\n",
+        text: b"g.csv:1:1: Header: the table of times stands in the place of the table of intergreens\n",
         ..REFUSED
     },
     Case {
         intergreens: b",K1,K2\n",
-        text: b"g.csv:1: Header: a matrix, where a list of pairs has to stand: one record `from,to,seconds` for each two groups, both ways\n",
+        text: b"g.csv:1:1: Header: a matrix, where a list of pairs has to stand: one record `from,to,seconds` for each two groups, both ways\n",
         ..REFUSED
     },
     Case {
         times: b"group,min_green,red_amber,amber\nK1,10,10,3\n",
-        text: b"t.csv:2: Number: `10` where the red-amber has to be a whole number, 0 to 9\n",
+        text: b"t.csv:2:7: Number: `10` where the red-amber has to be a whole number, 0 to 9\n",
         ..REFUSED
     },
     Case {
         intergreens: b"from,to,seconds\nK1,K2,5.5\n",
-        text: b"g.csv:2: Number: `5.5` where the intergreen has to be a whole number, 0 to 99\n",
+        text: b"g.csv:2:7: Number: `5.5` where the intergreen has to be a whole number, 0 to 99\n",
         ..REFUSED
     },
     Case {
         intergreens: b"from,to,seconds\nK1,K3,5\n",
-        text: b"g.csv:2: UnknownName: `K1,K3` names a group that the PUA file doesn't have\n  K1,K3,5\n  ^^^^^^^\n  cure: names as in `$SIGNAL_GROUPS`, in upper and lower case too\n",
+        text: b"g.csv:2:4: UnknownName: `K1,K3` names a group that the PUA file doesn't have\n  K1,K3,5\n     ^^\n  cure: names as in `$SIGNAL_GROUPS`, in upper and lower case too\n",
+        ..REFUSED
+    },
+];
+
+// Fields between quotes and without bytes, behind a byte order mark, and where no column is told: of a field in which a line ends, of
+// a record that doesn't begin its line, and where no field is at fault.
+const FIELDS: [Case<'static>; 6] = [
+    Case {
+        times: b"\xef\xbb\xbfgroup,min,red_amber,amber\nK1,10,1,3\nK2,8,1,3\n",
+        text: b"t.csv:1:10: Header: the first record isn't the header, word for word: other columns or another language\n  ???group,min,red_amber,amber\n           ^^^\n",
+        ..REFUSED
+    },
+    Case {
+        times: b"group,min_green,red_amber,amber\n\"K9\",10,1,3\nK2,8,1,\n",
+        text: b"t.csv:2:1: UnknownName: `\"K9\"` names a group that the PUA file doesn't have\n  \"K9\",10,1,3\n  ^^^^\n  cure: names as in `$SIGNAL_GROUPS`, in upper and lower case too\nt.csv:3:8: Number: where the amber has to be a whole number, 0 to 9\n  K2,8,1,\n         ^\n",
+        ..REFUSED
+    },
+    Case {
+        intergreens: b"from,to,seconds\n\"K1\n\",K2,5\n\"K1\",\"K9\",5\n",
+        text: b"g.csv:2: UnknownName: `\"K1?\",K2` names a group that the PUA file doesn't have\n  \"K1?\",K2,5\n  ^^^^^^^^^^\n  cure: names as in `$SIGNAL_GROUPS`, in upper and lower case too\ng.csv:4:6: UnknownName: `\"K1\",\"K9\"` names a group that the PUA file doesn't have (record 3)\n  \"K1\",\"K9\",5\n       ^^^^\n",
+        ..REFUSED
+    },
+    Case {
+        intergreens: b"from,to,seconds\rK1,K1,5\r",
+        text: b"g.csv:1: SelfConflict: a pair of a group with itself (record 2)\n  K1,K1,5\n  ^^^^^^^\n",
+        ..REFUSED
+    },
+    Case {
+        intergreens: b"from,to,seconds,more\nK1,K2,5\n",
+        text: b"g.csv:1:17: Header: the first record isn't the header, word for word: other columns or another language\n  from,to,seconds,more\n                  ^^^^\n",
+        ..REFUSED
+    },
+    Case {
+        intergreens: b"from,to\nK1,K2,5\n",
+        text: b"g.csv:1: Header: the first record isn't the header, word for word: other columns or another language\n  from,to\n  ^^^^^^^\n",
         ..REFUSED
     },
 ];
@@ -172,6 +207,14 @@ fn plans_show_slips(rt: HostRuntime) -> Result<(), Fail> {
 #[test]
 fn tables_show_slips(rt: HostRuntime) -> Result<(), Fail> {
     for case in OF_TABLES {
+        assert!(rt; !misses(rt.alloc(), &case)?);
+    }
+    Ok(())
+}
+
+#[test]
+fn fields_are_told(rt: HostRuntime) -> Result<(), Fail> {
+    for case in FIELDS {
         assert!(rt; !misses(rt.alloc(), &case)?);
     }
     Ok(())

@@ -180,9 +180,9 @@ pub(crate) const OF_CONFLICTS: Case<'static> = Case {
 p.pua:4:1: no-intergreen: no stage has K1 and K3 green together, and the table of intergreens has no pair of them, so nothing keeps both from being green at once
   K3 3
   ^^
-g.csv:2: short-intergreen: the intergreen from K1 to K2 is 2 seconds, and the amber of K1 3, so K2 may be green while K1 shows amber
+g.csv:2:1: short-intergreen: the intergreen from K1 to K2 is 2 seconds, and the amber of K1 3, so K2 may be green while K1 shows amber
   K1,K2,2
-  ^^^^^^^
+  ^^^^^
 p.pua:23:1: late-red-end: in the interstage from stage 2 to stage 1 the red of K1 ends in second 6, where by red-amber and intergreens second 3 would do
   K1 6 127
   ^^
@@ -196,18 +196,18 @@ files refused: 0, warnings: 4
 const OF_TIMES: Case<'static> = Case {
     program: b"PROGRAM p;\nIF Stage_active(1) AND Detection(1) THEN Interstage(2, 1) END;\nPROG_ENDE: .\n",
     times: b"group,min_green,red_amber,amber\nK1,10,3,1\nK2,8,3,1\n",
-    text: b"t.csv:1: red-amber-above-amber: in each row the red-amber is longer than the amber; are the two columns exchanged?
+    text: b"t.csv:1:17: red-amber-above-amber: in each row the red-amber is longer than the amber; are the two columns exchanged?
   group,min_green,red_amber,amber
-  ^^^^^^^^^^^^^^^^^^^^^^^^^^^^^^^
+                  ^^^^^^^^^^^^^^^
 p.pua:17:1: late-red-end: in the interstage from stage 1 to stage 2 the red of K2 ends in second 4, where by red-amber and intergreens second 2 would do
   K2 4 127
   ^^
 p.pua:23:1: late-red-end: in the interstage from stage 2 to stage 1 the red of K1 ends in second 3, where by red-amber and intergreens second 1 would do
   K1 3 127
   ^^
-p.vap:2:53: wrong-stage: this command leads from stage 2, and is given where stage 1 is active, so it is refused
+p.vap:2:42: wrong-stage: this command leads from stage 2, and is given where stage 1 is active, so it is refused
   IF Stage_active(1) AND Detection(1) THEN Interstage(2, 1) END;
-                                                      ^
+                                           ^^^^^^^^^^
 p.pua:5:1: stage-never-left: no command of the program leads from stage 1, so a run that is in it stays in it
   S1 K1
   ^^

@@ -14,7 +14,7 @@ returns c =
     let pua = bytes_in c.args.pua.now in
     subst (λ p. OnOk c.tell_of_program.result (items ≡ before ++ program_part text pua p c.args.plan.now c.args.frames.now))
     (sym c.in-Some.is)
-    (part_of_program c.tell_of_program.result text pua c.shown-2.result.now c.in-Some.program c.args.plan.now c.args.frames.now
-    (map (λ v. v.items) c.deref.result.now) c.in_ok-warnings.warnings.items before items c.shown-2.ensures
+    (part_of_program c.tell_of_program.result text pua c.shown-bytes.result.now c.in-Some.program c.args.plan.now c.args.frames.now
+    (map (λ v. v.items) c.deref.result.now) c.in_ok-warnings.warnings.items before items c.shown-bytes.ensures
     (ap (λ vs. map (λ v. v.items) vs) c.deref.ensures.value ∙ c.in_ok-stages.ensures ∙ ap (λ t. stage_words t) c.shown.ensures)
     c.in_ok-warnings.ensures c.tell_of_program.ensures)

@@ -1,0 +1,3 @@
+pub mod Numbered
+pub mod Pieces
+pub mod RecordPlaces

@@ -1,0 +1,10 @@
+use Rattle.std.proofs.Common.{◌≡◌, drop}
+use Rattle.std.specs.Prelude.{filter_map}
+use Rattle.site_check.specs.Spots.{call_at, call_word, is_token_of, rests}
+use Rattle.site_check.proofs.spots.short_call.Given as goal
+
+-- no call before these tokens has such an argument
+abbrev pub invariant-loop-i : goal.invariant-loop-i
+invariant-loop-i l =
+    filter_map (call_at l.wanted.line (call_word l.wanted.kind) l.wanted.second (is_token_of l.checked.names l.wanted.value)) (rests (drop l.i l.tokens))
+    ≡ filter_map (call_at l.wanted.line (call_word l.wanted.kind) l.wanted.second (is_token_of l.checked.names l.wanted.value)) (rests l.tokens)
