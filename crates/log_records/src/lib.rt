@@ -24,4 +24,4 @@ pub use record::read_record;
 pub use records::LogRecords;
 pub use refusal::{LogStop, LogWhy};
 pub use take::{refused_at, take_line};
-pub use told::ToldLines;
+pub use told::{ToldLines, is_watch};

@@ -23,9 +23,9 @@ pub struct ToldLines {
     ghost longest: { longest_of reader ≡ 262144 },
 }
 
-// Whether a line of a log is a watcher's.
+/// Whether a line of a log, without its end, is a watcher's.
 #[tactic(auto, unfolding(crate::specs::Watchers::is_watch))]
-fn is_watch(line: &[u8]) -> bool
+pub fn is_watch(line: &[u8]) -> bool
     ensures { result ≡ is_watch line.now }
 {
     strip(b"WATCH ", line).is_some() && line.len() <= LONGEST
