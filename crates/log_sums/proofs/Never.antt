@@ -1,7 +1,7 @@
 -- What never comes.
 use Rattle.std.proofs.Common.{◌≡◌, ℕ, zero, suc, ◌≤◌, Bool, true, false, refl, sym, arith}
 use Rattle.std.specs.Prelude.{nat_le, if◌then◌else◌}
-use Rattle.log_sums.specs.Series.{AreFigures, count_to, first_most, least_to, most_to, since, sum_to}
+use Rattle.log_sums.specs.Series.{AreFigures, AreLongFigures, count_to, first_most, least_to, most_to, since, sum_to}
 use Rattle.log_sums.specs.Spells.{begins, held, run}
 use Rattle.log_sums.specs.Tallies.{came, stretch}
 
@@ -54,6 +54,15 @@ never_figures f n never = record {
   at = sym (first_never f n never);
   few = omega arith;
   small = omega arith;
+}
+
+pub never_long_figures : (f : ℕ → ℕ) (n : ℕ) → IsNever f n → AreLongFigures f n (record { count = 0; sum = 0; least = 0; most = 0 })
+never_long_figures f n never = record {
+  count = sym (count_never f n never);
+  sum = sym (sum_never f n never);
+  least = sym (least_never f n never);
+  most = sym (most_never f n never);
+  few = omega arith;
 }
 
 zero_both : (b : Bool) (x : ℕ) → x ≡ 0 → (if b then x else 0) ≡ 0

@@ -1,6 +1,7 @@
 -- A second more.
 use Rattle.std.proofs.Common.{◌≡◌, ◌∙◌, ℕ, zero, suc, ◌+◌, ◌-◌, ◌≤◌, Bool, true, false, refl, sym, subst, arith, add-one}
 use Rattle.std.specs.Prelude.{◌==◌, ◌&&◌, if◌then◌else◌}
+use Rattle.log_sums.specs.Serves.{served, served_by, waited, waiting}
 use Rattle.log_sums.specs.Series.{sum_to}
 use Rattle.log_sums.specs.Spells.{begins, gap, last_to, over, run}
 
@@ -36,3 +37,33 @@ step_most false r n most = omega arith
 pub run_most : (h : ℕ → Bool) (n : ℕ) → run h n ≤ n
 run_most h zero = omega arith
 run_most h (suc n) = let step = step_most (h (suc n)) (run h n) n (run_most h n) in omega (arith, step, add-one n)
+
+pub served_next : (h : ℕ → Bool) (f : ℕ → ℕ) (n second : ℕ) → second ≡ n + 1 →
+    served h f second ≡ (if h second then served h f n + f second else 0)
+served_next h f n second next = subst (λ s. served h f s ≡ (if h s then served h f n + f s else 0)) (after n second next) refl
+
+pub served_by_next : (h : ℕ → Bool) (f : ℕ → ℕ) (n second : ℕ) → second ≡ n + 1 →
+    served_by h f second ≡ (if h second then 0 else (if run h n == 0 then 0 else served h f n + 1))
+served_by_next h f n second next =
+    subst (λ s. served_by h f s ≡ (if h s then 0 else (if run h n == 0 then 0 else served h f n + 1))) (after n second next) refl
+
+pub waiting_next : (h : ℕ → Bool) (f : ℕ → ℕ) (n second : ℕ) → second ≡ n + 1 →
+    waiting h f second ≡ (if h second then 0 else (if waiting h f n == 0 then (if f second == 0 then 0 else 1) else waiting h f n + 1))
+waiting_next h f n second next =
+    subst (λ s. waiting h f s ≡ (if h s then 0 else (if waiting h f n == 0 then (if f s == 0 then 0 else 1) else waiting h f n + 1)))
+    (after n second next) refl
+
+pub waited_next : (h : ℕ → Bool) (f : ℕ → ℕ) (n second : ℕ) → second ≡ n + 1 → waited h f second ≡ (if h second then waiting h f n else 0)
+waited_next h f n second next = subst (λ s. waited h f s ≡ (if h s then waiting h f n else 0)) (after n second next) refl
+
+wait_most : (b c d : Bool) (w n : ℕ) → w ≤ n → (if b then 0 else (if c then (if d then 0 else 1) else w + 1)) ≤ n + 1
+wait_most true c d w n most = omega arith
+wait_most false true true w n most = omega arith
+wait_most false true false w n most = omega arith
+wait_most false false d w n most = omega arith
+
+-- nobody waits for more seconds than there are
+pub waiting_most : (h : ℕ → Bool) (f : ℕ → ℕ) (n : ℕ) → waiting h f n ≤ n
+waiting_most h f zero = omega arith
+waiting_most h f (suc n) =
+    let step = wait_most (h (suc n)) (waiting h f n == 0) (f (suc n) == 0) (waiting h f n) n (waiting_most h f n) in omega (arith, step, add-one n)

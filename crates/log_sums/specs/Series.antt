@@ -1,6 +1,7 @@
 -- What a series adds up to: a number for each second from 1 on, of which 0 says that there is nothing to count.
 use Rattle.std.specs.Prelude.{◌≡◌, ℕ, zero, suc, ◌+◌, ◌*◌, ◌≤◌, ◌==◌, nat_le, nat_lt, max, min, if◌then◌else◌}
 use Rattle.log_sums.specs.declared.figures.Figures.{Figures}
+use Rattle.log_sums.specs.declared.long_figures.LongFigures.{LongFigures}
 
 -- the series from this second on; there is nothing to count before it
 abbrev pub since : ℕ → (ℕ → ℕ) → ℕ → ℕ
@@ -44,3 +45,11 @@ pub record AreFigures (f : ℕ → ℕ) (n : ℕ) (x : Figures) : Type 0 where
   pub at : x.at ≡ first_most f n
   pub few : x.count ≤ n
   pub small : x.sum ≤ n * 4294967296
+
+-- what a series of long numbers adds up to in the seconds 1 to n
+pub record AreLongFigures (f : ℕ → ℕ) (n : ℕ) (x : LongFigures) : Type 0 where
+  pub count : x.count ≡ count_to f n
+  pub sum : x.sum ≡ sum_to f n
+  pub least : x.least ≡ least_to f n
+  pub most : x.most ≡ most_to f n
+  pub few : x.count ≤ n

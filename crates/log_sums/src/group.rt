@@ -18,8 +18,8 @@ pub struct GroupSums {
     pub cycles: Gaps,
 }
 
-// Whether it is green.
-fn is_green(aspect: Aspect) -> bool
+/// Whether it is green.
+pub(crate) fn is_green(aspect: Aspect) -> bool
     ensures { result ≡ is_green aspect }
 {
     match aspect {

@@ -8,7 +8,7 @@ use Rattle.log_view.specs.declared.named.FormName.TheVariants.{Diagram, Text, Su
 abbrev pub form_words : FormName → List ℕ
 form_words Diagram = codes "log_report diagram LOG FROM TO [--strip N]"
 form_words Text = codes "log_report text LOG FROM TO"
-form_words Sums = codes "log_report sums LOG [FROM TO] [--each SECONDS] [--csv]"
+form_words Sums = codes "log_report sums LOG [FROM TO] [--each SECONDS] [--serves DETECTORS:GROUP] [--csv]"
 
 -- the form with this first word
 abbrev pub form_called : List ℕ → Option FormName

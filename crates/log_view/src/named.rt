@@ -20,7 +20,8 @@ pub fn form_words(form: FormName) -> &'static [u8]
     match form {
         FormName::Diagram => b"log_report diagram LOG FROM TO [--strip N]",
         FormName::Text => b"log_report text LOG FROM TO",
-        FormName::Sums => b"log_report sums LOG [FROM TO] [--each SECONDS] [--csv]",
+        FormName::Sums =>
+            b"log_report sums LOG [FROM TO] [--each SECONDS] [--serves DETECTORS:GROUP] [--csv]",
     }
 }
 

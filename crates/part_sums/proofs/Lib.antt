@@ -1,2 +1,3 @@
 pub mod NotYet
 pub mod Over
+pub mod Restarted

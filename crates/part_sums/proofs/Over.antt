@@ -4,8 +4,10 @@ use Rattle.std.specs.Prelude.{min}
 use Rattle.std.proofs.lemmas.List.{take-append-le}
 use Rattle.std.proofs.lemmas.Bool.{eqb-false, ltb-true}
 use Rattle.sig_types.specs.declared.record.Record.{Record}
+use Rattle.record_sums.specs.declared.serves.Serve.{Serve}
 use Rattle.record_sums.specs.declared.sums.LogSums.{LogSums}
 use Rattle.record_sums.specs.Adding.{AddsUpTo}
+use Rattle.record_sums.specs.Serves.{serves_of}
 use Rattle.record_sums.specs.Summed.{AreSumsOf}
 use Rattle.part_sums.specs.declared.parts.PartSums.{PartSums}
 use Rattle.part_sums.specs.Adding.{IsOver, PartsUpTo}
@@ -53,6 +55,7 @@ pub ends : (groups from to : ℕ) (records : List Record) (r : Record) (old over
       turns = old.turns;
       rules = old.rules;
       faults = old.faults;
+      serves = old.serves;
     } →
     IsOver groups from to (records ++ r ∷ []) over
 ends groups from to records r old over is most same =
@@ -70,6 +73,7 @@ ends groups from to records r old over is most same =
           turns_are = is.sums.turns_are;
           rules_are = is.sums.rules_are;
           faults_are = is.sums.faults_are;
+          serves_are = is.sums.serves_are;
         };
         goes_on = sym (lt-ltb to (length (records ++ r ∷ [])) later);
       },
@@ -92,13 +96,13 @@ begun_at from each to n k i false e most before next =
     omega (arith, before within)
 
 -- a part that is over, and the next one with its first record
-pub part_more : (groups from each to e : ℕ) (records : List Record) (r : Record) (old new : PartSums) (over : LogSums) → 1 ≤ each →
-    PartsUpTo groups from each to records old → e ≡ old.current.to → e < length records + 1 → e < to → new.each ≡ old.each → new.to ≡ old.to →
+pub part_more : (groups from each to e : ℕ) (serves : List Serve) (records : List Record) (r : Record) (old new : PartSums) (over : LogSums) → 1 ≤ each →
+    PartsUpTo groups from each to serves records old → e ≡ old.current.to → e < length records + 1 → e < to → new.each ≡ old.each → new.to ≡ old.to →
     new.over.items ≡ old.over.items ++ over ∷ [] →
     IsOver groups (begin_of from each (length old.over.items)) (end_of from each to (length old.over.items)) (records ++ r ∷ []) over →
-    AddsUpTo groups (length records + 1) (min to (e + each)) (records ++ r ∷ []) new.current →
-    PartsUpTo groups from each to (records ++ r ∷ []) new
-part_more groups from each to e records r old new over some is end past less each_same to_same items over_is next =
+    AddsUpTo groups (length records + 1) (min to (e + each)) (records ++ r ∷ []) new.current → over.serves.items ≡ old.current.serves.items →
+    serves_of new.current.serves.items ≡ serves_of old.current.serves.items → PartsUpTo groups from each to serves (records ++ r ∷ []) new
+part_more groups from each to e serves records r old new over some is end past less each_same to_same items over_is next over_same same =
     let n = length records in
     let k = length old.over.items in
     let rs = records ++ r ∷ [] in
@@ -115,18 +119,21 @@ part_more groups from each to e records r old new over some is end past less eac
       current_is = subst (λ j. AddsUpTo groups (begin_of from each j) (end_of from each to j) rs new.current) (sym count)
           (subst (λ f. AddsUpTo groups f (end_of from each to (suc k)) rs new.current) (sym at.1)
           (subst (λ t. AddsUpTo groups (n + 1) t rs new.current) (sym end_is) next));
+      over_serve = rw items (each_more (λ i x. serves_of x.serves.items ≡ serves) old.over.items over is.over_serve (ap serves_of over_same ∙ is.current_serves));
+      current_serves = same ∙ is.current_serves;
       begun = λ i one most. rw size (begun_at from each to n k i (eqb i (suc k)) refl (omega (arith, most, count)) (is.begun i one)
           (omega (arith, at.0, at.1, less)));
       enough = rw (size, count) (omega (arith, at.0, at.1, some));
     }
 
 -- a record more of the part that isn't over
-pub same_part : (groups from each to : ℕ) (records : List Record) (r : Record) (old new : PartSums) → PartsUpTo groups from each to records old →
+pub same_part : (groups from each to : ℕ) (serves : List Serve) (records : List Record) (r : Record) (old new : PartSums) →
+    PartsUpTo groups from each to serves records old →
     new.each ≡ old.each → new.to ≡ old.to → new.over.items ≡ old.over.items →
     min to (length records + 1) ≤ end_of from each to (length old.over.items) →
     AddsUpTo groups (begin_of from each (length old.over.items)) (end_of from each to (length old.over.items)) (records ++ r ∷ []) new.current →
-    PartsUpTo groups from each to (records ++ r ∷ []) new
-same_part groups from each to records r old new is each_same to_same items enough next =
+    serves_of new.current.serves.items ≡ serves_of old.current.serves.items → PartsUpTo groups from each to serves (records ++ r ∷ []) new
+same_part groups from each to serves records r old new is each_same to_same items enough next same =
     let rs = records ++ r ∷ [] in
     let size : length rs ≡ length records + 1 = length-append records (r ∷ []) in
     record {
@@ -135,21 +142,25 @@ same_part groups from each to records r old new is each_same to_same items enoug
       over_are = rw items
           (λ i d inside. over_more groups (begin_of from each i) (end_of from each to i) records r (get_or old.over.items i d) (is.over_are i d inside));
       current_is = rw items next;
+      over_serve = rw items is.over_serve;
+      current_serves = same ∙ is.current_serves;
       begun = rw items (λ i one most. (let before = is.begun i one most in omega (arith, before, size)));
       enough = rw (items, size) enough;
     }
 
 -- all parts, where the log ends
-pub all_parts : (groups from each to : ℕ) (records : List Record) (x : PartSums) (parts : List LogSums) → 1 ≤ each → PartsUpTo groups from each to records x →
+pub all_parts : (groups from each to : ℕ) (serves : List Serve) (records : List Record) (x : PartSums) (parts : List LogSums) → 1 ≤ each →
+    PartsUpTo groups from each to serves records x →
     ((groups from to : ℕ) (records : List Record) (x : LogSums) → AddsUpTo groups from to records x → AreSumsOf groups from to records x) →
-    parts ≡ x.over.items ++ x.current ∷ [] → AreParts groups from each to records parts
-all_parts groups from each to records x parts some is law items =
+    parts ≡ x.over.items ++ x.current ∷ [] → AreParts groups from each to serves records parts
+all_parts groups from each to serves records x parts some is law items =
     let k = length x.over.items in
     let count : length parts ≡ suc k = ap length items ∙ count_more x.over.items x.current in
     record {
       sums = rw items (each_more (λ i y. AreSumsOf groups (begin_of from each i) (end_of from each to i) records y) x.over.items x.current
           (λ i d inside. law groups (begin_of from each i) (end_of from each to i) records (get_or x.over.items i d) (is.over_are i d inside).0)
           (law groups (begin_of from each k) (end_of from each to k) records x.current is.current_is));
+      serves_are = rw items (each_more (λ i y. serves_of y.serves.items ≡ serves) x.over.items x.current is.over_serve is.current_serves);
       some = omega (arith, count);
       begun = λ i one inside. is.begun i one (omega (arith, inside, count));
       all = rw count (omega (arith, some, is.enough));

@@ -6,6 +6,7 @@
 
 mod parts;
 mod restart;
+mod serves;
 mod tallies;
 
 pub use parts::{PartSums, take_part};

@@ -1,13 +1,14 @@
 // The sums of parts, record by record.
 ghost use Rattle.std.specs.Prelude.{◌≡◌, ◌+◌, ◌-◌, ◌^◌, ◌<◌, ◌≤◌, ◌++◌, ◌∷◌, [], ℕ, List, IfOk, OnOk, length, min};
 ghost use Rattle.sig_types.specs.declared.record.Record.{Record};
+ghost use Rattle.record_sums.specs.declared.serves.Serve.{Serve};
 ghost use Rattle.record_sums.specs.declared.sums.LogSums.{LogSums};
 ghost use Rattle.record_sums.specs.Adding.{AddsUpTo};
 ghost use Rattle.part_sums.specs.Adding.{IsOver, PartsUpTo};
 
 use crate::restart::restart;
 use record_sums::laws::sums_are_of_records;
-use record_sums::{LogSums, take_record};
+use record_sums::{LogSums, Serve, take_record};
 use sig_types::{Memory, Record};
 use std::alloc::Global;
 use std::mem;
@@ -53,23 +54,33 @@ impl PartSums {
     ghost use Rattle.part_sums.specs.Parts.{AreParts};
 
     /// Those of no record, where the first part begins with second `from`, each has `each` seconds, and none goes on
-    /// behind `to`.
-    pub fn none(alloc: Global, from: u32, each: u32, to: u32) -> PartSums
-        ensures { (groups : ℕ) → groups ≤ 64 → 1 ≤ each → PartsUpTo groups from each to [] result }
+    /// behind `to`. In each these detectors are asked for because they serve a group.
+    pub fn none(
+        alloc: Global,
+        from: u32,
+        each: u32,
+        to: u32,
+        serves: &[Serve],
+    ) -> Result<PartSums, Memory>
+        ensures { IfOk result (λ x. (groups : ℕ) → groups ≤ 64 → 1 ≤ each → PartsUpTo groups from each to serves.now [] x) }
     {
         let end = end_behind(from, less_one(each), to);
-        PartSums {
-            each,
-            to,
-            over: Vec::new(alloc),
-            current: LogSums::none(alloc, from, end),
+        let over = Vec::new(alloc);
+        match LogSums::serving(alloc, from, end, serves) {
+            Ok(current) => Ok(PartSums {
+                each,
+                to,
+                over,
+                current,
+            }),
+            Err(memory) => Err(memory),
         }
     }
 
     /// The sums of all parts, where the log ends.
     pub fn finish(self) -> Result<Vec<LogSums>, Memory>
-        ensures { IfOk result (λ v. (groups from each to : ℕ) (records : List Record) → 1 ≤ each → PartsUpTo groups from each to records self →
-            AreParts groups from each to records v.items) }
+        ensures { IfOk result (λ v. (groups from each to : ℕ) (serves : List Serve) (records : List Record) → 1 ≤ each →
+            PartsUpTo groups from each to serves records self → AreParts groups from each to serves records v.items) }
     {
         sums_are_of_records();
         let PartSums {
@@ -87,8 +98,9 @@ impl PartSums {
 
 // The sums of a part, where the log goes on behind it.
 fn close(mut sums: LogSums) -> LogSums
-    ensures { (groups from to : ℕ) (records : List Record) (r : Record) → to ≤ length records → AddsUpTo groups from to records sums →
+    ensures sums { (groups from to : ℕ) (records : List Record) (r : Record) → to ≤ length records → AddsUpTo groups from to records sums →
         IsOver groups from to (records ++ r ∷ []) result }
+    ensures serves { result.serves.items ≡ sums.serves.items }
 {
     sums.goes_on = true;
     sums
@@ -98,9 +110,9 @@ fn close(mut sums: LogSums) -> LogSums
 fn begin_part(alloc: Global, parts: &mut PartSums, rec: &Record) -> Result<(), Memory>
     requires past { parts.old.current.to < rec.now.second.0 }
     requires less { parts.old.current.to < parts.old.to }
-    ensures { OnOk result ((groups from each to : ℕ) (records : List Record) → groups ≤ 64 → 1 ≤ each → length rec.now.picture ≡ groups →
-        rec.now.second.0 ≡ length records + 1 → rec.now.second.0 < 2 ^ 31 → PartsUpTo groups from each to records parts.old →
-        PartsUpTo groups from each to (records ++ rec.now ∷ []) parts.new) }
+    ensures { OnOk result ((groups from each to : ℕ) (serves : List Serve) (records : List Record) → groups ≤ 64 → 1 ≤ each →
+        length rec.now.picture ≡ groups → rec.now.second.0 ≡ length records + 1 → rec.now.second.0 < 2 ^ 31 →
+        PartsUpTo groups from each to serves records parts.old → PartsUpTo groups from each to serves (records ++ rec.now ∷ []) parts.new) }
 {
     let end = end_behind(parts.current.to, parts.each, parts.to);
     let mut next = match restart(alloc, &parts.current, end) {
@@ -122,9 +134,9 @@ fn begin_part(alloc: Global, parts: &mut PartSums, rec: &Record) -> Result<(), M
 ///
 /// It answers `Memory` where there is no room for a part more, or for something that never came before.
 pub fn take_part(alloc: Global, parts: &mut PartSums, rec: &Record) -> Result<(), Memory>
-    ensures { OnOk result ((groups from each to : ℕ) (records : List Record) → groups ≤ 64 → 1 ≤ each → length rec.now.picture ≡ groups →
-        rec.now.second.0 ≡ length records + 1 → rec.now.second.0 < 2 ^ 31 → PartsUpTo groups from each to records parts.old →
-        PartsUpTo groups from each to (records ++ rec.now ∷ []) parts.new) }
+    ensures { OnOk result ((groups from each to : ℕ) (serves : List Serve) (records : List Record) → groups ≤ 64 → 1 ≤ each →
+        length rec.now.picture ≡ groups → rec.now.second.0 ≡ length records + 1 → rec.now.second.0 < 2 ^ 31 →
+        PartsUpTo groups from each to serves records parts.old → PartsUpTo groups from each to serves (records ++ rec.now ∷ []) parts.new) }
 {
     if parts.current.to < rec.second.0 && parts.current.to < parts.to {
         return begin_part(alloc, parts, rec);

@@ -8,7 +8,9 @@ ghost use Rattle.log_sums.specs.Detectors.{AreDetectorSums};
 ghost use Rattle.log_sums.specs.Groups.{AreGroupSums};
 ghost use Rattle.log_sums.specs.Spells.{AreGaps, AreSpells};
 ghost use Rattle.record_sums.specs.Adding.{AddsUp, AddsUpTo};
+ghost use Rattle.record_sums.specs.Serves.{serves_of};
 
+use crate::serves::restart_serves;
 use crate::tallies::restart_tallies;
 use log_sums::{DetectorSums, Figures, Gaps, GroupSums, Spells};
 use record_sums::LogSums;
@@ -84,8 +86,9 @@ fn restart_detectors(detectors: &mut [DetectorSums; 64])
 
 /// Sums of the same records, which count from the second behind them to `to`.
 pub(crate) fn restart(alloc: Global, sums: &LogSums, to: u32) -> Result<LogSums, Memory>
-    ensures { IfOk result (λ x. (groups from : ℕ) (records : List Record) → groups ≤ 64 → length records < 2 ^ 31 → length records ≤ to →
+    ensures sums { IfOk result (λ x. (groups from : ℕ) (records : List Record) → groups ≤ 64 → length records < 2 ^ 31 → length records ≤ to →
         AddsUp groups from records sums.now → AddsUpTo groups (length records + 1) to records x) }
+    ensures serves { IfOk result (λ x. serves_of x.serves.items ≡ serves_of sums.now.serves.items) }
 {
     let mut groups = sums.groups;
     restart_groups(&mut groups);
@@ -111,6 +114,10 @@ pub(crate) fn restart(alloc: Global, sums: &LogSums, to: u32) -> Result<LogSums,
         Ok(faults) => faults,
         Err(memory) => return Err(memory),
     };
+    let serves = match restart_serves(alloc, &sums.serves) {
+        Ok(serves) => serves,
+        Err(memory) => return Err(memory),
+    };
     Ok(LogSums {
         from: sums.seconds.saturating_add(1),
         to,
@@ -123,5 +130,6 @@ pub(crate) fn restart(alloc: Global, sums: &LogSums, to: u32) -> Result<LogSums,
         turns,
         rules,
         faults,
+        serves,
     })
 }

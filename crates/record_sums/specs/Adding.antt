@@ -13,6 +13,7 @@ use Rattle.log_sums.specs.Groups.{AreGroupSums}
 use Rattle.log_sums.specs.Keys.{command_code, fault_code, place_code, turn_code}
 use Rattle.log_sums.specs.Tallies.{AreTallies}
 use Rattle.record_sums.specs.declared.sums.LogSums.{LogSums}
+use Rattle.record_sums.specs.Serves.{AddServes}
 use Rattle.record_sums.specs.Told.{AgreesTo, alone, commands_by, faults_by, fronts_by, places_by, rears_by, rules_by, shown_by, told, turns_by}
 
 -- tallies of what f tells of these records, whatever follows them
@@ -31,6 +32,7 @@ pub record AddsUp (groups from : ℕ) (records : List Record) (x : LogSums) : Ty
   pub turns_are : AddTallies turn_code turns_by from records x.turns.items
   pub rules_are : AddTallies turn_code rules_by from records x.rules.items
   pub faults_are : AddTallies fault_code faults_by from records x.faults.items
+  pub serves_are : length records < 1048576 → AddServes from records x.serves.items
 
 -- what the seconds up to `to` of a log add up to that begins with these records
 pub record AddsUpTo (groups from to : ℕ) (records : List Record) (x : LogSums) : Type 0 where
@@ -55,3 +57,4 @@ pub record AreRefusalsShown (r : Record) (old new : LogSums) : Type 0 where
   pub detectors : new.detectors ≡ old.detectors
   pub places : new.places.items ≡ old.places.items
   pub faults : new.faults.items ≡ old.faults.items
+  pub serves : new.serves.items ≡ old.serves.items

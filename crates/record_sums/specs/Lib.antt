@@ -1,3 +1,4 @@
 pub mod Told
+pub mod Serves
 pub mod Summed
 pub mod Adding

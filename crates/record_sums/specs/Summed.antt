@@ -9,9 +9,11 @@ use Rattle.log_sums.specs.Groups.{AreGroupSums}
 use Rattle.log_sums.specs.Keys.{command_code, fault_code, place_code, turn_code}
 use Rattle.log_sums.specs.Tallies.{AreTallies}
 use Rattle.record_sums.specs.declared.sums.LogSums.{LogSums}
+use Rattle.record_sums.specs.Serves.{AreServed}
 use Rattle.record_sums.specs.Told.{commands_by, faults_by, fronts_by, places_by, rears_by, rules_by, shown_by, told, turns_by}
 
--- What these records add up to, of so many groups, where seconds from `from` on count.
+-- What these records add up to, of so many groups, where seconds from `from` on count. Fronts in green are told of fewer than 1,048,576
+-- records; a log has at most 604,801.
 pub record AreSums (groups from : ℕ) (records : List Record) (x : LogSums) : Type 0 where
   pub seconds_are : x.seconds ≡ length records
   pub groups_are : (g : ℕ) (d : GroupSums) → g < groups →
@@ -23,6 +25,7 @@ pub record AreSums (groups from : ℕ) (records : List Record) (x : LogSums) : T
   pub turns_are : AreTallies turn_code (told turns_by [] records) from (length records) x.turns.items
   pub rules_are : AreTallies turn_code (told rules_by [] records) from (length records) x.rules.items
   pub faults_are : AreTallies fault_code (told faults_by [] records) from (length records) x.faults.items
+  pub serves_are : length records < 1048576 → AreServed from records x.serves.items
 
 -- what the seconds from `from` to `to` of a log with these records add up to, and whether the log goes on behind them
 pub record AreSumsOf (groups from to : ℕ) (records : List Record) (x : LogSums) : Type 0 where

@@ -14,9 +14,11 @@ ghost use Rattle.log_sums.specs.Keys.{command_code, fault_code, place_code, turn
 ghost use Rattle.log_sums.specs.Tallies.{AreTallies};
 ghost use Rattle.record_sums.specs.Adding.{AddsUp, AddsUpTo};
 ghost use Rattle.record_sums.specs.Adding.{AreRefusalsShown};
+ghost use Rattle.record_sums.specs.Serves.{serves_of};
 ghost use Rattle.record_sums.specs.Told.{fault_items};
 
 use crate::items::{commands_of, rules_of, turns_of};
+use crate::serves::show_serves;
 use crate::sums::LogSums;
 use log_sums::{DetectorSums, GroupSums, Tally, show_items};
 use sig_types::{Fault, Frame, Memory, Picture, Record, StageRefusal, StageRefusals, TurnRefusal};
@@ -132,12 +134,14 @@ fn take_second(alloc: Global, sums: &mut LogSums, rec: &Record) -> Result<(), Me
     ensures from { OnOk result (sums.new.from ≡ sums.old.from) }
     ensures to { OnOk result (sums.new.to ≡ sums.old.to) }
     ensures goes_on { OnOk result (sums.new.goes_on ≡ sums.old.goes_on) }
+    ensures serves { OnOk result (serves_of sums.new.serves.items ≡ serves_of sums.old.serves.items) }
 {
     let from = sums.from;
     let second = rec.second.0;
     sums.seconds = second;
     show_groups(&mut sums.groups, from, second, &rec.picture);
     show_detectors(&mut sums.detectors, from, second, &rec.frame);
+    show_serves(&mut sums.serves, from, second, &rec.picture, &rec.frame);
     match show_items(&mut sums.places, from, second, &[rec.place]) {
         Ok(()) => {}
         Err(memory) => return Err(memory),
@@ -154,8 +158,9 @@ fn take_second(alloc: Global, sums: &mut LogSums, rec: &Record) -> Result<(), Me
 
 /// Takes the next record of a log. What is behind the last second that counts is told by that alone, that the log goes on.
 pub fn take_record(alloc: Global, sums: &mut LogSums, rec: &Record) -> Result<(), Memory>
-    ensures { OnOk result ((groups from to : ℕ) (records : List Record) → length rec.now.picture ≡ groups → rec.now.second.0 ≡ length records + 1 →
+    ensures sums { OnOk result ((groups from to : ℕ) (records : List Record) → length rec.now.picture ≡ groups → rec.now.second.0 ≡ length records + 1 →
         rec.now.second.0 < 2 ^ 31 → AddsUpTo groups from to records sums.old → AddsUpTo groups from to (records ++ rec.now ∷ []) sums.new) }
+    ensures serves { OnOk result (serves_of sums.new.serves.items ≡ serves_of sums.old.serves.items) }
 {
     if rec.second.0 > sums.to {
         sums.goes_on = true;

@@ -1,5 +1,6 @@
 //! What the records of a log add up to, in the seconds that are asked for: greens, reds and cycles of each group, fronts and
-//! headways of each detector, and how often stages, refusals and faults came. In one pass, without memory for a second.
+//! headways of each detector, how often stages, refusals and faults came, and the fronts in green of detectors that serve a group. In
+//! one pass, without memory for a second.
 //!
 //! `specs/Summed` has the definition over whole lists of records.
 #![tactic(auto)]
@@ -7,7 +8,9 @@
 mod adding;
 mod items;
 pub mod laws;
+mod serves;
 mod sums;
 
 pub use adding::take_record;
+pub use serves::{Serve, Served};
 pub use sums::LogSums;

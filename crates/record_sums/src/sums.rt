@@ -1,13 +1,14 @@
 // What the records of a log add up to.
-ghost use Rattle.std.specs.Prelude.{◌≡◌, ◌<◌, ◌≤◌, ℕ, [], List, slice_index_or};
+ghost use Rattle.std.specs.Prelude.{◌≡◌, ◌<◌, ◌≤◌, ℕ, [], List, IfOk, slice_index_or};
 ghost use Rattle.sig_types.specs.declared.aspect.Aspect.{Aspect};
 ghost use Rattle.log_sums.specs.declared.detector.DetectorSums.{DetectorSums};
 ghost use Rattle.log_sums.specs.declared.group.GroupSums.{GroupSums};
 ghost use Rattle.log_sums.specs.Detectors.{AreDetectorSums};
 ghost use Rattle.log_sums.specs.Groups.{AreGroupSums};
 
+use crate::serves::{Serve, Served, none_served};
 use log_sums::{DetectorSums, GroupSums, Tally};
-use sig_types::{Fault, StagePlace, StageRefusal, TurnRefusal};
+use sig_types::{Fault, Memory, StagePlace, StageRefusal, TurnRefusal};
 use std::alloc::Global;
 
 /// What the records of a log add up to. It takes memory for each stage, interstage and kind of refusal and fault, and none for a
@@ -36,6 +37,8 @@ pub struct LogSums {
     pub rules: Vec<Tally<TurnRefusal>>,
     /// The faults.
     pub faults: Vec<Tally<Fault>>,
+    /// The detectors that are asked for because they serve a group.
+    pub serves: Vec<Served>,
 }
 
 // The sums of 64 groups over no second.
@@ -54,10 +57,12 @@ fn no_detectors() -> [DetectorSums; 64]
 
 impl LogSums {
     ghost use Rattle.record_sums.specs.Adding.{AddsUpTo};
+    ghost use Rattle.record_sums.specs.Serves.{serves_of};
 
-    /// Those of no second, where the seconds from `from` to `to` count.
+    /// Those of no second, where the seconds from `from` to `to` count, and no detectors are asked for.
     pub fn none(alloc: Global, from: u32, to: u32) -> LogSums
-        ensures { (groups : ℕ) → groups ≤ 64 → AddsUpTo groups from to [] result }
+        ensures sums { (groups : ℕ) → groups ≤ 64 → AddsUpTo groups from to [] result }
+        ensures serves { result.serves.items ≡ [] }
     {
         let groups = no_groups();
         let detectors = no_detectors();
@@ -66,6 +71,7 @@ impl LogSums {
         let turns = Vec::new(alloc);
         let rules = Vec::new(alloc);
         let faults = Vec::new(alloc);
+        let serves = Vec::new(alloc);
         LogSums {
             from,
             to,
@@ -78,6 +84,21 @@ impl LogSums {
             turns,
             rules,
             faults,
+            serves,
         }
+    }
+
+    /// The same, where these detectors are asked for because they serve a group.
+    pub fn serving(alloc: Global, from: u32, to: u32, serves: &[Serve]) -> Result<LogSums, Memory>
+        ensures sums { IfOk result (λ x. (groups : ℕ) → groups ≤ 64 → AddsUpTo groups from to [] x) }
+        ensures serves { IfOk result (λ x. serves_of x.serves.items ≡ serves.now) }
+    {
+        let served = match none_served(alloc, serves) {
+            Ok(served) => served,
+            Err(memory) => return Err(memory),
+        };
+        let mut sums = LogSums::none(alloc, from, to);
+        sums.serves = served;
+        Ok(sums)
     }
 }

@@ -1,3 +1,4 @@
 pub mod Groups
 pub mod Last
 pub mod TableRows
+pub mod Served

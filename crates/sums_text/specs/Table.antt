@@ -12,14 +12,17 @@ use Rattle.signal_log.specs.Log.{fault_text, stage_refusal_text, turn_text}
 use Rattle.log_sums.specs.declared.detector.DetectorSums.{DetectorSums}
 use Rattle.log_sums.specs.declared.figures.Figures.{Figures}
 use Rattle.log_sums.specs.declared.group.GroupSums.{GroupSums}
+use Rattle.log_sums.specs.declared.long_figures.LongFigures.{LongFigures}
+use Rattle.log_sums.specs.declared.serves.ServeSums.{ServeSums}
 use Rattle.log_sums.specs.declared.spells.Spells.{Spells}
 use Rattle.log_sums.specs.declared.tally.Counts.{Counts}
 use Rattle.log_sums.specs.declared.tally.Tally.{Tally}
+use Rattle.record_sums.specs.declared.serves.Served.{Served}
 use Rattle.record_sums.specs.declared.sums.LogSums.{LogSums}
 use Rattle.sums_text.specs.declared.cells.Item.{Item}
 use Rattle.sums_text.specs.declared.cells.Item.TheVariants as item
 use Rattle.sums_text.specs.declared.cells.Lead.{Lead}
-use Rattle.sums_text.specs.Words.{counted_in, is_named, longest_from, longest_of, mean_of, pair_text, tenths_text}
+use Rattle.sums_text.specs.Words.{counted_in, is_named, longest_from, longest_of, mean_of, mean_served, pair_text, serve_name, tenths_text}
 
 -- the names of the columns
 abbrev pub head_text : List ℕ
@@ -150,6 +153,26 @@ detectors_rows span number (y ∷ named) [] = []
 detectors_rows span number (y ∷ named) (x ∷ xs) =
     detector_rows (span ++ (codes "DETECTOR," ++ decimal number)) (is_named y) x ++ detectors_rows span (number + 1) named xs
 
+-- the rows of the fewest fronts of a green, their mean and the most
+abbrev pub some_per_green : List ℕ → LongFigures → List ℕ
+some_per_green lead x =
+    row_text lead (codes ",fewest,") (x.least - 1) ++ tenths_row lead (codes ",mean,") (mean_served x) ++ row_text lead (codes ",most,") (x.most - 1)
+
+-- the same; no row where no green is over
+unfoldable pub per_green_rows : List ℕ → LongFigures → List ℕ
+per_green_rows lead x = if x.count == 0 then [] else some_per_green lead x
+
+-- the rows of what detectors saw that serve a group
+unfoldable pub seen_rows : List ℕ → ServeSums → List ℕ
+seen_rows lead x =
+    row_text lead (codes ",in_green,") x.in_green ++ row_text lead (codes ",not_in_green,") x.not_in_green
+    ++ row_text lead (codes ",ended,") x.per_green.count ++ per_green_rows lead x.per_green ++ row_text lead (codes ",waits,") x.waits.count
+    ++ lengths_rows lead (codes ",shortest_wait,") (codes ",mean_wait,") (codes ",longest_wait,") x.waits
+
+-- the rows of detectors that serve a group, behind the cells of the seconds
+unfoldable pub serve_rows : List ℕ → List (List ℕ) → Served → List ℕ
+serve_rows span names x = seen_rows (span ++ (codes "SERVES," ++ serve_name names x.serve)) x.sums
+
 -- the last second that counts; where none does, the one before the first
 abbrev pub last_in : LogSums → ℕ
 last_in x = max x.seconds (x.from - 1)
@@ -170,11 +193,12 @@ refused_rows names x =
     flat_map (command_rows (span_of x)) x.commands.items ++ flat_map (turn_rows (span_of x) names) x.turns.items
     ++ flat_map (rule_rows (span_of x) names) x.rules.items
 
--- the rows of sums, with those of the detectors that are named in these
+-- the rows of sums, with those of the detectors that are named in these, and of those that serve a group
 unfoldable pub sums_rows : List (List ℕ) → List DetectorSums → LogSums → List ℕ
 sums_rows names named x =
     shown_rows names x ++ flat_map (place_rows (span_of x)) x.places.items ++ refused_rows names x
     ++ flat_map (fault_rows (span_of x)) x.faults.items ++ detectors_rows (span_of x) 1 named x.detectors
+    ++ flat_map (serve_rows (span_of x) names) x.serves.items
 
 -- the table of sums
 unfoldable pub table_text : List (List ℕ) → LogSums → List ℕ
@@ -190,6 +214,7 @@ item_text (item.Turn names turn) = codes "REFUSED," ++ turn_text names.now turn
 item_text (item.Rule names turn) = codes "RULE," ++ turn_text names.now turn
 item_text (item.Fault fault) = codes "FAULT," ++ fault_text (Some fault)
 item_text (item.Detector number) = codes "DETECTOR," ++ decimal number
+item_text (item.Serve names serve) = codes "SERVES," ++ serve_name names.now serve
 
 -- the cells before the key
 abbrev pub lead_text : Lead → List ℕ

@@ -1,5 +1,5 @@
 -- The text of sums, line by line.
-use Rattle.std.specs.Prelude.{ℕ, ◌+◌, ◌-◌, ◌*◌, ◌/◌, ◌%◌, ◌<◌, ◌≤◌, ◌==◌, ◌&&◌, max, Bool, not, ◌||◌, List, [], ◌∷◌, ◌++◌, codes, slice_index_or, Some, if◌then◌else◌}
+use Rattle.std.specs.Prelude.{ℕ, ◌+◌, ◌-◌, ◌*◌, ◌/◌, ◌%◌, ◌<◌, ◌≤◌, ◌==◌, ◌&&◌, max, Bool, not, ◌||◌, List, [], ◌∷◌, ◌++◌, All, codes, slice_index_or, Some, if◌then◌else◌}
 use Rattle.std.specs.List.{flat_map}
 use Rattle.std.specs.Fmt.{decimal}
 use Rattle.sig_types.specs.declared.numbers.StagePlace.{StagePlace}
@@ -7,13 +7,17 @@ use Rattle.sig_types.specs.declared.numbers.StagePlace.TheVariants.{NoPlan, Stag
 use Rattle.sig_types.specs.declared.refused.Fault.{Fault}
 use Rattle.sig_types.specs.declared.refused.StageRefusal.{StageRefusal}
 use Rattle.sig_types.specs.declared.refused.TurnRefusal.{TurnRefusal}
-use Rattle.signal_log.specs.Log.{fault_text, stage_refusal_text, turn_text}
+use Rattle.signal_log.specs.Log.{fault_text, name_of, stage_refusal_text, turn_text}
 use Rattle.log_sums.specs.declared.detector.DetectorSums.{DetectorSums}
 use Rattle.log_sums.specs.declared.figures.Figures.{Figures}
 use Rattle.log_sums.specs.declared.group.GroupSums.{GroupSums}
+use Rattle.log_sums.specs.declared.long_figures.LongFigures.{LongFigures}
+use Rattle.log_sums.specs.declared.serves.ServeSums.{ServeSums}
 use Rattle.log_sums.specs.declared.spells.Spells.{Spells}
 use Rattle.log_sums.specs.declared.tally.Counts.{Counts}
 use Rattle.log_sums.specs.declared.tally.Tally.{Tally}
+use Rattle.record_sums.specs.declared.serves.Serve.{Serve}
+use Rattle.record_sums.specs.declared.serves.Served.{Served}
 use Rattle.record_sums.specs.declared.sums.LogSums.{LogSums}
 
 -- a number behind its word
@@ -146,6 +150,36 @@ detectors_text number [] xs = []
 detectors_text number (y ∷ named) [] = []
 detectors_text number (y ∷ named) (x ∷ xs) = detector_text number (is_named y) x ++ detectors_text (number + 1) named xs
 
+-- the numbers of the chosen detectors, each behind a colon, where the first one of these has this number
+unfoldable pub detectors_of : ℕ → List Bool → List ℕ
+detectors_of number [] = []
+detectors_of number (b ∷ bs) = (if b then codes ":" ++ decimal number else []) ++ detectors_of (number + 1) bs
+
+-- the group and the detectors that serve it
+unfoldable pub serve_name : List (List ℕ) → Serve → List ℕ
+serve_name names x = name_of names x.group ++ detectors_of 1 x.detectors
+
+-- the mean of the fronts of a green in tenths, rounded down; each counts one more than it has
+abbrev pub mean_served : LongFigures → ℕ
+mean_served x = (x.sum - x.count) * 10 / x.count
+
+-- the fewest fronts of a green, their mean and the most; nothing where no green is over
+unfoldable pub per_green_text : LongFigures → List ℕ
+per_green_text x =
+    if x.count == 0 then []
+    else pair_text (codes " fewest:") (x.least - 1) ++ codes " mean:" ++ tenths_text (mean_served x) ++ pair_text (codes " most:") (x.most - 1)
+
+-- what detectors saw that serve a group
+unfoldable pub seen_text : ServeSums → List ℕ
+seen_text x =
+    pair_text (codes " in_green:") x.in_green ++ pair_text (codes " not_in_green:") x.not_in_green ++ pair_text (codes " ended:") x.per_green.count
+    ++ per_green_text x.per_green ++ pair_text (codes " waits:") x.waits.count
+    ++ lengths_text (codes " shortest_wait:") (codes " mean_wait:") (codes " longest_wait:") x.waits
+
+-- the line of detectors that serve a group
+unfoldable pub serve_text : List (List ℕ) → Served → List ℕ
+serve_text names x = codes "SERVES " ++ serve_name names x.serve ++ seen_text x.sums ++ codes "\n"
+
 -- how many seconds count
 abbrev pub counted_in : LogSums → ℕ
 counted_in x = x.seconds - (x.from - 1)
@@ -162,18 +196,23 @@ refused_text names x =
     flat_map command_text x.commands.items ++ flat_map (refusal_text (codes "REFUSED ") names) x.turns.items
     ++ flat_map (refusal_text (codes "RULE ") names) x.rules.items
 
--- the lines of sums, with those of the detectors that are named in these
+-- the lines of sums, with those of the detectors that are named in these, and of those that serve a group
 unfoldable pub lines_text : List (List ℕ) → List DetectorSums → LogSums → List ℕ
 lines_text names named x =
     shown_text names x ++ flat_map place_text x.places.items ++ refused_text names x ++ flat_map fault_line x.faults.items
-    ++ detectors_text 1 named x.detectors
+    ++ detectors_text 1 named x.detectors ++ flat_map (serve_text names) x.serves.items
 
 -- the text of sums
 abbrev pub sums_text : List (List ℕ) → LogSums → List ℕ
 sums_text names x = lines_text names x.detectors x
+
+-- sums of fronts and of seconds that fit
+abbrev pub IsServeSmall : ServeSums → Type 0
+IsServeSmall x = (x.per_green.sum < 1152921504606846976) × (x.waits.sum < 1152921504606846976)
 
 -- sums of so many groups that a text can be made of them
 pub record AreTextual (groups : ℕ) (x : LogSums) : Type 0 where
   pub few : groups ≤ 64
   pub seconds : x.seconds < 2147483648
   pub small : (g : ℕ) (d : GroupSums) → g < groups → IsSmall (slice_index_or x.groups g d)
+  pub serves : All (λ s. IsServeSmall s.sums) x.serves.items

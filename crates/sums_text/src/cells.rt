@@ -7,8 +7,9 @@ ghost use Rattle.sums_text.specs.Table.{item_text, last_in, lead_text, lengths_r
 
 use crate::names::{put_command, put_fault, put_turn};
 use crate::numbers::{mean_of, put_pair, put_tenths};
+use crate::serves::put_serve_name;
 use log_sums::Figures;
-use record_sums::LogSums;
+use record_sums::{LogSums, Serve};
 use sig_io::{Draft, Sink};
 use sig_types::{Fault, ShortName, StagePlace, StageRefusal, TurnRefusal};
 
@@ -31,6 +32,8 @@ pub(crate) enum Item<'a> {
     Fault(Fault),
     /// The detector of this number.
     Detector(u32),
+    /// Detectors that serve a group, of groups with these names.
+    Serve(&'a [ShortName], Serve),
 }
 
 /// What stands in a row before its key.
@@ -104,6 +107,10 @@ fn put_item<O: Sink>(draft: &mut Draft, sink: &mut O, item: Item<'_>)
             put_fault(draft, sink, fault);
         }
         Item::Detector(number) => put_pair(draft, sink, b"DETECTOR,", number),
+        Item::Serve(names, serve) => {
+            draft.put(sink, b"SERVES,");
+            put_serve_name(draft, sink, names, &serve);
+        }
     }
 }
 

@@ -12,8 +12,13 @@ use sig_types::{
 };
 use signal_log::rule_name;
 
-// Puts the name of a group, if there is one.
-fn put_name<O: Sink>(draft: &mut Draft, sink: &mut O, names: &[ShortName], group: GroupNo)
+/// Puts the name of a group, if there is one.
+pub(crate) fn put_name<O: Sink>(
+    draft: &mut Draft,
+    sink: &mut O,
+    names: &[ShortName],
+    group: GroupNo,
+)
     ensures { Puts O.taken O.faults draft.old draft.new sink.old sink.new (name_of names.now group) }
 {
     let place = usize::from(group.0);

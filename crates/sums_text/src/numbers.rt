@@ -16,6 +16,15 @@ pub(crate) fn put_pair<O: Sink>(draft: &mut Draft, sink: &mut O, word: &[u8], n:
     draft.put_number(sink, n);
 }
 
+/// Puts a word and a long number.
+pub(crate) fn put_long<O: Sink>(draft: &mut Draft, sink: &mut O, word: &[u8], n: u64)
+    requires { length word.now ≤ 20 }
+    ensures { Puts O.taken O.faults draft.old draft.new sink.old sink.new (pair_text word.now n) }
+{
+    draft.put(sink, word);
+    draft.put_long_number(sink, n);
+}
+
 /// Puts a word and a number where it isn't 0.
 #[tactic(auto, unfolding(crate::specs::Words::some_text))]
 pub(crate) fn put_some<O: Sink>(draft: &mut Draft, sink: &mut O, word: &[u8], n: u32)

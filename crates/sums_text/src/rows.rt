@@ -9,20 +9,12 @@ ghost use Rattle.sums_text.specs.Words.{headway_text, lines_text, pair_text, pla
 
 use crate::group::put_groups;
 use crate::names::{put_command, put_fault, put_place_name, put_turn};
-use crate::numbers::put_pair;
+use crate::numbers::{put_long, put_pair};
+use crate::serves::put_serves;
 use log_sums::{Counts, DetectorSums, Figures, Tally};
 use record_sums::LogSums;
 use sig_io::{Draft, Sink};
 use sig_types::{Fault, ShortName, StagePlace, StageRefusal, TurnRefusal};
-
-// Puts a word and a long number.
-fn put_long<O: Sink>(draft: &mut Draft, sink: &mut O, word: &[u8], n: u64)
-    requires { length word.now ≤ 20 }
-    ensures { Puts O.taken O.faults draft.old draft.new sink.old sink.new (pair_text word.now n) }
-{
-    draft.put(sink, word);
-    draft.put_long_number(sink, n);
-}
 
 /// The first second of the longest run.
 pub(crate) fn run_from(second: u32, seconds: u32) -> u32
@@ -280,7 +272,7 @@ fn put_refused<O: Sink>(draft: &mut Draft, sink: &mut O, names: &[ShortName], su
     put_turns(draft, sink, b"RULE ", names, &sums.rules);
 }
 
-/// Puts the lines of sums, with those of the detectors that are named in these.
+/// Puts the lines of sums, with those of the detectors that are named in these, and of those that serve a group.
 #[tactic(auto, unfolding(crate::specs::Words::lines_text))]
 pub(crate) fn put_lines<O: Sink>(
     draft: &mut Draft,
@@ -297,6 +289,7 @@ pub(crate) fn put_lines<O: Sink>(
     put_refused(draft, sink, names, sums);
     put_faults(draft, sink, &sums.faults);
     put_detectors(draft, sink, named, &sums.detectors);
+    put_serves(draft, sink, names, &sums.serves);
 }
 
 /// Puts the text of sums, of groups with these names: a line for each group, stage, interstage, refusal, fault and detector.

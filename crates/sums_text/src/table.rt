@@ -10,6 +10,7 @@ ghost use Rattle.sums_text.specs.Table.{place_cells, place_rows, refused_rows, r
 use crate::cells::{Item, Lead, lead_of, put_row};
 use crate::group_rows::put_groups_rows;
 use crate::rows::{counted_in, is_named, less_one, run_from};
+use crate::serve_rows::put_serves_rows;
 use log_sums::{Counts, DetectorSums, Figures, Tally};
 use record_sums::LogSums;
 use sig_io::{Draft, Sink};
@@ -339,7 +340,8 @@ fn put_refused_rows<O: Sink>(draft: &mut Draft, sink: &mut O, names: &[ShortName
     put_rules_rows(draft, sink, names, sums);
 }
 
-/// Puts the rows of sums, of groups with these names, with those of the detectors that are named in these.
+/// Puts the rows of sums, of groups with these names, with those of the detectors that are named in these, and of those that serve
+/// a group.
 #[tactic(auto, unfolding(crate::specs::Table::sums_rows))]
 pub(crate) fn put_sums_rows<O: Sink>(
     draft: &mut Draft,
@@ -356,6 +358,7 @@ pub(crate) fn put_sums_rows<O: Sink>(
     put_refused_rows(draft, sink, names, sums);
     put_faults_rows(draft, sink, sums);
     put_detectors_rows(draft, sink, sums, named, &sums.detectors);
+    put_serves_rows(draft, sink, names, sums);
 }
 
 /// Puts the table of sums, of groups with these names: the names of its columns, and a row for each number.

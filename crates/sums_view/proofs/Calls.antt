@@ -1,11 +1,15 @@
 -- What is written of what is asked for.
-use Rattle.std.proofs.Common.{◌≡◌, ℕ, List, Option, Result, Ok, Err, sym, subst}
+use Rattle.std.proofs.Common.{◌≡◌, ◌⊎◌, inl, inr, ℕ, List, Option, Some, None, Result, Ok, Err, sym, subst}
+use Rattle.log_records.specs.Fields.{names_in}
+use Rattle.log_records.specs.Log.{line_at}
+use Rattle.log_records.specs.Watchers.{told_lines}
 use Rattle.sig_io.specs.Outside.{Contents}
 use Rattle.log_view.specs.declared.stop.Stop.{Stop}
 use Rattle.log_view.specs.declared.stop.Stop.TheVariants.{Memory, Words, TooManySeconds, ReadFault, WriteFault, Line, LogEnds}
 use Rattle.log_view.specs.Call.{IsWritten}
 use Rattle.sums_view.specs.Form.{Asked}
 use Rattle.sums_view.specs.Call.{IsAnswered, IsStopped, IsTextOf}
+use Rattle.sums_view.specs.Serves.{serves_for}
 use Rattle.sums_view.specs.Summed.{IsUnsummed}
 
 -- a text that is asked for, and is written
@@ -24,6 +28,14 @@ unsummed asked file ReadFault old new is same = same
 unsummed asked file WriteFault old new is same = absurd is
 unsummed asked file (Line line why) old new is same = (same, is)
 unsummed asked file (LogEnds last) old new is same = absurd is
+
+-- a log without a group that detectors are said to serve, or want of memory
+pub unserved : (asked : Asked) (file : Contents) (names : List (List ℕ)) (stop : Stop) (old new : Option (List ℕ)) →
+    names_in (line_at (told_lines (file asked.log)) 0) ≡ Some names → (stop ≡ Memory) ⊎ (stop ≡ Words) →
+    (stop ≡ Words → serves_for names asked.serves ≡ None) → new ≡ old → IsStopped asked file stop old new
+unserved asked file names stop old new head (inl memory) lacking same = subst (λ s. IsStopped asked file s old new) (sym memory) same
+unserved asked file names stop old new head (inr words) lacking same =
+    subst (λ s. IsStopped asked file s old new) (sym words) (same, (names, (head, lacking words)))
 
 -- words that are no form are no read that failed
 pub no_read : (given : Result (Unit {0}) Stop) → given ≡ Err Words → given ≡ Err ReadFault → ⊥

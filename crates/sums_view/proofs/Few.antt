@@ -1,8 +1,16 @@
 -- Words that are too few.
 use Rattle.std.proofs.Common.{◌≡◌, ◌<◌, ◌∷◌, [], ℕ, List, None, length, map, refl, arith}
-use Rattle.sums_view.specs.Form.{all_seconds, form_of, with_each, with_seconds}
+use Rattle.sums_view.specs.declared.form.Seconds.{Seconds}
+use Rattle.sums_view.specs.Form.{all_seconds, form_of, with_csv, with_each, with_seconds}
 
--- one word alone names no seconds
+-- one word alone names no parts
+pub few_parts : {A : Type 0} (f : A → List ℕ) (log : List ℕ) (s : Seconds) (words : List A) → length words < 2 →
+    with_each log s (map f words) ≡ with_csv log s None (map f words)
+few_parts f log s [] few = refl
+few_parts f log s (w ∷ []) few = refl
+few_parts f log s (v ∷ w ∷ ws) few = absurd (omega (arith, few))
+
+-- nor any seconds
 pub few_seconds : {A : Type 0} (f : A → List ℕ) (log : List ℕ) (words : List A) → length words < 2 →
     with_seconds log (map f words) ≡ with_each log all_seconds (map f words)
 few_seconds f log [] few = refl

@@ -1,7 +1,7 @@
 -- The records of a log, while it is read.
-use Rattle.std.proofs.Common.{◌≡◌, ◌∙◌, ℕ, ◌+◌, ◌<◌, ◌≤◌, true, false, List, [], ◌∷◌, ◌++◌, length, take, Option, Ok, Err, refl, sym, ap, arith, length-append}
+use Rattle.std.proofs.Common.{◌≡◌, ◌∙◌, ℕ, ◌+◌, ◌<◌, ◌≤◌, true, false, List, [], ◌∷◌, ◌++◌, get_or, length, take, Option, Some, Ok, Err, refl, sym, ap, arith, length-append}
 use Rattle.std.proofs.lemmas.List.{length-take}
-use Rattle.std.specs.Prelude.{slice_index_or}
+use Rattle.std.specs.Prelude.{All, slice_index_or}
 use Rattle.std.specs.Option.{ForSome}
 use Rattle.sig_io.specs.Outside.{Contents}
 use Rattle.sig_types.specs.declared.aspect.Aspect.TheVariants.{Red}
@@ -10,15 +10,19 @@ use Rattle.log_records.specs.declared.records.LogRecords.{LogRecords}
 use Rattle.log_records.specs.declared.refusal.LogStop.{LogStop}
 use Rattle.log_records.specs.declared.refusal.LogStop.TheVariants as log
 use Rattle.log_records.specs.Answers.{AnswersNext, Reads, Stops, name_of, names_of, record_given, records_given}
+use Rattle.log_records.specs.Fields.{names_in}
+use Rattle.log_records.specs.Log.{line_at}
 use Rattle.log_records.specs.Records.{IsEntry}
+use Rattle.log_records.specs.Watchers.{told_lines}
 use Rattle.log_view.specs.Notes.{stop_of}
 use Rattle.log_view.proofs.Ranges.{picture_size}
 use Rattle.log_sums.specs.declared.group.GroupSums.{GroupSums}
 use Rattle.record_sums.specs.declared.sums.LogSums.{LogSums}
 use Rattle.record_sums.specs.Adding.{AddsUpTo}
 use Rattle.record_sums.specs.Summed.{AreSumsOf}
+use Rattle.record_sums.specs.Serves.{fronts_of}
 use Rattle.record_sums.specs.Told.{shown_by, told}
-use Rattle.sums_text.specs.Words.{AreTextual, IsSmall}
+use Rattle.sums_text.specs.Words.{AreTextual, IsServeSmall, IsSmall}
 use Rattle.sums_view.specs.Summed.{AreSumsIn, IsUnsummed}
 
 -- these records were read of a log that was first read so, and what is kept is what they add up to
@@ -79,6 +83,11 @@ unread names bytes records log.Memory is = tt
 unread names bytes records log.Fault is = tt
 unread names bytes records (log.At line why) is = (names, (records, is))
 
+-- the first line of a log that was opened names its groups
+pub head_named : (r : LogRecords) (bytes : List ℕ) → Reads r bytes [] → names_in (line_at (told_lines bytes) 0) ≡ Some (names_of r)
+unfolding Reads names_of
+head_named r bytes is = is.accepted.names_are r.some
+
 -- a line that is refused, or a read that failed
 pub unread_next : (files : Option Contents) (first old new : LogRecords) (from to : ℕ) (sums : LogSums) (stop : LogStop) → name_of old ≡ name_of first →
     ForSome files (λ file. AnswersNext (file (name_of old)) old new (Err stop)) → SoFar files first old from to sums →
@@ -96,6 +105,16 @@ small_of groups from to records x most is g d inside =
     let s = is.sums.groups_are g d inside (told (shown_by g) Red rs) (λ t le. refl) in
     (omega (arith, few, s.greens_are.over_are.small), omega (arith, few, s.reds_are.over_are.small), omega (arith, few, s.cycles_are.gaps_are.small))
 
+-- what detectors saw that serve a group is small
+serves_small : (groups from to : ℕ) (records : List Record) (x : LogSums) → length records ≤ 604801 → AddsUpTo groups from to records x →
+    All (λ s. IsServeSmall s.sums) x.serves.items
+serves_small groups from to records x most is i d inside =
+    let rs = take to records in
+    let few : length rs ≤ 604801 = omega (arith, length-take to records, most) in
+    let s = is.sums.serves_are (omega (arith, few)) i d inside (told (shown_by (get_or x.serves.items i d).serve.group.0) Red rs)
+    (told (fronts_of (get_or x.serves.items i d).serve.detectors) 0 rs) (λ t le. refl) (λ t le. refl) in
+    (omega (arith, few, s.per_green_fit), omega (arith, few, s.waits_are.small))
+
 -- a text can be made of what a log adds up to
 pub textual : (groups from to : ℕ) (records : List Record) (x : LogSums) → groups ≤ 64 → length records ≤ 604801 → AddsUpTo groups from to records x →
     AreTextual groups x
@@ -103,4 +122,5 @@ textual groups from to records x few most is = record {
   few = few;
   seconds = omega (arith, is.sums.seconds_are, length-take to records, most);
   small = small_of groups from to records x most is;
+  serves = serves_small groups from to records x most is;
 }

@@ -9,11 +9,17 @@ use Rattle.log_view.specs.declared.stop.Status.{Status}
 use Rattle.log_view.specs.declared.stop.Stop.{Stop}
 use Rattle.log_view.specs.declared.stop.Stop.TheVariants.{Memory, Words, TooManySeconds, ReadFault, WriteFault, Line, LogEnds}
 use Rattle.log_view.specs.Call.{IsNoted, status_by}
+use Rattle.log_records.specs.Fields.{names_in}
+use Rattle.log_records.specs.Log.{line_at}
+use Rattle.log_records.specs.Watchers.{told_lines}
+use Rattle.record_sums.specs.declared.serves.Serve.{Serve}
 use Rattle.record_sums.specs.declared.sums.LogSums.{LogSums}
+use Rattle.record_sums.specs.Serves.{serves_of}
 use Rattle.sums_text.specs.Parts.{parts_table, parts_text}
 use Rattle.sums_text.specs.Table.{table_text}
 use Rattle.sums_text.specs.Words.{sums_text}
 use Rattle.sums_view.specs.Form.{Asked, form_of}
+use Rattle.sums_view.specs.Serves.{serves_for}
 use Rattle.sums_view.specs.Summed.{AreSumsIn, ArePartsIn, IsUnsummed}
 
 -- what is written of sums: a table, or lines
@@ -28,24 +34,33 @@ written_parts csv names parts = if csv then parts_table names parts else parts_t
 pub record IsWhole (asked : Asked) (file : Contents) (text : List ℕ) : Type 0 where
   pub names : List (List ℕ)
   pub sums : LogSums
+  pub serves : List Serve
+  pub named : serves_for names asked.serves ≡ Some serves
   pub sums_are : AreSumsIn names (file asked.log) asked.from asked.to sums
+  pub serves_are : serves_of sums.serves.items ≡ serves
   pub text_is : text ≡ written_text asked.csv names sums
 
 -- the text of what the parts of these seconds add up to that have so many
 pub record IsOfParts (asked : Asked) (each : ℕ) (file : Contents) (text : List ℕ) : Type 0 where
   pub names : List (List ℕ)
   pub parts : List LogSums
-  pub parts_are : ArePartsIn names (file asked.log) asked.from each asked.to parts
+  pub serves : List Serve
+  pub named : serves_for names asked.serves ≡ Some serves
+  pub parts_are : ArePartsIn names (file asked.log) asked.from each asked.to serves parts
   pub text_is : text ≡ written_parts asked.csv names parts
 
 -- the text that is asked for, of files with these contents
 abbrev pub IsTextOf : Asked → Contents → List ℕ → Type 0
 IsTextOf asked file text = MatchOption asked.each (IsWhole asked file text) (λ each. IsOfParts asked each file text)
 
+-- the header of the log names no such group as detectors are said to serve
+abbrev pub LacksGroup : List ℕ → List (List ℕ) → Type 0
+LacksGroup bytes serves = (names : List (List ℕ)) × ((names_in (line_at (told_lines bytes) 0) ≡ Some names) × (serves_for names serves ≡ None))
+
 -- where a call stops: nothing is written, but where the sink fails while the text is written
 abbrev pub IsStopped : Asked → Contents → Stop → Option (List ℕ) → Option (List ℕ) → Type 0
 IsStopped asked file Memory old new = new ≡ old
-IsStopped asked file Words old new = ⊥
+IsStopped asked file Words old new = (new ≡ old) × LacksGroup (file asked.log) asked.serves
 IsStopped asked file TooManySeconds old new = ⊥
 IsStopped asked file ReadFault old new = new ≡ old
 IsStopped asked file WriteFault old new = (text : List ℕ) × IsTextOf asked file text × ((n : ℕ) × IsCut old new n text)

@@ -1,3 +1,4 @@
+pub mod Serves
 pub mod Form
 pub mod Summed
 pub mod Call

@@ -6,6 +6,7 @@ use Rattle.log_records.specs.Log.{IsLog}
 use Rattle.log_view.specs.declared.stop.Stop.{Stop}
 use Rattle.log_view.specs.declared.stop.Stop.TheVariants.{Memory, Words, TooManySeconds, ReadFault, WriteFault, Line, LogEnds}
 use Rattle.log_view.specs.Answers.{IsRefusedAt}
+use Rattle.record_sums.specs.declared.serves.Serve.{Serve}
 use Rattle.record_sums.specs.declared.sums.LogSums.{LogSums}
 use Rattle.record_sums.specs.Summed.{AreSumsOf}
 use Rattle.part_sums.specs.Parts.{AreParts}
@@ -32,13 +33,13 @@ IsSumming names bytes from to (Ok sums) = AreSumsIn names bytes from to sums
 IsSumming names bytes from to (Err stop) = IsUnsummed bytes stop
 
 -- What the parts of a log with these bytes add up to that have `each` seconds, from second `from` to second `to`, of groups with these
--- names; all its lines are accepted.
-pub record ArePartsIn (names : List (List ℕ)) (bytes : List ℕ) (from each to : ℕ) (parts : List LogSums) : Type 0 where
+-- names and detectors that serve them; all its lines are accepted.
+pub record ArePartsIn (names : List (List ℕ)) (bytes : List ℕ) (from each to : ℕ) (serves : List Serve) (parts : List LogSums) : Type 0 where
   pub records : List Record
   pub log : IsLog names bytes records None
-  pub parts_are : AreParts (length names) from each to records parts
+  pub parts_are : AreParts (length names) from each to serves records parts
 
 -- what the adding up of parts answers
-abbrev pub IsParting : (names : List (List ℕ)) (bytes : List ℕ) (from each to : ℕ) → Result (Vec LogSums Global) Stop → Type 0
-IsParting names bytes from each to (Ok parts) = ArePartsIn names bytes from each to parts.items
-IsParting names bytes from each to (Err stop) = IsUnsummed bytes stop
+abbrev pub IsParting : (names : List (List ℕ)) (bytes : List ℕ) (from each to : ℕ) (serves : List Serve) → Result (Vec LogSums Global) Stop → Type 0
+IsParting names bytes from each to serves (Ok parts) = ArePartsIn names bytes from each to serves parts.items
+IsParting names bytes from each to serves (Err stop) = IsUnsummed bytes stop

@@ -12,6 +12,7 @@ ghost use Rattle.sums_view.specs.Call.{IsAnswered, IsReported, written_parts, wr
 
 use crate::form::{SumsForm, form_of};
 use crate::parting::add_up_parts;
+use crate::serve::serves_for;
 use crate::summing::add_up;
 use log_records::LogRecords;
 use log_view::{Status, Stop, status_of, stop_of, write_stop};
@@ -124,7 +125,11 @@ fn do_whole<F: Files, O: Sink>(
         Ok(records) => records,
         Err(stop) => return Err(stop_of(stop)),
     };
-    match add_up(alloc, &mut records, form.from, form.to, files) {
+    let serves = match serves_for(alloc, records.names(), form.serves) {
+        Ok(serves) => serves,
+        Err(stop) => return Err(stop),
+    };
+    match add_up(alloc, &mut records, form.from, form.to, &serves, files) {
         Ok(sums) => write_sums(form.csv, records.names(), &sums, out),
         Err(stop) => Err(stop),
     }
@@ -151,7 +156,19 @@ fn do_parts<F: Files, O: Sink>(
         Ok(records) => records,
         Err(stop) => return Err(stop_of(stop)),
     };
-    match add_up_parts(alloc, &mut records, form.from, each, form.to, files) {
+    let serves = match serves_for(alloc, records.names(), form.serves) {
+        Ok(serves) => serves,
+        Err(stop) => return Err(stop),
+    };
+    match add_up_parts(
+        alloc,
+        &mut records,
+        form.from,
+        each,
+        form.to,
+        &serves,
+        files,
+    ) {
         Ok(parts) => write_parts(form.csv, records.names(), &parts, out),
         Err(stop) => Err(stop),
     }
@@ -178,12 +195,13 @@ fn do_form<F: Files, O: Sink>(
     }
 }
 
-/// Does what the words `sums LOG [FROM TO] [--each SECONDS] [--csv]` say, and tells in a note why it stopped where it did.
+/// Does what the words `sums LOG [FROM TO] [--each SECONDS] [--serves DETECTORS:GROUP] [--csv]` say, and tells in a note why it
+/// stopped where it did.
 ///
 /// It writes what groups, stages, refusals, faults and detectors of a log add up to, in all its seconds or in those from FROM to
-/// TO, or in each part of these that has so many seconds, line by line, or as a table with a row for each number. The log is read
-/// to its end before the first byte is written; nothing is written where it is refused. No file is touched where the words are no
-/// form.
+/// TO, or in each part of these that has so many seconds, and what detectors saw that serve a group, line by line, or as a table
+/// with a row for each number. The log is read to its end before the first byte is written; nothing is written where it is refused.
+/// No file is touched where the words are no form.
 pub fn report_sums<F: Files, O: Sink, N: Sink>(
     alloc: Global,
     words: &[String],

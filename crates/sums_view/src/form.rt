@@ -1,7 +1,8 @@
 // The words of a call.
-ghost use Rattle.std.specs.Prelude.{◌≡◌, ◌≤◌, IfSome, Some, map, string_bytes};
-ghost use Rattle.sums_view.specs.Form.{HasSeconds, asked_by, form_of, seconds_of, with_csv, with_each, with_seconds};
+ghost use Rattle.std.specs.Prelude.{◌≡◌, ◌≤◌, ◌<◌, IfSome, Some, length, map, string_bytes};
+ghost use Rattle.sums_view.specs.Form.{HasSeconds, asked_by, csv_of, form_of, is_option, is_serve, seconds_of, with_csv, with_each, with_seconds};
 
+use crate::serve::serve_in;
 use sig_types::text::number;
 
 // The last second that a log can have.
@@ -21,6 +22,8 @@ pub struct SumsForm<'a> {
     pub to: u32,
     /// How many seconds a part has, 60 to 604,801, where there are parts.
     pub each: Option<u32>,
+    /// Words of which every second one names detectors and the group that they serve.
+    pub serves: &'a [String],
     /// Whether a table is written, and not lines.
     pub csv: bool,
 }
@@ -41,38 +44,72 @@ fn seconds_of(from: &str, to: &str) -> Option<Seconds>
     Some(Seconds { from, to })
 }
 
-// What is asked for of these seconds, in parts or as a whole, where nothing follows, or `--csv`.
+// Whether these two words ask for detectors that serve a group: `--serves DETECTORS:GROUP`.
+#[tactic(auto, unfolding(crate::specs::Form::is_serve))]
+fn is_serve(option: &str, word: &str) -> bool
+    ensures { result ≡ is_serve option.now word.now }
+{
+    option == "--serves" && serve_in(word.as_bytes()).is_some()
+}
+
+// Whether `--csv` is all that is left, or nothing.
+fn last_of(words: &[String]) -> Option<bool>
+    requires { length words.now < 2 }
+    ensures { result ≡ csv_of (map string_bytes words.now) }
+{
+    match words {
+        [word] => {
+            if word.as_str() == "--csv" {
+                Some(true)
+            } else {
+                None
+            }
+        }
+        [] => Some(false),
+        [_, _, ..] => None,
+    }
+}
+
+// Whether `--csv` stands behind what is asked for by `--serves`, where nothing else does.
+fn csv_of(words: &[String]) -> Option<bool>
+    ensures { result ≡ csv_of (map string_bytes words.now) }
+{
+    let mut rest = words;
+    while let [option, word, more @ ..] = rest {
+        if !is_serve(option.as_str(), word.as_str()) {
+            return None;
+        }
+        rest = more;
+    }
+    last_of(rest)
+}
+
+// What is asked for of these seconds, in parts or as a whole, where nothing but `--serves` and `--csv` follows.
 fn with_csv<'a>(
     log: &'a str,
     seconds: Seconds,
     each: Option<u32>,
-    words: &[String],
+    words: &'a [String],
 ) -> Option<SumsForm<'a>>
     requires { HasSeconds each }
     ensures form { asked_by result ≡ with_csv log.now seconds each (map string_bytes words.now) }
     ensures range { IfSome result (λ f. HasSeconds f.each) }
 {
-    let csv = match words {
-        [] => false,
-        [word] => {
-            if word.as_str() != "--csv" {
-                return None;
-            }
-            true
-        }
-        [_, _, ..] => return None,
-    };
-    Some(SumsForm {
-        log,
-        from: seconds.from,
-        to: seconds.to,
-        each,
-        csv,
-    })
+    match csv_of(words) {
+        Some(csv) => Some(SumsForm {
+            log,
+            from: seconds.from,
+            to: seconds.to,
+            each,
+            serves: words,
+            csv,
+        }),
+        None => None,
+    }
 }
 
 // What is asked for of these seconds: in parts, or as a whole.
-fn with_each<'a>(log: &'a str, seconds: Seconds, words: &[String]) -> Option<SumsForm<'a>>
+fn with_each<'a>(log: &'a str, seconds: Seconds, words: &'a [String]) -> Option<SumsForm<'a>>
     ensures form { asked_by result ≡ with_each log.now seconds (map string_bytes words.now) }
     ensures range { IfSome result (λ f. HasSeconds f.each) }
 {
@@ -88,8 +125,15 @@ fn with_each<'a>(log: &'a str, seconds: Seconds, words: &[String]) -> Option<Sum
     }
 }
 
+// Whether a word is an option, and no second.
+fn is_option(word: &str) -> bool
+    ensures { result ≡ is_option word.now }
+{
+    word == "--each" || word == "--serves"
+}
+
 // What is asked for of a log: of all seconds, or of those from FROM to TO.
-fn with_seconds<'a>(log: &'a str, words: &[String]) -> Option<SumsForm<'a>>
+fn with_seconds<'a>(log: &'a str, words: &'a [String]) -> Option<SumsForm<'a>>
     ensures form { asked_by result ≡ with_seconds log.now (map string_bytes words.now) }
     ensures range { IfSome result (λ f. HasSeconds f.each) }
 {
@@ -97,7 +141,7 @@ fn with_seconds<'a>(log: &'a str, words: &[String]) -> Option<SumsForm<'a>>
     let [from, to, rest @ ..] = words else {
         return with_each(log, all, words);
     };
-    if from.as_str() == "--each" {
+    if is_option(from.as_str()) {
         return with_each(log, all, words);
     }
     match seconds_of(from.as_str(), to.as_str()) {
@@ -106,7 +150,8 @@ fn with_seconds<'a>(log: &'a str, words: &[String]) -> Option<SumsForm<'a>>
     }
 }
 
-/// What the words after the program's name ask for: `sums LOG`, and then `FROM TO`, `--each SECONDS` and `--csv`.
+/// What the words after the program's name ask for: `sums LOG`, and then `FROM TO`, `--each SECONDS`, any number
+/// of `--serves DETECTORS:GROUP`, and `--csv`.
 pub fn form_of(words: &[String]) -> Option<SumsForm<'_>>
     ensures form { asked_by result ≡ form_of (map string_bytes words.now) }
     ensures range { IfSome result (λ f. HasSeconds f.each) }

@@ -5,6 +5,7 @@ ghost use Rattle.sig_io.specs.Outside.{Rose};
 ghost use Rattle.log_records.specs.Answers.{Reads, is_live, name_of, names_of, records_given};
 ghost use Rattle.log_view.specs.Answers.{IsOfReading};
 ghost use Rattle.sig_types.specs.declared.record.Record.{Record};
+ghost use Rattle.record_sums.specs.declared.serves.Serve.{Serve};
 ghost use Rattle.part_sums.specs.Adding.{PartsUpTo};
 ghost use Rattle.part_sums.specs.Parts.{AreParts};
 ghost use Rattle.sums_text.specs.Parts.{AreAllTextual};
@@ -13,14 +14,14 @@ ghost use Rattle.sums_view.specs.Summed.{IsParting};
 use log_records::LogRecords;
 use log_view::{Stop, stop_of};
 use part_sums::{PartSums, take_part};
-use record_sums::LogSums;
+use record_sums::{LogSums, Serve};
 use sig_io::Files;
 use std::alloc::Global;
 
 // All parts, where the log ends.
 fn whole(parts: PartSums) -> Result<Vec<LogSums>, Stop>
-    ensures parts { IfOk result (λ v. (groups from each to : ℕ) (records : List Record) → 1 ≤ each → PartsUpTo groups from each to records parts →
-        AreParts groups from each to records v.items) }
+    ensures parts { IfOk result (λ v. (groups from each to : ℕ) (serves : List Serve) (records : List Record) → 1 ≤ each →
+        PartsUpTo groups from each to serves records parts → AreParts groups from each to serves records v.items) }
     ensures memory { IfErr result (λ stop. stop ≡ Stop.Memory) }
 {
     match parts.finish() {
@@ -29,14 +30,15 @@ fn whole(parts: PartSums) -> Result<Vec<LogSums>, Stop>
     }
 }
 
-/// What the parts of so many seconds add up to, from second `from` to second `to` of a log, of which no record was given yet. It
-/// is read to its end.
+/// What the parts of so many seconds add up to, from second `from` to second `to` of a log, of which no record was given yet, and
+/// what these detectors saw in each that serve a group. The log is read to its end.
 pub fn add_up_parts<F: Files>(
     alloc: Global,
     records: &mut LogRecords,
     from: u32,
     each: u32,
     to: u32,
+    serves: &[Serve],
     files: &mut F,
 ) -> Result<Vec<LogSums>, Stop>
     requires live { is_live records.old ≡ true }
@@ -44,7 +46,7 @@ pub fn add_up_parts<F: Files>(
     requires few { length (names_of records.old) ≤ 64 }
     requires some { 1 ≤ each }
     ensures parting { ForSome (F.told files.old) (λ file. Reads records.old (file (name_of records.old)) [] →
-        IsParting (names_of records.old) (file (name_of records.old)) from each to result) }
+        IsParting (names_of records.old) (file (name_of records.old)) from each to serves.now result) }
     ensures textual { IfOk result (λ parts. AreAllTextual (length (names_of records.old)) parts.items) }
     ensures of_reading { IfErr result (λ stop. IsOfReading stop) }
     ensures names { names_of records.new ≡ names_of records.old }
@@ -52,7 +54,10 @@ pub fn add_up_parts<F: Files>(
     ensures later { F.faults files.old ≤ F.faults files.new }
     ensures cause { result ≡ Err Stop.ReadFault → Rose (F.faults files.old) (F.faults files.new) }
 {
-    let mut parts = PartSums::none(alloc, from, each, to);
+    let mut parts = match PartSums::none(alloc, from, each, to, serves) {
+        Ok(parts) => parts,
+        Err(_memory) => return Err(Stop::Memory),
+    };
     'records: loop {
         match records.next_record(files) {
             Ok(true) => {}

@@ -4,22 +4,25 @@ ghost use Rattle.std.specs.Option.{ForSome};
 ghost use Rattle.sig_io.specs.Outside.{Rose};
 ghost use Rattle.log_records.specs.Answers.{Reads, is_live, name_of, names_of, records_given};
 ghost use Rattle.log_view.specs.Answers.{IsOfReading};
+ghost use Rattle.record_sums.specs.Serves.{serves_of};
 ghost use Rattle.sums_text.specs.Words.{AreTextual};
 ghost use Rattle.sums_view.specs.Summed.{IsSumming};
 
 use log_records::LogRecords;
 use log_view::{Stop, stop_of};
 use record_sums::laws::sums_are_of_records;
-use record_sums::{LogSums, take_record};
+use record_sums::{LogSums, Serve, take_record};
 use sig_io::Files;
 use std::alloc::Global;
 
-/// What the seconds from `from` to `to` of a log add up to, of which no record was given yet. It is read to its end.
+/// What the seconds from `from` to `to` of a log add up to, of which no record was given yet, and what these detectors saw that
+/// serve a group. It is read to its end.
 pub fn add_up<F: Files>(
     alloc: Global,
     records: &mut LogRecords,
     from: u32,
     to: u32,
+    serves: &[Serve],
     files: &mut F,
 ) -> Result<LogSums, Stop>
     requires live { is_live records.old ≡ true }
@@ -27,6 +30,7 @@ pub fn add_up<F: Files>(
     requires few { length (names_of records.old) ≤ 64 }
     ensures summing { ForSome (F.told files.old) (λ file. Reads records.old (file (name_of records.old)) [] →
         IsSumming (names_of records.old) (file (name_of records.old)) from to result) }
+    ensures serves { IfOk result (λ sums. serves_of sums.serves.items ≡ serves.now) }
     ensures textual { IfOk result (λ sums. AreTextual (length (names_of records.old)) sums) }
     ensures of_reading { IfErr result (λ stop. IsOfReading stop) }
     ensures names { names_of records.new ≡ names_of records.old }
@@ -35,7 +39,10 @@ pub fn add_up<F: Files>(
     ensures cause { result ≡ Err Stop.ReadFault → Rose (F.faults files.old) (F.faults files.new) }
 {
     sums_are_of_records();
-    let mut sums = LogSums::none(alloc, from, to);
+    let mut sums = match LogSums::serving(alloc, from, to, serves) {
+        Ok(sums) => sums,
+        Err(_memory) => return Err(Stop::Memory),
+    };
     'records: loop {
         match records.next_record(files) {
             Ok(true) => {}

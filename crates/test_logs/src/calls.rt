@@ -214,11 +214,11 @@ const DIAGRAM_WORDS: &str =
 const TEXT_WORDS: &str = "log_report: Words: log_report text LOG FROM TO, or --help\n";
 
 const SUMS_WORDS: &str =
-    "log_report: Words: log_report sums LOG [FROM TO] [--each SECONDS] [--csv], or --help\n";
+    "log_report: Words: log_report sums LOG [FROM TO] [--each SECONDS] [--serves DETECTORS:GROUP] [--csv], or --help\n";
 
 const HELP_WORDS: &str = "log_report: Words: see log_report --help\n";
 
-const STOPPED: [Stopped; 17] = [
+const STOPPED: [Stopped; 20] = [
     (&[], Status::Words, HELP_WORDS),
     (&["sum", "l"], Status::Words, HELP_WORDS),
     (&["--help", "l"], Status::Words, HELP_WORDS),
@@ -261,6 +261,21 @@ const STOPPED: [Stopped; 17] = [
     (&["sums", "l", "--each", "59"], Status::Words, SUMS_WORDS),
     (
         &["sums", "l", "--csv", "--each", "60"],
+        Status::Words,
+        SUMS_WORDS,
+    ),
+    (
+        &["sums", "l", "--serves", "1,2,1:K1"],
+        Status::Words,
+        SUMS_WORDS,
+    ),
+    (
+        &["sums", "l", "--serves", "65:K1"],
+        Status::Words,
+        SUMS_WORDS,
+    ),
+    (
+        &["sums", "l", "--serves", "1:K2", "--serves", "1:K3"],
         Status::Words,
         SUMS_WORDS,
     ),

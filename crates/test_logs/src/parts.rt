@@ -1,4 +1,4 @@
-// Whole calls of `log_report sums` over a log in memory: a table, and parts.
+// Whole calls of `log_report sums` over a log in memory: a table, parts, and detectors that serve a group.
 use crate::calls::{LOG, call};
 use log_view::Status;
 use std::alloc::{AllocError, Global};
@@ -89,5 +89,88 @@ fn the_minutes_of_a_log_add_up(rt: HostRuntime) -> Result<(), Fail> {
     let told = call(rt.alloc(), &["sums", "l", "--each", "60"], log.as_str())?;
     assert_eq!(rt; told.status, Status::Done);
     assert_eq!(rt; told.out.bytes(), MINUTES.as_bytes());
+    Ok(())
+}
+
+// Three greens, of which the first has three vehicles and the second has none.
+const GREENS: &str = "VAPLOG 1 K1\n\
+1|S1|R|1:1:1|-|-\n\
+2|S1|R|-|-|-\n\
+3|S1|G|1:2:2 2:1:0|-|-\n\
+4|S1|G|-|-|-\n\
+5|S1|A|2:1:0|-|-\n\
+6|S1|R|-|-|-\n\
+7|S1|R|-|-|-\n\
+8|S1|G|-|-|-\n\
+9|S1|R|-|-|-\n\
+10|S1|G|2:4:0|-|-\n";
+
+const SERVED: &str = "SECONDS 10\n\
+GROUP K1 greens:3 ended:2 shortest:1 mean:1.5 longest:2 longest_red:2 longest_red_from:1 \
+seconds:4 share:40.0 first_green:3 reds:3 reds_ended:3 shortest_red:1 mean_red:1.6 longest_ended_red:2 \
+cycles:2 shortest_cycle:2 mean_cycle:3.5 longest_cycle:5\n\
+STAGE 1 times:1 seconds:10\n\
+DETECTOR 1 vehicles:3 occupied:0 largest_headway:7 headway_after:3\n\
+DETECTOR 2 vehicles:6 occupied:8 largest_headway:0 headway_after:3\n\
+SERVES K1:1:2 in_green:7 not_in_green:2 ended:2 fewest:0 mean:1.5 most:3 waits:2 shortest_wait:2 mean_wait:2.5 longest_wait:3\n\
+SERVES K1:3 in_green:0 not_in_green:0 ended:2 fewest:0 mean:0.0 most:0 waits:0\n";
+
+#[test]
+fn vehicles_come_in_green_and_wait(rt: HostRuntime) -> Result<(), Fail> {
+    let words = ["sums", "l", "--serves", "2,1:K1", "--serves", "3:K1"];
+    let told = call(rt.alloc(), &words, GREENS)?;
+    assert_eq!(rt; told.status, Status::Done);
+    assert_eq!(rt; told.out.bytes(), SERVED.as_bytes());
+    Ok(())
+}
+
+const SERVED_TABLE: &str = "from,to,line,name,key,value\n\
+5,9,SECONDS,,seconds,5\n\
+5,9,GROUP,K1,greens,1\n\
+5,9,GROUP,K1,ended,2\n\
+5,9,GROUP,K1,shortest,1\n\
+5,9,GROUP,K1,mean,1.5\n\
+5,9,GROUP,K1,longest,2\n\
+5,9,GROUP,K1,longest_red,2\n\
+5,9,GROUP,K1,longest_red_from,6\n\
+5,9,GROUP,K1,seconds,1\n\
+5,9,GROUP,K1,share,20.0\n\
+5,9,GROUP,K1,first_green,8\n\
+5,9,GROUP,K1,reds,2\n\
+5,9,GROUP,K1,reds_ended,1\n\
+5,9,GROUP,K1,shortest_red,2\n\
+5,9,GROUP,K1,mean_red,2.0\n\
+5,9,GROUP,K1,longest_ended_red,2\n\
+5,9,GROUP,K1,cycles,1\n\
+5,9,GROUP,K1,shortest_cycle,5\n\
+5,9,GROUP,K1,mean_cycle,5.0\n\
+5,9,GROUP,K1,longest_cycle,5\n\
+5,9,STAGE,1,times,0\n\
+5,9,STAGE,1,seconds,5\n\
+5,9,DETECTOR,1,vehicles,0\n\
+5,9,DETECTOR,1,occupied,0\n\
+5,9,DETECTOR,1,largest_headway,6\n\
+5,9,DETECTOR,1,headway_after,3\n\
+5,9,DETECTOR,2,vehicles,1\n\
+5,9,DETECTOR,2,occupied,5\n\
+5,9,DETECTOR,2,largest_headway,0\n\
+5,9,DETECTOR,2,headway_after,5\n\
+5,9,SERVES,K1:1:2,in_green,0\n\
+5,9,SERVES,K1:1:2,not_in_green,1\n\
+5,9,SERVES,K1:1:2,ended,2\n\
+5,9,SERVES,K1:1:2,fewest,0\n\
+5,9,SERVES,K1:1:2,mean,1.5\n\
+5,9,SERVES,K1:1:2,most,3\n\
+5,9,SERVES,K1:1:2,waits,1\n\
+5,9,SERVES,K1:1:2,shortest_wait,3\n\
+5,9,SERVES,K1:1:2,mean_wait,3.0\n\
+5,9,SERVES,K1:1:2,longest_wait,3\n";
+
+#[test]
+fn five_of_ten_seconds_are_a_table_with_a_wait(rt: HostRuntime) -> Result<(), Fail> {
+    let words = ["sums", "l", "5", "9", "--serves", "1,2:K1", "--csv"];
+    let told = call(rt.alloc(), &words, GREENS)?;
+    assert_eq!(rt; told.status, Status::Done);
+    assert_eq!(rt; told.out.bytes(), SERVED_TABLE.as_bytes());
     Ok(())
 }

@@ -3,8 +3,8 @@ use Rattle.std.proofs.lemmas.List.{take-append-le, take_all}
 use Rattle.record_sums.proofs.Added.{size_more}
 use Rattle.record_sums.proofs.adding.take_record.Goals as goal
 
-pub returns-then-rec-sums : goal.returns-then-rec-sums
-returns-then-rec-sums c = λ groups from to records wide next small is.
+pub returns-then-rec-sums-clause-sums : goal.returns-then-rec-sums-clause-sums
+returns-then-rec-sums-clause-sums c = λ groups from to records wide next small is.
     let rec = c.args.rec.now in
     let size = size_more records rec in
     let most : to ≤ length records = omega (arith, is.to_is, next, c.if-rec-sums.true) in
@@ -21,12 +21,13 @@ returns-then-rec-sums c = λ groups from to records wide next small is.
         turns_are = is.sums.turns_are;
         rules_are = is.sums.rules_are;
         faults_are = is.sums.faults_are;
+        serves_are = is.sums.serves_are;
       };
       goes_on = sym (lt-ltb to (length (records ++ rec ∷ [])) past);
     }
 
-pub returns-in-Ok : goal.returns-in-Ok
-returns-in-Ok c = λ groups from to records wide next small is.
+pub returns-in-Ok-clause-sums : goal.returns-in-Ok-clause-sums
+returns-in-Ok-clause-sums c = λ groups from to records wide next small is.
     let rec = c.args.rec.now in
     let size = size_more records rec in
     let within : length (records ++ rec ∷ []) ≤ to = omega (arith, is.to_is, next, size, c.if-rec-sums.false) in

@@ -1,4 +1,4 @@
-use Rattle.std.proofs.Common.{◌≡◌, ◌∙◌, ◌++◌, ◌∷◌, [], arith, length, sym}
+use Rattle.std.proofs.Common.{◌≡◌, ◌∙◌, ◌++◌, ◌∷◌, [], List, ap, arith, length, subst, sym}
 use Rattle.sig_types.specs.declared.aspect.Aspect.{Aspect}
 use Rattle.sig_types.specs.declared.aspect.Aspect.TheVariants.{Red}
 use Rattle.sig_types.specs.declared.numbers.StagePlace.{StagePlace}
@@ -6,8 +6,11 @@ use Rattle.sig_types.specs.declared.refused.Fault.{Fault}
 use Rattle.sig_types.specs.declared.refused.StageRefusal.{StageRefusal}
 use Rattle.sig_types.specs.declared.refused.TurnRefusal.{TurnRefusal}
 use Rattle.log_sums.specs.Keys.{command_code, fault_code, place_code, turn_code}
+use Rattle.record_sums.specs.declared.serves.Served.{Served}
+use Rattle.record_sums.specs.Serves.{AddServes, serves_of}
 use Rattle.record_sums.specs.Told.{commands_by, faults_by, fronts_by, places_by, rears_by, rules_by, shown_by, turns_by}
 use Rattle.record_sums.proofs.Added.{size_more, tallies_more}
+use Rattle.record_sums.proofs.Serving.{serves_more}
 use Rattle.record_sums.proofs.Telling.{agrees_last, agrees_still}
 use Rattle.record_sums.proofs.adding.take_second.Goals as goal
 use Rattle.std.proofs.Common.{ℕ}
@@ -40,4 +43,11 @@ returns-in-Ok-show_refusals-clause-adds c = λ groups records wide next small is
           refused.rules is.rules_are;
       faults_are = rw refused.faults (tallies_more Fault fault_code faults_by old.from second records rec old.faults.items c.show_fault.new.tallies.items next small
           c.in-Ok-show_fault.ensures is.faults_are);
+      serves_are = λ early.
+          subst (λ (xs : List Served). AddServes old.from (records ++ rec ∷ []) xs) (sym refused.serves)
+          (serves_more old.from second records rec old.serves.items c.show_serves.new.serves.items next (omega (arith, early, last))
+          c.show_serves.ensures.serves c.show_serves.ensures.sums (is.serves_are (omega (arith, early, last, next))));
     }
+
+pub returns-in-Ok-show_refusals-clause-serves : goal.returns-in-Ok-show_refusals-clause-serves
+returns-in-Ok-show_refusals-clause-serves c = ap serves_of c.in-Ok-show_refusals.ensures.serves ∙ c.show_serves.ensures.serves

@@ -1,5 +1,6 @@
-use Rattle.std.proofs.Common.{[], refl, take}
+use Rattle.std.proofs.Common.{[], get_or, refl, take}
 use Rattle.sig_types.specs.declared.aspect.Aspect.TheVariants.{Red}
+use Rattle.record_sums.specs.Serves.{fronts_of}
 use Rattle.record_sums.specs.Told.{commands_by, faults_by, fronts_by, places_by, rears_by, rules_by, shown_by, told, turns_by}
 use Rattle.record_sums.proofs.laws.sums_are_of_records.Goals as goal
 
@@ -19,6 +20,9 @@ returns c = λ groups from to records x is.
         turns_are = s.turns_are (told turns_by [] rs) (λ t most. refl);
         rules_are = s.rules_are (told rules_by [] rs) (λ t most. refl);
         faults_are = s.faults_are (told faults_by [] rs) (λ t most. refl);
+        serves_are = λ few i d inside.
+            s.serves_are few i d inside (told (shown_by (get_or x.serves.items i d).serve.group.0) Red rs)
+            (told (fronts_of (get_or x.serves.items i d).serve.detectors) 0 rs) (λ t most. refl) (λ t most. refl);
       };
       goes_on = is.goes_on;
     }

@@ -5,7 +5,7 @@ use Rattle.sums_view.proofs.parting.add_up_parts.Given as goal
 
 abbrev pub invariant-records : goal.invariant-records
 invariant-records g l = record {
-  so_far : PartsSoFar (g.F.Files.told l.fn.files) l.fn.records l.records l.fn.from l.fn.each l.fn.to l.parts;
+  so_far : PartsSoFar (g.F.Files.told l.fn.files) l.fn.records l.records l.fn.from l.fn.each l.fn.to l.fn.serves l.parts;
   told : g.F.Files.told l.files ≡ g.F.Files.told l.fn.files;
   name : name_of l.records ≡ name_of l.fn.records;
   names : names_of l.records ≡ names_of l.fn.records;

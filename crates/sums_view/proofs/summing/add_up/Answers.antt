@@ -5,8 +5,9 @@ use Rattle.sums_view.proofs.summing.add_up.Goals as goal
 
 pub records-init : goal.records-init
 records-init g c = record {
-  so_far = read_first (g.F.Files.told c.args.files.now) c.args.records.now c.args.from c.args.to c.none-sums.result c.requires.none
-      (c.none-sums.ensures (length (names_of c.args.records.now)) c.requires.few);
+  so_far = read_first (g.F.Files.told c.args.files.now) c.args.records.now c.args.from c.args.to c.in-Ok.sums c.requires.none
+      (c.in-Ok.ensures.sums (length (names_of c.args.records.now)) c.requires.few);
+  serves = c.in-Ok.ensures.serves;
   told = refl;
   name = refl;
   names = refl;
@@ -24,7 +25,8 @@ records-preserved g c =
           c.records.sums c.take_record.new.sums before.name before.names c.in-Ok-true.ensures.names (c.in-Ok-true.ensures.given found)
           (c.in-Ok-true.ensures.at_most found)
           (λ file told. rw c.in-Ok-true.field-0-test at (c.in-Ok-true.ensures.next file (before.told ∙ told))) (c.in-Ok-true.ensures.said found)
-          (rw c.current.ensures at c.in-Ok.ensures) before.so_far;
+          (rw c.current.ensures at c.in-Ok-take_record.ensures.sums) before.so_far;
+      serves = c.in-Ok-take_record.ensures.serves ∙ before.serves;
       told = c.in-Ok-true.ensures.contents_stay ∙ before.told;
       name = c.in-Ok-true.ensures.name ∙ before.name;
       names = c.in-Ok-true.ensures.names ∙ before.names;
@@ -46,9 +48,9 @@ returns-in-Ok-false-clause-textual g c =
     textual (length (names_of c.args.records.now)) c.args.from c.args.to before.so_far.records c.records.sums c.requires.few
     (omega (arith, before.so_far.count, before.most)) before.so_far.sums_are
 
-pub returns-in-Err-clause-summing : goal.returns-in-Err-clause-summing
-returns-in-Err-clause-summing g c file told =
+pub returns-in-Err-next_record-clause-summing : goal.returns-in-Err-next_record-clause-summing
+returns-in-Err-next_record-clause-summing g c file told =
     let before = c.records.invariant in
     rw c.stop_of.ensures
     (unread_next (g.F.Files.told c.args.files.now) c.args.records.now c.records.records c.next_record.new.self c.args.from c.args.to c.records.sums
-    c.in-Err.stop before.name (λ f t. c.in-Err.ensures.next f (before.told ∙ t)) before.so_far file told)
+    c.in-Err-next_record.stop before.name (λ f t. c.in-Err-next_record.ensures.next f (before.told ∙ t)) before.so_far file told)

@@ -1,11 +1,13 @@
 use Rattle.std.proofs.Common.{◌≡◌, ◌≤◌, ◌-◌, true}
 use Rattle.log_records.specs.Answers.{is_live, name_of, names_of, records_given}
+use Rattle.record_sums.specs.Serves.{serves_of}
 use Rattle.sums_view.proofs.Reading.{SoFar}
 use Rattle.sums_view.proofs.summing.add_up.Given as goal
 
 abbrev pub invariant-records : goal.invariant-records
 invariant-records g l = record {
   so_far : SoFar (g.F.Files.told l.fn.files) l.fn.records l.records l.fn.from l.fn.to l.sums;
+  serves : serves_of l.sums.serves.items ≡ l.fn.serves;
   told : g.F.Files.told l.files ≡ g.F.Files.told l.fn.files;
   name : name_of l.records ≡ name_of l.fn.records;
   names : names_of l.records ≡ names_of l.fn.records;

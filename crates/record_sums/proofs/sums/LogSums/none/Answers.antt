@@ -2,8 +2,8 @@ use Rattle.std.proofs.Common.{[], arith, refl, sym, le-ltb}
 use Rattle.record_sums.proofs.Added.{no_tallies, take_none}
 use Rattle.record_sums.proofs.sums.LogSums.none.Goals as goal
 
-pub returns : goal.returns
-returns c = λ groups few. record {
+pub returns-clause-sums : goal.returns-clause-sums
+returns-clause-sums c = λ groups few. record {
   from_is = refl;
   to_is = refl;
   sums = rw (take_none c.args.to [] refl) record {
@@ -15,6 +15,7 @@ returns c = λ groups few. record {
     turns_are = λ a agrees. rw c.new-turns.ensures.items no_tallies;
     rules_are = λ a agrees. rw c.new-rules.ensures.items no_tallies;
     faults_are = λ a agrees. rw c.new-faults.ensures.items no_tallies;
+    serves_are = λ few. rw c.new-serves.ensures.items (λ i d inside. absurd (omega (arith, inside)));
   };
   goes_on = sym (le-ltb c.args.to 0 (omega arith));
 }

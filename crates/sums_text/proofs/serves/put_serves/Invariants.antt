@@ -1,0 +1,9 @@
+use Rattle.std.proofs.Common.{take}
+use Rattle.sig_io.specs.Draft.{Puts}
+use Rattle.std.specs.List.{flat_map}
+use Rattle.sums_text.specs.Words.{serve_text}
+use Rattle.sums_text.proofs.serves.put_serves.Given as goal
+
+abbrev pub invariant-loop-served : goal.invariant-loop-served
+invariant-loop-served g l =
+    Puts g.O.Sink.taken g.O.Sink.faults l.fn.draft l.draft l.fn.sink l.sink (flat_map (serve_text l.names) (take l.served-index l.serves))
