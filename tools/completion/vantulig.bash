@@ -77,7 +77,7 @@ _vantulig_log_report()
                 diagram) [ "$COMP_CWORD" -gt 4 ] && COMPREPLY=($(compgen -W "--strip" -- "$cur")); return ;;
                 breaches) options="--amber-tolerance --csv" ;;
                 protocol | refusals) options=--csv ;;
-                sums) COMPREPLY=($(compgen -W "--each --csv" -- "$cur")); return ;;
+                sums) COMPREPLY=($(compgen -W "--each --serves --csv" -- "$cur")); return ;;
                 *) return ;;
             esac
             case $COMP_CWORD in
