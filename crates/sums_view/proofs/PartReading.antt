@@ -23,7 +23,7 @@ use Rattle.part_sums.specs.Adding.{PartsUpTo}
 use Rattle.part_sums.specs.Parts.{AreParts, begin_of, end_of}
 use Rattle.sums_text.specs.Parts.{AreAllTextual}
 use Rattle.sums_text.specs.Words.{AreTextual, IsServeSmall, IsSmall}
-use Rattle.sums_view.specs.Summed.{ArePartsIn, IsParting, IsUnsummed}
+use Rattle.sums_view.specs.Summed.{IsParting, IsUnsummed}
 use Rattle.sums_view.proofs.Reading.{unread}
 
 -- these records were read of a log that was first read so, and what is kept is what its parts add up to

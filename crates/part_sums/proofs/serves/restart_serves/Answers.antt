@@ -1,4 +1,4 @@
-use Rattle.std.proofs.Common.{◌≡◌, ◌∙◌, ℕ, ◌+◌, [], ◌∷◌, ap, arith, get_or, length, length-append, refl, subst, take}
+use Rattle.std.proofs.Common.{◌∙◌, ℕ, ◌+◌, [], ◌∷◌, ap, arith, get_or, length, length-append, refl, subst}
 use Rattle.std.proofs.lemmas.List.{get_or_default, take_all}
 use Rattle.sig_types.specs.declared.aspect.Aspect.{Aspect}
 use Rattle.log_sums.specs.Serves.{AreServeSums}
