@@ -54,6 +54,7 @@ pub ends : (groups from to : ℕ) (records : List Record) (r : Record) (old over
       commands = old.commands;
       turns = old.turns;
       rules = old.rules;
+      early = old.early;
       faults = old.faults;
       serves = old.serves;
     } →
@@ -72,6 +73,8 @@ ends groups from to records r old over is most same =
           commands_are = is.sums.commands_are;
           turns_are = is.sums.turns_are;
           rules_are = is.sums.rules_are;
+          early_are = is.sums.early_are;
+          others_are = is.sums.others_are;
           faults_are = is.sums.faults_are;
           serves_are = is.sums.serves_are;
         };

@@ -114,6 +114,10 @@ pub(crate) fn restart(alloc: Global, sums: &LogSums, to: u32) -> Result<LogSums,
         Ok(faults) => faults,
         Err(memory) => return Err(memory),
     };
+    let early = match restart_tallies(alloc, &sums.early) {
+        Ok(early) => early,
+        Err(memory) => return Err(memory),
+    };
     let serves = match restart_serves(alloc, &sums.serves) {
         Ok(serves) => serves,
         Err(memory) => return Err(memory),
@@ -129,6 +133,7 @@ pub(crate) fn restart(alloc: Global, sums: &LogSums, to: u32) -> Result<LogSums,
         commands,
         turns,
         rules,
+        early,
         faults,
         serves,
     })

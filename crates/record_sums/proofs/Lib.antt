@@ -1,3 +1,4 @@
 pub mod Telling
 pub mod Added
 pub mod Serving
+pub mod EarlyTurns

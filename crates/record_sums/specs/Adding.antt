@@ -1,5 +1,5 @@
 -- Sums while the records of a log are read.
-use Rattle.std.specs.Prelude.{◌≡◌, ℕ, ◌+◌, ◌<◌, nat_lt, List, [], length, map, slice_index_or, take}
+use Rattle.std.specs.Prelude.{◌≡◌, ℕ, ◌+◌, ◌<◌, ◌≤◌, nat_lt, List, [], length, map, slice_index_or, take}
 use Rattle.sig_types.specs.declared.aspect.Aspect.{Aspect}
 use Rattle.sig_types.specs.declared.aspect.Aspect.TheVariants.{Red}
 use Rattle.sig_types.specs.declared.record.Record.{Record}
@@ -9,10 +9,12 @@ use Rattle.log_sums.specs.declared.detector.DetectorSums.{DetectorSums}
 use Rattle.log_sums.specs.declared.group.GroupSums.{GroupSums}
 use Rattle.log_sums.specs.declared.tally.Tally.{Tally}
 use Rattle.log_sums.specs.Detectors.{AreDetectorSums}
-use Rattle.log_sums.specs.Groups.{AreGroupSums}
+use Rattle.log_sums.specs.Groups.{AreGroupSums, greens_of}
 use Rattle.log_sums.specs.Keys.{command_code, fault_code, place_code, turn_code}
+use Rattle.log_sums.specs.Spells.{begins, last_to}
 use Rattle.log_sums.specs.Tallies.{AreTallies}
 use Rattle.record_sums.specs.declared.sums.LogSums.{LogSums}
+use Rattle.record_sums.specs.Early.{early_of}
 use Rattle.record_sums.specs.Serves.{AddServes}
 use Rattle.record_sums.specs.Told.{AgreesTo, alone, commands_by, faults_by, fronts_by, places_by, rears_by, rules_by, shown_by, told, turns_by}
 
@@ -31,6 +33,11 @@ pub record AddsUp (groups from : ℕ) (records : List Record) (x : LogSums) : Ty
   pub commands_are : AddTallies command_code commands_by from records x.commands.items
   pub turns_are : AddTallies turn_code turns_by from records x.turns.items
   pub rules_are : AddTallies turn_code rules_by from records x.rules.items
+  pub early_are : (shown : ℕ → ℕ → Aspect) (turns : ℕ → List TurnRefusal) →
+      ((g : ℕ) → AgreesTo (shown g) (told (shown_by g) Red records) (length records)) → AgreesTo turns (told turns_by [] records) (length records) →
+      AreTallies turn_code (early_of shown turns) from (length records) x.early.items
+  pub others_are : (g : ℕ) → groups ≤ g → (a : ℕ → Aspect) → AgreesTo a (told (shown_by g) Red records) (length records) →
+      last_to (begins (greens_of a)) (length records) ≡ 0
   pub faults_are : AddTallies fault_code faults_by from records x.faults.items
   pub serves_are : length records < 1048576 → AddServes from records x.serves.items
 
@@ -58,3 +65,4 @@ pub record AreRefusalsShown (r : Record) (old new : LogSums) : Type 0 where
   pub places : new.places.items ≡ old.places.items
   pub faults : new.faults.items ≡ old.faults.items
   pub serves : new.serves.items ≡ old.serves.items
+  pub early : new.early.items ≡ old.early.items

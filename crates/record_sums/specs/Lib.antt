@@ -1,4 +1,5 @@
 pub mod Told
 pub mod Serves
+pub mod Early
 pub mod Summed
 pub mod Adding

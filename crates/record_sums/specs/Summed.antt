@@ -9,6 +9,7 @@ use Rattle.log_sums.specs.Groups.{AreGroupSums}
 use Rattle.log_sums.specs.Keys.{command_code, fault_code, place_code, turn_code}
 use Rattle.log_sums.specs.Tallies.{AreTallies}
 use Rattle.record_sums.specs.declared.sums.LogSums.{LogSums}
+use Rattle.record_sums.specs.Early.{early_of}
 use Rattle.record_sums.specs.Serves.{AreServed}
 use Rattle.record_sums.specs.Told.{commands_by, faults_by, fronts_by, places_by, rears_by, rules_by, shown_by, told, turns_by}
 
@@ -24,6 +25,7 @@ pub record AreSums (groups from : ℕ) (records : List Record) (x : LogSums) : T
   pub commands_are : AreTallies command_code (told commands_by [] records) from (length records) x.commands.items
   pub turns_are : AreTallies turn_code (told turns_by [] records) from (length records) x.turns.items
   pub rules_are : AreTallies turn_code (told rules_by [] records) from (length records) x.rules.items
+  pub early_are : AreTallies turn_code (early_of (λ g. told (shown_by g) Red records) (told turns_by [] records)) from (length records) x.early.items
   pub faults_are : AreTallies fault_code (told faults_by [] records) from (length records) x.faults.items
   pub serves_are : length records < 1048576 → AreServed from records x.serves.items
 

@@ -1,5 +1,5 @@
 // Sums, record by record.
-ghost use Rattle.std.specs.Prelude.{◌≡◌, ◌+◌, ◌-◌, ◌*◌, ◌^◌, ◌<◌, ◌≤◌, ◌++◌, ◌∷◌, [], ℕ, List, OnOk, length, slice_index_or};
+ghost use Rattle.std.specs.Prelude.{◌≡◌, ◌+◌, ◌-◌, ◌*◌, ◌^◌, ◌<◌, ◌≤◌, ◌++◌, ◌∷◌, [], Bool, ℕ, List, OnOk, filter, length, map, slice_index_or};
 ghost use Rattle.sig_types.specs.declared.aspect.Aspect.{Aspect};
 ghost use Rattle.sig_types.specs.declared.record.Record.{Record};
 ghost use Rattle.sig_types.specs.declared.refused.Fault.{Fault};
@@ -14,9 +14,11 @@ ghost use Rattle.log_sums.specs.Keys.{command_code, fault_code, place_code, turn
 ghost use Rattle.log_sums.specs.Tallies.{AreTallies};
 ghost use Rattle.record_sums.specs.Adding.{AddsUp, AddsUpTo};
 ghost use Rattle.record_sums.specs.Adding.{AreRefusalsShown};
+ghost use Rattle.record_sums.specs.Early.{TellsEarly};
 ghost use Rattle.record_sums.specs.Serves.{serves_of};
-ghost use Rattle.record_sums.specs.Told.{fault_items};
+ghost use Rattle.record_sums.specs.Told.{alone, fault_items};
 
+use crate::early::early_of;
 use crate::items::{commands_of, rules_of, turns_of};
 use crate::serves::show_serves;
 use crate::sums::LogSums;
@@ -97,6 +99,28 @@ fn show_fault(
     }
 }
 
+// Takes the refused turns of a second whose groups had no green yet.
+fn show_early(
+    alloc: Global,
+    tallies: &mut Vec<Tally<TurnRefusal>>,
+    groups: &[GroupSums; 64],
+    from: u32,
+    rec: &Record,
+) -> Result<(), Memory>
+    ensures { OnOk result ((early : ℕ → Bool) (a : ℕ → List TurnRefusal) (n : ℕ) → TellsEarly (length rec.now.picture) groups.now early →
+        rec.now.second.0 ≡ n + 1 → rec.now.second.0 < 2 ^ 31 → a rec.now.second.0 ≡ map alone (filter (λ r. early r.group.0) rec.now.turns) →
+        AreTallies turn_code a from n tallies.old.items → AreTallies turn_code a from rec.now.second.0 tallies.new.items) }
+{
+    let items = match early_of(alloc, groups, rec.picture.len(), &rec.turns) {
+        Ok(items) => items,
+        Err(memory) => return Err(memory),
+    };
+    match show_turns(tallies, from, rec.second.0, items.as_slice()) {
+        Ok(()) => Ok(()),
+        Err(memory) => Err(memory),
+    }
+}
+
 // Takes the refusals of a second.
 fn show_refusals(alloc: Global, sums: &mut LogSums, rec: &Record) -> Result<(), Memory>
     ensures { OnOk result (AreRefusalsShown rec.now sums.old sums.new) }
@@ -147,6 +171,10 @@ fn take_second(alloc: Global, sums: &mut LogSums, rec: &Record) -> Result<(), Me
         Err(memory) => return Err(memory),
     }
     match show_fault(&mut sums.faults, from, second, rec.fault) {
+        Ok(()) => {}
+        Err(memory) => return Err(memory),
+    }
+    match show_early(alloc, &mut sums.early, &sums.groups, from, rec) {
         Ok(()) => {}
         Err(memory) => return Err(memory),
     }

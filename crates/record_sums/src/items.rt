@@ -38,8 +38,8 @@ pub(crate) fn turns_of(alloc: Global, turns: &TurnRefusals) -> Result<Vec<TurnRe
     Ok(items)
 }
 
-// A refused turn, whatever group stood in the way.
-fn alone(turn: TurnRefusal) -> TurnRefusal
+/// A refused turn, whatever group stood in the way.
+pub(crate) fn alone(turn: TurnRefusal) -> TurnRefusal
     ensures { result ≡ alone turn }
 {
     TurnRefusal {

@@ -6,6 +6,7 @@
 #![tactic(auto)]
 
 mod adding;
+mod early;
 mod items;
 pub mod laws;
 mod serves;

@@ -35,6 +35,8 @@ pub struct LogSums {
     pub turns: Vec<Tally<TurnRefusal>>,
     /// The same by group and rule, whatever group stood in the way.
     pub rules: Vec<Tally<TurnRefusal>>,
+    /// Those of groups that had no green yet, from the first second on.
+    pub early: Vec<Tally<TurnRefusal>>,
     /// The faults.
     pub faults: Vec<Tally<Fault>>,
     /// The detectors that are asked for because they serve a group.
@@ -70,6 +72,7 @@ impl LogSums {
         let commands = Vec::new(alloc);
         let turns = Vec::new(alloc);
         let rules = Vec::new(alloc);
+        let early = Vec::new(alloc);
         let faults = Vec::new(alloc);
         let serves = Vec::new(alloc);
         LogSums {
@@ -83,6 +86,7 @@ impl LogSums {
             commands,
             turns,
             rules,
+            early,
             faults,
             serves,
         }

@@ -1,6 +1,6 @@
 -- The table of sums: a row for each number of their text, in the same order. A row tells the first and the last second that count, the
 -- word and the name of the line in which the number stands, its key, and the number.
-use Rattle.std.specs.Prelude.{ℕ, ◌+◌, ◌-◌, ◌*◌, ◌/◌, ◌==◌, ◌&&◌, max, Bool, List, [], ◌∷◌, ◌++◌, codes, Some, if◌then◌else◌}
+use Rattle.std.specs.Prelude.{ℕ, ◌+◌, ◌-◌, ◌*◌, ◌/◌, ◌==◌, max, Bool, List, [], ◌∷◌, ◌++◌, codes, Some, if◌then◌else◌}
 use Rattle.std.specs.List.{flat_map}
 use Rattle.std.specs.Fmt.{decimal}
 use Rattle.sig_types.specs.declared.numbers.StagePlace.{StagePlace}
@@ -129,6 +129,10 @@ turn_rows span names x = counts_rows (span ++ (codes "REFUSED," ++ turn_text nam
 unfoldable pub rule_rows : List ℕ → List (List ℕ) → Tally TurnRefusal → List ℕ
 rule_rows span names x = counts_rows (span ++ (codes "RULE," ++ turn_text names x.key)) x.counts
 
+-- the rows of those before the group's first green
+unfoldable pub early_rows : List ℕ → List (List ℕ) → Tally TurnRefusal → List ℕ
+early_rows span names x = counts_rows (span ++ (codes "BEFORE_GREEN," ++ turn_text names x.key)) x.counts
+
 -- the rows of a fault
 unfoldable pub fault_rows : List ℕ → Tally Fault → List ℕ
 fault_rows span x = counts_rows (span ++ (codes "FAULT," ++ fault_text (Some x.key))) x.counts
@@ -187,11 +191,11 @@ shown_rows names x =
     row_text (span_of x ++ codes "SECONDS,") (codes ",seconds,") (counted_in x)
     ++ (if counted_in x == 0 then [] else groups_rows (span_of x) x.goes_on x.seconds (counted_in x) names x.groups)
 
--- the rows of what was refused: stage commands, turns, and turns by group and rule
+-- the rows of what was refused: stage commands, turns, turns by group and rule, and those before the first green of their group
 unfoldable pub refused_rows : List (List ℕ) → LogSums → List ℕ
 refused_rows names x =
     flat_map (command_rows (span_of x)) x.commands.items ++ flat_map (turn_rows (span_of x) names) x.turns.items
-    ++ flat_map (rule_rows (span_of x) names) x.rules.items
+    ++ flat_map (rule_rows (span_of x) names) x.rules.items ++ flat_map (early_rows (span_of x) names) x.early.items
 
 -- the rows of sums, with those of the detectors that are named in these, and of those that serve a group
 unfoldable pub sums_rows : List (List ℕ) → List DetectorSums → LogSums → List ℕ
@@ -212,6 +216,7 @@ item_text (item.Place place) = place_cells place
 item_text (item.Command refusal) = codes "REFUSED," ++ stage_refusal_text refusal
 item_text (item.Turn names turn) = codes "REFUSED," ++ turn_text names.now turn
 item_text (item.Rule names turn) = codes "RULE," ++ turn_text names.now turn
+item_text (item.Early names turn) = codes "BEFORE_GREEN," ++ turn_text names.now turn
 item_text (item.Fault fault) = codes "FAULT," ++ fault_text (Some fault)
 item_text (item.Detector number) = codes "DETECTOR," ++ decimal number
 item_text (item.Serve names serve) = codes "SERVES," ++ serve_name names.now serve

@@ -1,5 +1,5 @@
 -- The text of sums, line by line.
-use Rattle.std.specs.Prelude.{ℕ, ◌+◌, ◌-◌, ◌*◌, ◌/◌, ◌%◌, ◌<◌, ◌≤◌, ◌==◌, ◌&&◌, max, Bool, not, ◌||◌, List, [], ◌∷◌, ◌++◌, All, codes, slice_index_or, Some, if◌then◌else◌}
+use Rattle.std.specs.Prelude.{ℕ, ◌+◌, ◌-◌, ◌*◌, ◌/◌, ◌%◌, ◌<◌, ◌≤◌, ◌==◌, max, Bool, not, ◌||◌, List, [], ◌∷◌, ◌++◌, All, codes, slice_index_or, Some, if◌then◌else◌}
 use Rattle.std.specs.List.{flat_map}
 use Rattle.std.specs.Fmt.{decimal}
 use Rattle.sig_types.specs.declared.numbers.StagePlace.{StagePlace}
@@ -190,11 +190,11 @@ shown_text names x =
     pair_text (codes "SECONDS ") (counted_in x) ++ codes "\n"
     ++ (if counted_in x == 0 then [] else groups_text x.goes_on x.seconds (counted_in x) names x.groups)
 
--- the lines of what was refused: stage commands, turns, and turns by group and rule
+-- the lines of what was refused: stage commands, turns, turns by group and rule, and those before the first green of their group
 unfoldable pub refused_text : List (List ℕ) → LogSums → List ℕ
 refused_text names x =
     flat_map command_text x.commands.items ++ flat_map (refusal_text (codes "REFUSED ") names) x.turns.items
-    ++ flat_map (refusal_text (codes "RULE ") names) x.rules.items
+    ++ flat_map (refusal_text (codes "RULE ") names) x.rules.items ++ flat_map (refusal_text (codes "BEFORE_GREEN ") names) x.early.items
 
 -- the lines of sums, with those of the detectors that are named in these, and of those that serve a group
 unfoldable pub lines_text : List (List ℕ) → List DetectorSums → LogSums → List ℕ

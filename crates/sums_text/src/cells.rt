@@ -28,6 +28,8 @@ pub(crate) enum Item<'a> {
     Turn(&'a [ShortName], TurnRefusal),
     /// The turns of a group that a rule refused.
     Rule(&'a [ShortName], TurnRefusal),
+    /// Those of them before the group's first green.
+    Early(&'a [ShortName], TurnRefusal),
     /// A fault.
     Fault(Fault),
     /// The detector of this number.
@@ -100,6 +102,10 @@ fn put_item<O: Sink>(draft: &mut Draft, sink: &mut O, item: Item<'_>)
         }
         Item::Rule(names, turn) => {
             draft.put(sink, b"RULE,");
+            put_turn(draft, sink, names, turn);
+        }
+        Item::Early(names, turn) => {
+            draft.put(sink, b"BEFORE_GREEN,");
             put_turn(draft, sink, names, turn);
         }
         Item::Fault(fault) => {

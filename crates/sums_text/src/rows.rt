@@ -270,6 +270,7 @@ fn put_refused<O: Sink>(draft: &mut Draft, sink: &mut O, names: &[ShortName], su
     put_commands(draft, sink, &sums.commands);
     put_turns(draft, sink, b"REFUSED ", names, &sums.turns);
     put_turns(draft, sink, b"RULE ", names, &sums.rules);
+    put_turns(draft, sink, b"BEFORE_GREEN ", names, &sums.early);
 }
 
 /// Puts the lines of sums, with those of the detectors that are named in these, and of those that serve a group.

@@ -4,7 +4,7 @@ ghost use Rattle.std.specs.Fmt.{decimal};
 ghost use Rattle.std.specs.List.{flat_map};
 ghost use Rattle.sig_io.specs.Draft.{Puts};
 ghost use Rattle.sums_text.specs.Words.{AreTextual, counted_in};
-ghost use Rattle.sums_text.specs.Table.{came_rows, command_rows, counts_rows, detector_rows, detectors_rows, fault_rows, groups_rows, head_text, headway_rows, item_text, lead_text};
+ghost use Rattle.sums_text.specs.Table.{came_rows, command_rows, counts_rows, detector_rows, detectors_rows, early_rows, fault_rows, groups_rows, head_text, headway_rows, item_text, lead_text};
 ghost use Rattle.sums_text.specs.Table.{place_cells, place_rows, refused_rows, row_text, rule_rows, shown_rows, span_of, sums_rows, table_text, turn_rows};
 
 use crate::cells::{Item, Lead, lead_of, put_row};
@@ -148,6 +148,25 @@ fn put_rule_rows<O: Sink>(
     );
 }
 
+// Puts the rows of those before the group's first green.
+#[tactic(auto, unfolding(crate::specs::Table::early_rows))]
+fn put_early_rows<O: Sink>(
+    draft: &mut Draft,
+    sink: &mut O,
+    sums: &LogSums,
+    names: &[ShortName],
+    tally: &Tally<TurnRefusal>,
+)
+    ensures { Puts O.taken O.faults draft.old draft.new sink.old sink.new (early_rows (span_of sums.now) names.now tally.now) }
+{
+    put_counts_rows(
+        draft,
+        sink,
+        &lead_of(sums, Item::Early(names, tally.key)),
+        &tally.counts,
+    );
+}
+
 // Puts the rows of a fault.
 #[tactic(auto, unfolding(crate::specs::Table::fault_rows))]
 fn put_fault_rows<O: Sink>(draft: &mut Draft, sink: &mut O, sums: &LogSums, tally: &Tally<Fault>)
@@ -265,6 +284,15 @@ fn put_rules_rows<O: Sink>(draft: &mut Draft, sink: &mut O, names: &[ShortName],
     }
 }
 
+// Puts the rows of the refused turns before their group's first green.
+fn put_all_early_rows<O: Sink>(draft: &mut Draft, sink: &mut O, names: &[ShortName], sums: &LogSums)
+    ensures { Puts O.taken O.faults draft.old draft.new sink.old sink.new (flat_map (early_rows (span_of sums.now) names.now) sums.now.early.items) }
+{
+    for tally in &sums.early {
+        put_early_rows(draft, sink, sums, names, tally);
+    }
+}
+
 // Puts the rows of the faults.
 fn put_faults_rows<O: Sink>(draft: &mut Draft, sink: &mut O, sums: &LogSums)
     ensures { Puts O.taken O.faults draft.old draft.new sink.old sink.new (flat_map (fault_rows (span_of sums.now)) sums.now.faults.items) }
@@ -338,6 +366,7 @@ fn put_refused_rows<O: Sink>(draft: &mut Draft, sink: &mut O, names: &[ShortName
     put_commands_rows(draft, sink, sums);
     put_turns_rows(draft, sink, names, sums);
     put_rules_rows(draft, sink, names, sums);
+    put_all_early_rows(draft, sink, names, sums);
 }
 
 /// Puts the rows of sums, of groups with these names, with those of the detectors that are named in these, and of those that serve

@@ -38,6 +38,7 @@ STAGE 2 times:1 seconds:1\n\
 REFUSED 1-3:NoInterstage times:1 seconds:1 longest_run:1 longest_run_from:1\n\
 REFUSED K2:Conflict:K1 times:2 seconds:2 longest_run:1 longest_run_from:1\n\
 RULE K2:Conflict times:2 seconds:2 longest_run:1 longest_run_from:1\n\
+BEFORE_GREEN K2:Conflict times:2 seconds:2 longest_run:1 longest_run_from:1\n\
 FAULT Number@7 times:2 seconds:2 longest_run:2 longest_run_from:4\n\
 DETECTOR 2 vehicles:13 occupied:5 largest_headway:0 headway_after:2\n\
 DETECTOR 3 vehicles:0 occupied:0\n";
@@ -51,6 +52,7 @@ STAGE 1 times:0 seconds:1\n\
 INTERSTAGE 1-2 times:1 seconds:2\n\
 REFUSED K2:Conflict:K1 times:1 seconds:1 longest_run:1 longest_run_from:3\n\
 RULE K2:Conflict times:1 seconds:1 longest_run:1 longest_run_from:3\n\
+BEFORE_GREEN K2:Conflict times:1 seconds:1 longest_run:1 longest_run_from:3\n\
 FAULT Number@7 times:2 seconds:2 longest_run:2 longest_run_from:4\n\
 DETECTOR 2 vehicles:12 occupied:3 largest_headway:0 headway_after:3\n\
 DETECTOR 3 vehicles:0 occupied:0\n";

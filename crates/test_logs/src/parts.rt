@@ -42,6 +42,10 @@ const TABLE: &str = "from,to,line,name,key,value\n\
 3,5,RULE,K2:Conflict,seconds,1\n\
 3,5,RULE,K2:Conflict,longest_run,1\n\
 3,5,RULE,K2:Conflict,longest_run_from,3\n\
+3,5,BEFORE_GREEN,K2:Conflict,times,1\n\
+3,5,BEFORE_GREEN,K2:Conflict,seconds,1\n\
+3,5,BEFORE_GREEN,K2:Conflict,longest_run,1\n\
+3,5,BEFORE_GREEN,K2:Conflict,longest_run_from,3\n\
 3,5,FAULT,Number@7,times,2\n\
 3,5,FAULT,Number@7,seconds,2\n\
 3,5,FAULT,Number@7,longest_run,2\n\

@@ -1,5 +1,6 @@
 use Rattle.std.proofs.Common.{◌∙◌, ap, arith, le-ltb, length, refl, sym}
 use Rattle.std.proofs.lemmas.List.{take_all}
+use Rattle.record_sums.specs.Early.{early_of}
 use Rattle.record_sums.specs.Serves.{serves_of}
 use Rattle.part_sums.proofs.Restarted.{restarted}
 use Rattle.part_sums.proofs.restart.restart.Goals as goal
@@ -19,9 +20,12 @@ returns-clause-sums c = λ groups from records few small most is. record {
     turns_are = λ a agrees. c.in-Ok-restart_tallies-2.ensures a from (length records) (rw c.deref-3.ensures.value (is.turns_are a agrees));
     rules_are = λ a agrees. c.in-Ok-restart_tallies-3.ensures a from (length records) (rw c.deref-4.ensures.value (is.rules_are a agrees));
     faults_are = λ a agrees. c.in-Ok-restart_tallies-4.ensures a from (length records) (rw c.deref-5.ensures.value (is.faults_are a agrees));
+    early_are = λ shown turns shows refuses.
+        c.in-Ok-restart_tallies-5.ensures (early_of shown turns) from (length records) (rw c.deref-6.ensures.value (is.early_are shown turns shows refuses));
+    others_are = is.others_are;
     serves_are = λ early.
-        restarted from records c.args.sums.now.serves.items _ (c.in-Ok-restart_serves.ensures.serves ∙ ap serves_of c.deref-6.ensures.value)
-        (rw c.deref-6.ensures.value at c.in-Ok-restart_serves.ensures.sums) (is.serves_are early);
+        restarted from records c.args.sums.now.serves.items _ (c.in-Ok-restart_serves.ensures.serves ∙ ap serves_of c.deref-7.ensures.value)
+        (rw c.deref-7.ensures.value at c.in-Ok-restart_serves.ensures.sums) (is.serves_are early);
   };
   goes_on = sym (le-ltb c.args.to (length records) most);
 }

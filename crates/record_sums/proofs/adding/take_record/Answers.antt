@@ -20,6 +20,8 @@ returns-then-rec-sums-clause-sums c = λ groups from to records wide next small 
         commands_are = is.sums.commands_are;
         turns_are = is.sums.turns_are;
         rules_are = is.sums.rules_are;
+        early_are = is.sums.early_are;
+        others_are = is.sums.others_are;
         faults_are = is.sums.faults_are;
         serves_are = is.sums.serves_are;
       };

@@ -19,6 +19,7 @@ returns c = λ groups from to records x is.
         commands_are = s.commands_are (told commands_by [] rs) (λ t most. refl);
         turns_are = s.turns_are (told turns_by [] rs) (λ t most. refl);
         rules_are = s.rules_are (told rules_by [] rs) (λ t most. refl);
+        early_are = s.early_are (λ g. told (shown_by g) Red rs) (told turns_by [] rs) (λ g t most. refl) (λ t most. refl);
         faults_are = s.faults_are (told faults_by [] rs) (λ t most. refl);
         serves_are = λ few i d inside.
             s.serves_are few i d inside (told (shown_by (get_or x.serves.items i d).serve.group.0) Red rs)

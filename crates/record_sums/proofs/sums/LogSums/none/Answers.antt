@@ -14,6 +14,8 @@ returns-clause-sums c = λ groups few. record {
     commands_are = λ a agrees. rw c.new-commands.ensures.items no_tallies;
     turns_are = λ a agrees. rw c.new-turns.ensures.items no_tallies;
     rules_are = λ a agrees. rw c.new-rules.ensures.items no_tallies;
+    early_are = λ shown turns shows refuses. rw c.new-early.ensures.items no_tallies;
+    others_are = λ g behind a agrees. refl;
     faults_are = λ a agrees. rw c.new-faults.ensures.items no_tallies;
     serves_are = λ few. rw c.new-serves.ensures.items (λ i d inside. absurd (omega (arith, inside)));
   };

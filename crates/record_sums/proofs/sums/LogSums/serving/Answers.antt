@@ -17,6 +17,8 @@ returns-clause-sums c = λ groups few.
         commands_are = s.commands_are;
         turns_are = s.turns_are;
         rules_are = s.rules_are;
+        early_are = s.early_are;
+        others_are = s.others_are;
         faults_are = s.faults_are;
         serves_are = λ early i d inside a f shown fronts. c.in-Ok.ensures.sums i d inside a f c.args.from;
       };
