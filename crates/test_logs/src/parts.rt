@@ -1,4 +1,4 @@
-// Whole calls of `log_report sums` over a log in memory: a table, parts, and detectors that serve a group.
+// Whole calls of `log_report sums` over a log in memory: a table, parts, detectors that serve a group, and first greens.
 use crate::calls::{LOG, call};
 use log_view::Status;
 use std::alloc::{AllocError, Global};
@@ -176,5 +176,39 @@ fn five_of_ten_seconds_are_a_table_with_a_wait(rt: HostRuntime) -> Result<(), Fa
     let told = call(rt.alloc(), &words, GREENS)?;
     assert_eq!(rt; told.status, Status::Done);
     assert_eq!(rt; told.out.bytes(), SERVED_TABLE.as_bytes());
+    Ok(())
+}
+
+// Turns that are refused before and behind the first green of their group, of two that begin at other times.
+const FIRST_GREENS: &str = "VAPLOG 1 K1 K2\n\
+1|S1|RG|-|K1:Conflict:K2|-\n\
+2|S1|RR|-|K1:MinRed|-\n\
+3|S1|GR|-|K2:Conflict:K1|-\n\
+4|S1|GR|-|K1:MinGreen|-\n\
+5|S1|RR|-|K1:Conflict:K2|-\n";
+
+const FIRST_GREENS_SUMS: &str = "SECONDS 5\n\
+GROUP K1 greens:1 ended:1 shortest:2 mean:2.0 longest:2 longest_red:2 longest_red_from:1 \
+seconds:2 share:40.0 first_green:3 reds:2 reds_ended:1 shortest_red:2 mean_red:2.0 longest_ended_red:2 \
+cycles:0\n\
+GROUP K2 greens:1 ended:1 shortest:1 mean:1.0 longest:1 longest_red:4 longest_red_from:2 \
+seconds:1 share:20.0 first_green:1 reds:1 reds_ended:0 cycles:0\n\
+STAGE 1 times:1 seconds:5\n\
+REFUSED K1:Conflict:K2 times:2 seconds:2 longest_run:1 longest_run_from:1\n\
+REFUSED K1:MinRed times:1 seconds:1 longest_run:1 longest_run_from:2\n\
+REFUSED K2:Conflict:K1 times:1 seconds:1 longest_run:1 longest_run_from:3\n\
+REFUSED K1:MinGreen times:1 seconds:1 longest_run:1 longest_run_from:4\n\
+RULE K1:Conflict times:2 seconds:2 longest_run:1 longest_run_from:1\n\
+RULE K1:MinRed times:1 seconds:1 longest_run:1 longest_run_from:2\n\
+RULE K2:Conflict times:1 seconds:1 longest_run:1 longest_run_from:3\n\
+RULE K1:MinGreen times:1 seconds:1 longest_run:1 longest_run_from:4\n\
+BEFORE_GREEN K1:Conflict times:1 seconds:1 longest_run:1 longest_run_from:1\n\
+BEFORE_GREEN K1:MinRed times:1 seconds:1 longest_run:1 longest_run_from:2\n";
+
+#[test]
+fn what_is_refused_before_a_green_is_told_apart(rt: HostRuntime) -> Result<(), Fail> {
+    let told = call(rt.alloc(), &["sums", "l"], FIRST_GREENS)?;
+    assert_eq!(rt; told.status, Status::Done);
+    assert_eq!(rt; told.out.bytes(), FIRST_GREENS_SUMS.as_bytes());
     Ok(())
 }
