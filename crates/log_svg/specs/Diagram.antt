@@ -16,6 +16,7 @@ use Rattle.log_svg.specs.declared.fronts.FrontMark.{FrontMark}
 use Rattle.log_svg.specs.Layout.{end_of, has_row, height_of, left_of, sheet_by, top_of, y_of}
 use Rattle.log_svg.specs.Svg.{attribute_text, box_text, cross_text, label_begin, label_text, upright_text}
 use Rattle.log_svg.specs.Axis.{axis_text}
+use Rattle.log_svg.specs.Words.{Looked, title_words}
 use Rattle.log_svg.specs.Band.{band_text}
 use Rattle.log_svg.specs.Marks.{IsRefused, detectors_text, faults_text, marks_text, rule_letter, shown_to}
 use Rattle.log_svg.specs.Groups.{groups_text}
@@ -100,23 +101,27 @@ unfoldable pub ground_text : ℕ → ℕ → List ℕ
 ground_text width height =
     codes "<rect class=\"w\"" ++ attribute_text (codes "width") width ++ attribute_text (codes "height") height ++ codes "/>\n"
 
+-- the title that is asked for, or what every diagram is
+abbrev pub given_title : List ℕ → List ℕ
+given_title title = if length title == 0 then codes "Signal timing diagram" else title_words title
+
 -- what the diagram is of
-unfoldable pub seconds_title : ℕ → ℕ → List ℕ
-seconds_title from to = codes "Signal timing diagram, seconds " ++ decimal from ++ codes " to " ++ decimal to
+unfoldable pub seconds_title : List ℕ → ℕ → ℕ → List ℕ
+seconds_title title from to = given_title title ++ codes ", seconds " ++ decimal from ++ codes " to " ++ decimal to
 
 -- the title, which a screen reader reads
-unfoldable pub title_text : ℕ → ℕ → List ℕ
-title_text from to = codes "<title>" ++ seconds_title from to ++ codes "</title>\n"
+unfoldable pub title_text : List ℕ → ℕ → ℕ → List ℕ
+title_text title from to = codes "<title>" ++ seconds_title title from to ++ codes "</title>\n"
 
 -- and which is seen
-unfoldable pub heading_text : ℕ → ℕ → List ℕ
-heading_text from to = label_begin (codes "h") 12 20 ++ seconds_title from to ++ codes "</text>\n"
+unfoldable pub heading_text : List ℕ → ℕ → ℕ → List ℕ
+heading_text title from to = label_begin (codes "h") 12 20 ++ seconds_title title from to ++ codes "</text>\n"
 
 -- the head: size, title, looks, ground and heading
-unfoldable pub head_text : Sheet → ℕ → ℕ → List ℕ
-head_text sheet from to =
-    size_text sheet.width (height_of sheet) ++ title_text from to ++ looks_text ++ ground_text sheet.width (height_of sheet)
-    ++ heading_text from to
+unfoldable pub head_text : Sheet → List ℕ → ℕ → ℕ → List ℕ
+head_text sheet title from to =
+    size_text sheet.width (height_of sheet) ++ title_text title from to ++ looks_text ++ ground_text sheet.width (height_of sheet)
+    ++ heading_text title from to
 
 -- ---- the legend
 
@@ -170,6 +175,18 @@ cover_key y = box_text (codes "q") 800 (y + 6) 24 6 ++ label_text (codes "o") 83
 unfoldable pub legend_text : ℕ → List ℕ
 legend_text y =
     aspects_key y ++ key_text (codes "i") 436 y (codes "interstage") ++ fault_key y ++ fronts_key y ++ cover_key y ++ rules_key (y + 20)
+
+-- how a minimum green looks: a darker part of a green
+unfoldable pub least_style : List ℕ
+least_style = codes "<style>.e{fill:#00562a;pointer-events:none}</style>\n"
+
+-- and its key, right of the title in a picture of this width
+abbrev pub told_key : ℕ → List ℕ
+told_key width = least_style ++ key_text (codes "e") (width - 130) 10 (codes "minimum green")
+
+-- they stand where there are minimum greens
+abbrev pub least_key : ℕ → List ℕ → List ℕ
+least_key width minimums = if length minimums == 0 then [] else told_key width
 
 -- ---- the whole
 
@@ -225,11 +242,11 @@ abbrev pub faults_row : Layout → ℕ → List FaultMark → List ℕ
 faults_row layout row marks = if length marks == 0 || not (has_row layout row) then [] else named_faults layout (y_of layout row) marks
 
 -- the seconds, the band and the rows of groups, with the marks of what was refused
-unfoldable pub upper_text : Layout → Shown → List ℕ
-upper_text layout s =
-    axis_text layout (end_of layout) (layout.to + 1 - layout.from) ++ label_text (codes "n") (layout.left - 12) 73 (codes "stage")
-    ++ band_text layout s.stays ++ marks_text s.names layout None 58 s.refusals
-    ++ groups_text layout s.names s.rows s.refusals (length s.names)
+unfoldable pub upper_text : Looked → Layout → Shown → List ℕ
+upper_text look layout s =
+    axis_text look.begin layout (end_of layout) (layout.to + 1 - layout.from) ++ label_text (codes "n") (layout.left - 12) 73 (codes "stage")
+    ++ band_text look.stages layout s.stays ++ marks_text s.names layout None 58 s.refusals
+    ++ groups_text layout s.names look.minimums s.rows s.refusals (length s.names)
 
 -- the rows of faults and detectors
 unfoldable pub lower_text : Layout → Shown → List ℕ
@@ -241,30 +258,32 @@ unfoldable pub shift_text : ℕ → List ℕ
 shift_text y = codes "<g transform=\"translate(0 " ++ decimal y ++ codes ")\">\n"
 
 -- a panel, at this height
-unfoldable pub panel_text : Layout → ℕ → Shown → List ℕ
-panel_text layout y s = shift_text y ++ upper_text layout s ++ lower_text layout s ++ codes "</g>\n"
+unfoldable pub panel_text : Looked → Layout → ℕ → Shown → List ℕ
+panel_text look layout y s = shift_text y ++ upper_text look layout s ++ lower_text layout s ++ codes "</g>\n"
 
 -- part p of strip k, at its height
-abbrev pub part_text : Sheet → Shown → ℕ → ℕ → ℕ → List ℕ
-part_text sheet s strip k p = panel_text (panel_at sheet s strip k p) (top_of sheet (k * sheet.parts + p)) s
+abbrev pub part_text : Sheet → Shown → Looked → ℕ → ℕ → List ℕ
+part_text sheet s look k p = panel_text look (panel_at sheet s look.strip k p) (top_of sheet (k * sheet.parts + p)) s
 
 -- the first n parts of strip k
-unfoldable pub parts_text : Sheet → Shown → ℕ → ℕ → ℕ → List ℕ
-parts_text sheet s strip k zero = []
-parts_text sheet s strip k (suc n) = parts_text sheet s strip k n ++ part_text sheet s strip k n
+unfoldable pub parts_text : Sheet → Shown → Looked → ℕ → ℕ → List ℕ
+parts_text sheet s look k zero = []
+parts_text sheet s look k (suc n) = parts_text sheet s look k n ++ part_text sheet s look k n
 
 -- the first n strips, with all their parts
-unfoldable pub strips_text : Sheet → Shown → ℕ → ℕ → List ℕ
-strips_text sheet s strip zero = []
-strips_text sheet s strip (suc n) = strips_text sheet s strip n ++ parts_text sheet s strip n sheet.parts
+unfoldable pub strips_text : Sheet → Shown → Looked → ℕ → List ℕ
+strips_text sheet s look zero = []
+strips_text sheet s look (suc n) = strips_text sheet s look n ++ parts_text sheet s look n sheet.parts
 
--- the head, the legend and the strips
-unfoldable pub whole_text : Sheet → Shown → ℕ → List ℕ
-whole_text sheet s strip = head_text sheet s.from s.to ++ legend_text 32 ++ strips_text sheet s strip sheet.strips ++ codes "</svg>\n"
+-- the head, the legend, the key of minimum greens and the strips
+unfoldable pub whole_text : Sheet → Shown → Looked → List ℕ
+whole_text sheet s look =
+    head_text sheet look.title s.from s.to ++ legend_text 32 ++ least_key sheet.width look.minimums ++ strips_text sheet s look sheet.strips
+    ++ codes "</svg>\n"
 
--- the whole text of a diagram in strips of so many seconds
-abbrev pub diagram_text : Shown → ℕ → List ℕ
-diagram_text s strip = whole_text (sheet_in s strip) s strip
+-- the whole text of a diagram that is to look so
+abbrev pub diagram_text : Shown → Looked → List ℕ
+diagram_text s look = whole_text (sheet_in s look.strip) s look
 
 -- a strip has 30 to 600 seconds
 abbrev pub IsStrip : ℕ → Type 0

@@ -1,5 +1,6 @@
 pub mod Layout
 pub mod Svg
+pub mod Words
 pub mod Axis
 pub mod Band
 pub mod Covers
@@ -7,3 +8,4 @@ pub mod Marks
 pub mod Groups
 pub mod Diagram
 pub mod ShownIn
+pub mod LookIn

@@ -142,28 +142,48 @@ unfoldable pub span_title : Layout → List ℕ → Span Aspect → List ℕ
 span_title layout name s =
     codes "><title>" ++ name ++ codes " " ++ word_of s.shown ++ times_text layout s ++ codes "</title></rect>\n"
 
--- the seconds of a green, where they are told
-abbrev pub told_text : Layout → ℕ → Span Aspect → Aspect → List ℕ
-told_text layout y s Red = []
-told_text layout y s RedAmber = []
-told_text layout y s Green = seconds_text layout y s
-told_text layout y s Amber = []
+-- the first seconds of a green, up to its minimum
+abbrev pub least_part : ℕ → Span Aspect → Span Aspect
+least_part minimum s = record {
+  shown = s.shown;
+  first = s.first;
+  last = record { 0 = min s.last.0 (s.first.0 + minimum - 1) };
+}
+
+-- they are told where there is a minimum, the green begins inside the diagram, and some of them are in the strip
+abbrev pub has_least : Layout → ℕ → Span Aspect → Bool
+has_least layout minimum s = (nat_lt 0 minimum && nat_lt layout.first s.first.0) && is_seen layout (least_part minimum s)
+
+-- a darker box over these
+abbrev pub darker_text : Layout → ℕ → Span Aspect → List ℕ
+darker_text layout y part = box_text (codes "e") (begin_of layout part) (y + 5) (width_of layout part) 12
+
+-- the darker part of a green
+abbrev pub least_text : Layout → ℕ → ℕ → Span Aspect → List ℕ
+least_text layout y minimum s = if has_least layout minimum s then darker_text layout y (least_part minimum s) else []
+
+-- the minimum and the seconds of a green, where they are told
+abbrev pub told_text : Layout → ℕ → ℕ → Span Aspect → Aspect → List ℕ
+told_text layout y minimum s Red = []
+told_text layout y minimum s RedAmber = []
+told_text layout y minimum s Green = least_text layout y minimum s ++ seconds_text layout y s
+told_text layout y minimum s Amber = []
 
 -- a span by its aspect
-unfoldable pub span_text : Layout → ℕ → List ℕ → Span Aspect → List ℕ
-span_text layout y name s =
+unfoldable pub span_text : Layout → ℕ → List ℕ → ℕ → Span Aspect → List ℕ
+span_text layout y name minimum s =
     box_begin (class_of s.shown) (begin_of layout s) (y + inset_of s.shown) (width_of layout s) (thick_of s.shown)
-    ++ span_title layout name s ++ told_text layout y s s.shown
+    ++ span_title layout name s ++ told_text layout y minimum s s.shown
 
 -- a span that has some of the strip's seconds
-abbrev pub seen_text : Layout → ℕ → List ℕ → Span Aspect → List ℕ
-seen_text layout y name s = if is_seen layout s then span_text layout y name s else []
+abbrev pub seen_text : Layout → ℕ → List ℕ → ℕ → Span Aspect → List ℕ
+seen_text layout y name minimum s = if is_seen layout s then span_text layout y name minimum s else []
 
 -- the spans of a group, one after the other
-abbrev pub row_text : Layout → ℕ → List ℕ → List (Span Aspect) → List ℕ
-row_text layout y name spans = flat_map (seen_text layout y name) spans
+abbrev pub row_text : Layout → ℕ → List ℕ → ℕ → List (Span Aspect) → List ℕ
+row_text layout y name minimum spans = flat_map (seen_text layout y name minimum) spans
 
 -- a group: its name, its spans, and a line below
-unfoldable pub group_text : Layout → ℕ → List ℕ → List (Span Aspect) → List ℕ
-group_text layout y name spans =
-    label_text (codes "n") (layout.left - 12) (y + 15) name ++ row_text layout y name spans ++ across_text (y + 20) (right_of layout)
+unfoldable pub group_text : Layout → ℕ → List ℕ → ℕ → List (Span Aspect) → List ℕ
+group_text layout y name minimum spans =
+    label_text (codes "n") (layout.left - 12) (y + 15) name ++ row_text layout y name minimum spans ++ across_text (y + 20) (right_of layout)

@@ -2,7 +2,9 @@
 ghost use Rattle.std.specs.Prelude.{◌≡◌, ◌+◌, ◌-◌, ◌*◌, ◌/◌, ◌^◌, ◌<◌, ◌≤◌, ◌++◌, ℕ, List, Option, length};
 ghost use Rattle.sig_io.specs.Draft.{Puts};
 ghost use Rattle.log_svg.specs.Layout.{IsLayout, IsSheet, top_of};
+ghost use Rattle.log_svg.specs.LookIn.{look_in};
 ghost use Rattle.log_svg.specs.ShownIn.{shown_in};
+ghost use Rattle.log_svg.specs.Words.{IsLook};
 ghost use Rattle.log_svg.specs.Diagram.{IsShowable, IsStrip, detectors_row, diagram_text, fault_rows, faults_row, lower_text, named_faults, panel_at, panel_text};
 ghost use Rattle.log_svg.specs.Diagram.{part_text, parts_text, rows_in, sheet_in, shift_text, strip_from, strip_seconds, strips_in, strips_text, upper_text, whole_text};
 
@@ -12,9 +14,10 @@ use crate::fronts::{FrontMark, count_shown, put_detectors};
 use crate::groups::put_groups;
 use crate::head::put_head;
 use crate::layout::{Layout, Sheet, end_of, has_row, top_of, y_of};
-use crate::legend::put_legend;
+use crate::legend::{put_least_key, put_legend};
 use crate::marks::{FaultMark, RefusalMark, put_faults, put_marks};
 use crate::pieces::put_label;
+use crate::words::Look;
 use log_chart::{Chart, Cover, Span};
 use sig_io::{Draft, Sink};
 use sig_types::{ShortName, StagePlace};
@@ -183,15 +186,22 @@ fn put_faults_row<O: Sink>(
 }
 
 // Puts the seconds, the band and the rows of groups, with the marks of what was refused.
-fn put_upper<O: Sink>(draft: &mut Draft, sink: &mut O, layout: Layout, diagram: &Diagram)
+fn put_upper<O: Sink>(
+    draft: &mut Draft,
+    sink: &mut O,
+    look: Look<'_>,
+    layout: Layout,
+    diagram: &Diagram,
+)
+    requires look { IsLook (look_in look) }
     requires layout { IsLayout layout }
     requires row { layout.row ≤ 20000 }
     requires diagram { IsShowable (shown_in diagram.now) }
-    ensures { Puts O.taken O.faults draft.old draft.new sink.old sink.new (upper_text layout (shown_in diagram.now)) }
+    ensures { Puts O.taken O.faults draft.old draft.new sink.old sink.new (upper_text (look_in look.entry) layout (shown_in diagram.now)) }
 {
-    put_axis(draft, sink, layout, end_of(layout));
+    put_axis(draft, sink, look.begin, layout, end_of(layout));
     put_label(draft, sink, b"n", layout.left - 12, 73, b"stage");
-    put_band(draft, sink, layout, &diagram.stays);
+    put_band(draft, sink, look.stages, layout, &diagram.stays);
     put_marks(
         draft,
         sink,
@@ -206,6 +216,7 @@ fn put_upper<O: Sink>(draft: &mut Draft, sink: &mut O, layout: Layout, diagram: 
         sink,
         layout,
         &diagram.names,
+        look.minimums,
         &diagram.chart,
         &diagram.refusals,
     );
@@ -239,14 +250,22 @@ fn put_shift<O: Sink>(draft: &mut Draft, sink: &mut O, y: u32)
 }
 
 // Puts a panel at this height.
-fn put_panel<O: Sink>(draft: &mut Draft, sink: &mut O, layout: Layout, y: u32, diagram: &Diagram)
+fn put_panel<O: Sink>(
+    draft: &mut Draft,
+    sink: &mut O,
+    look: Look<'_>,
+    layout: Layout,
+    y: u32,
+    diagram: &Diagram,
+)
+    requires look { IsLook (look_in look) }
     requires layout { IsLayout layout }
     requires row { layout.row ≤ 20000 }
     requires diagram { IsShowable (shown_in diagram.now) }
-    ensures { Puts O.taken O.faults draft.old draft.new sink.old sink.new (panel_text layout y (shown_in diagram.now)) }
+    ensures { Puts O.taken O.faults draft.old draft.new sink.old sink.new (panel_text (look_in look.entry) layout y (shown_in diagram.now)) }
 {
     put_shift(draft, sink, y);
-    put_upper(draft, sink, layout, diagram);
+    put_upper(draft, sink, look, layout, diagram);
     put_lower(draft, sink, layout, diagram);
     draft.put(sink, b"</g>\n");
 }
@@ -257,47 +276,61 @@ fn put_parts<O: Sink>(
     sink: &mut O,
     sheet: Sheet,
     diagram: &Diagram,
-    strip: u32,
+    look: Look<'_>,
     number: u32,
 )
     requires sheet { IsSheet sheet }
     requires diagram { IsShowable (shown_in diagram.now) }
-    requires strip { IsStrip strip }
-    requires number { number < strips_in (shown_in diagram.now) strip }
+    requires look { IsLook (look_in look) }
+    requires number { number < strips_in (shown_in diagram.now) look.strip }
     requires few { number < 3600 }
     ensures { Puts O.taken O.faults draft.old draft.new sink.old sink.new
-        (parts_text sheet (shown_in diagram.now) strip number sheet.parts) }
+        (parts_text sheet (shown_in diagram.now) (look_in look.entry) number sheet.parts) }
 {
     for part in 0..sheet.parts {
-        let layout = panel_at(diagram, sheet, strip, number, part);
+        let layout = panel_at(diagram, sheet, look.strip, number, part);
         let y = top_of(sheet, number * sheet.parts + part);
-        put_panel(draft, sink, layout, y, diagram);
+        put_panel(draft, sink, look, layout, y, diagram);
     }
 }
 
 // Puts the strips.
-fn put_strips<O: Sink>(draft: &mut Draft, sink: &mut O, sheet: Sheet, diagram: &Diagram, strip: u32)
+fn put_strips<O: Sink>(
+    draft: &mut Draft,
+    sink: &mut O,
+    sheet: Sheet,
+    diagram: &Diagram,
+    look: Look<'_>,
+)
     requires sheet { IsSheet sheet }
     requires diagram { IsShowable (shown_in diagram.now) }
-    requires strip { IsStrip strip }
-    requires strips { sheet.strips ≡ strips_in (shown_in diagram.now) strip }
+    requires look { IsLook (look_in look) }
+    requires strips { sheet.strips ≡ strips_in (shown_in diagram.now) look.strip }
     ensures { Puts O.taken O.faults draft.old draft.new sink.old sink.new
-        (strips_text sheet (shown_in diagram.now) strip sheet.strips) }
+        (strips_text sheet (shown_in diagram.now) (look_in look.entry) sheet.strips) }
 {
     for number in 0..sheet.strips {
-        put_parts(draft, sink, sheet, diagram, strip, number);
+        put_parts(draft, sink, sheet, diagram, look, number);
     }
 }
 
-/// Puts the text of the diagram, in strips of so many seconds.
-pub fn put_diagram<O: Sink>(draft: &mut Draft, sink: &mut O, diagram: &Diagram, strip: u32)
+/// Puts the text of the diagram, which is to look so.
+pub fn put_diagram<O: Sink>(draft: &mut Draft, sink: &mut O, diagram: &Diagram, look: Look<'_>)
     requires diagram { IsShowable (shown_in diagram.now) }
-    requires strip { IsStrip strip }
-    ensures { Puts O.taken O.faults draft.old draft.new sink.old sink.new (diagram_text (shown_in diagram.now) strip) }
+    requires look { IsLook (look_in look) }
+    ensures { Puts O.taken O.faults draft.old draft.new sink.old sink.new (diagram_text (shown_in diagram.now) (look_in look.entry)) }
 {
-    let sheet = sheet_in(diagram, strip);
-    put_head(draft, sink, sheet, diagram.from, diagram.to);
+    let sheet = sheet_in(diagram, look.strip);
+    put_head(
+        draft,
+        sink,
+        sheet,
+        look.title.as_bytes(),
+        diagram.from,
+        diagram.to,
+    );
     put_legend(draft, sink, 32);
-    put_strips(draft, sink, sheet, diagram, strip);
+    put_least_key(draft, sink, sheet.width, look.minimums);
+    put_strips(draft, sink, sheet, diagram, look);
     draft.put(sink, b"</svg>\n");
 }

@@ -2,11 +2,12 @@
 ghost use Rattle.std.specs.Prelude.{◌+◌, ◌*◌, ◌^◌, ◌<◌, ◌≤◌, ◌++◌, ℕ, List, Option};
 ghost use Rattle.sig_io.specs.Draft.{Puts};
 ghost use Rattle.log_svg.specs.Layout.{IsSheet};
-ghost use Rattle.log_svg.specs.Diagram.{dark_style, ground_text, head_text, heading_text, looks_text, seconds_title, size_text, title_text, view_text};
+ghost use Rattle.log_svg.specs.Diagram.{dark_style, given_title, ground_text, head_text, heading_text, looks_text, seconds_title, size_text, title_text, view_text};
 ghost use Rattle.log_svg.specs.Diagram.{amber_pattern, bars_style, half_pattern, interstage_pattern, marks_style, words_style};
 
 use crate::layout::{Sheet, height_of};
 use crate::pieces::{begin_label, put_attribute};
+use crate::words::put_title_words;
 use sig_io::{Draft, Sink};
 
 // Puts what part of the plane is shown.
@@ -170,44 +171,63 @@ fn put_ground<O: Sink>(draft: &mut Draft, sink: &mut O, width: u32, height: u32)
     draft.put(sink, b"/>\n");
 }
 
-// Puts what the diagram is of.
-fn put_seconds<O: Sink>(draft: &mut Draft, sink: &mut O, from: u32, to: u32)
-    ensures { Puts O.taken O.faults draft.old draft.new sink.old sink.new (seconds_title from to) }
+// Puts the title that is asked for, or what every diagram is.
+fn put_given<O: Sink>(draft: &mut Draft, sink: &mut O, title: &[u8])
+    ensures { Puts O.taken O.faults draft.old draft.new sink.old sink.new (given_title title.now) }
 {
-    draft.put(sink, b"Signal timing diagram, seconds ");
+    if title.len() == 0 {
+        draft.put(sink, b"Signal timing diagram");
+    } else {
+        put_title_words(draft, sink, title);
+    }
+}
+
+// Puts what the diagram is of.
+fn put_seconds<O: Sink>(draft: &mut Draft, sink: &mut O, title: &[u8], from: u32, to: u32)
+    ensures { Puts O.taken O.faults draft.old draft.new sink.old sink.new (seconds_title title.now from to) }
+{
+    put_given(draft, sink, title);
+    draft.put(sink, b", seconds ");
     draft.put_number(sink, from);
     draft.put(sink, b" to ");
     draft.put_number(sink, to);
 }
 
 // Puts the title, which a screen reader reads.
-fn put_title<O: Sink>(draft: &mut Draft, sink: &mut O, from: u32, to: u32)
-    ensures { Puts O.taken O.faults draft.old draft.new sink.old sink.new (title_text from to) }
+fn put_title<O: Sink>(draft: &mut Draft, sink: &mut O, title: &[u8], from: u32, to: u32)
+    ensures { Puts O.taken O.faults draft.old draft.new sink.old sink.new (title_text title.now from to) }
 {
     draft.put(sink, b"<title>");
-    put_seconds(draft, sink, from, to);
+    put_seconds(draft, sink, title, from, to);
     draft.put(sink, b"</title>\n");
 }
 
 // Puts the title that is seen.
-fn put_heading<O: Sink>(draft: &mut Draft, sink: &mut O, from: u32, to: u32)
-    ensures { Puts O.taken O.faults draft.old draft.new sink.old sink.new (heading_text from to) }
+fn put_heading<O: Sink>(draft: &mut Draft, sink: &mut O, title: &[u8], from: u32, to: u32)
+    ensures { Puts O.taken O.faults draft.old draft.new sink.old sink.new (heading_text title.now from to) }
 {
     begin_label(draft, sink, b"h", 12, 20);
-    put_seconds(draft, sink, from, to);
+    put_seconds(draft, sink, title, from, to);
     draft.put(sink, b"</text>\n");
 }
 
 /// Puts the head of a diagram of these seconds.
-pub fn put_head<O: Sink>(draft: &mut Draft, sink: &mut O, sheet: Sheet, from: u32, to: u32)
+pub fn put_head<O: Sink>(
+    draft: &mut Draft,
+    sink: &mut O,
+    sheet: Sheet,
+    title: &[u8],
+    from: u32,
+    to: u32,
+)
     requires { IsSheet sheet }
-    ensures { Puts O.taken O.faults draft.old draft.new sink.old sink.new (head_text sheet from to) }
+    ensures { Puts O.taken O.faults draft.old draft.new sink.old sink.new (head_text sheet title.now from to) }
 {
     let height = height_of(sheet);
     let width = sheet.width;
     put_size(draft, sink, width, height);
-    put_title(draft, sink, from, to);
+    put_title(draft, sink, title, from, to);
     put_looks(draft, sink);
     put_ground(draft, sink, width, height);
-    put_heading(draft, sink, from, to);
+    put_heading(draft, sink, title, from, to);
 }

@@ -2,7 +2,7 @@
 ghost use Rattle.std.specs.Prelude.{◌+◌, ◌*◌, ◌^◌, ◌<◌, ◌≤◌, ◌++◌, ℕ, List, Option, codes, length};
 ghost use Rattle.sig_io.specs.Draft.{Puts};
 ghost use Rattle.log_svg.specs.Svg.{box_text, label_text};
-ghost use Rattle.log_svg.specs.Diagram.{aspects_key, commands_key, cover_key, fault_key, fronts_key, key_text, legend_text, rule_key, rules_key, turns_key};
+ghost use Rattle.log_svg.specs.Diagram.{aspects_key, commands_key, cover_key, fault_key, fronts_key, key_text, least_key, least_style, legend_text, rule_key, rules_key, told_key, turns_key};
 
 use crate::marks::rule_letter;
 use crate::pieces::{begin_cross, begin_label, put_box, put_label, put_upright};
@@ -129,4 +129,40 @@ pub fn put_legend<O: Sink>(draft: &mut Draft, sink: &mut O, y: u32)
     put_fronts_key(draft, sink, y);
     put_cover_key(draft, sink, y);
     put_rules_key(draft, sink, y + 20);
+}
+
+// Puts how a minimum green looks.
+fn put_least_style<O: Sink>(draft: &mut Draft, sink: &mut O)
+    ensures { Puts O.taken O.faults draft.old draft.new sink.old sink.new least_style }
+{
+    draft.put(
+        sink,
+        b"<style>.e{fill:#00562a;pointer-events:none}</style>\n",
+    );
+}
+
+// Puts that and its key.
+fn put_told_key<O: Sink>(draft: &mut Draft, sink: &mut O, width: u32)
+    requires { width ≤ 3000 }
+    ensures { Puts O.taken O.faults draft.old draft.new sink.old sink.new (told_key width) }
+{
+    put_least_style(draft, sink);
+    put_key(
+        draft,
+        sink,
+        b"e",
+        width.saturating_sub(130),
+        10,
+        b"minimum green",
+    );
+}
+
+/// Puts the key of minimum greens right of the title in a picture of this width, where there are some.
+pub fn put_least_key<O: Sink>(draft: &mut Draft, sink: &mut O, width: u32, minimums: &[u8])
+    requires { width ≤ 3000 }
+    ensures { Puts O.taken O.faults draft.old draft.new sink.old sink.new (least_key width minimums.now) }
+{
+    if minimums.len() > 0 {
+        put_told_key(draft, sink, width);
+    }
 }

@@ -12,10 +12,12 @@ mod fronts;
 mod groups;
 mod head;
 mod layout;
+mod least;
 mod legend;
 mod marks;
 mod pieces;
 mod row;
+mod words;
 
 pub use band::put_place;
 pub use covers::spans_of;
@@ -26,3 +28,4 @@ pub use marks::{
     FaultMark, RefusalMark, Refused, fault_name, is_of, put_fault, put_refused, rule_letter,
     rule_of,
 };
+pub use words::Look;

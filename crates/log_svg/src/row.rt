@@ -7,6 +7,7 @@ ghost use Rattle.log_svg.specs.Svg.{is_seen, is_told, is_whole, last_in, row_tex
 ghost use Rattle.log_svg.specs.Svg.{thick_of, times_text, told_text, width_of, word_of};
 
 use crate::layout::{Layout, right_of, x_of};
+use crate::least::put_least;
 use crate::pieces::{begin_box, put_across, put_label, put_number_label};
 use log_chart::Span;
 use sig_io::{Draft, Sink};
@@ -111,17 +112,28 @@ fn put_seconds<O: Sink>(
     }
 }
 
-// Puts the seconds of a green, where they are told.
-fn put_told<O: Sink>(draft: &mut Draft, sink: &mut O, layout: Layout, y: u32, span: &Span<Aspect>)
+// Puts the minimum and the seconds of a green, where they are told.
+fn put_told<O: Sink>(
+    draft: &mut Draft,
+    sink: &mut O,
+    layout: Layout,
+    y: u32,
+    minimum: u32,
+    span: &Span<Aspect>,
+)
     requires layout { IsLayout layout }
+    requires minimum { minimum ≤ 255 }
     requires span { IsSeen layout span.now }
     requires y { y ≤ 100000 }
-    ensures { Puts O.taken O.faults draft.old draft.new sink.old sink.new (told_text layout y span.now span.now.shown) }
+    ensures { Puts O.taken O.faults draft.old draft.new sink.old sink.new (told_text layout y minimum span.now span.now.shown) }
 {
     match span.shown {
         Aspect::Red => {}
         Aspect::RedAmber => {}
-        Aspect::Green => put_seconds(draft, sink, layout, y, span),
+        Aspect::Green => {
+            put_least(draft, sink, layout, y, minimum, span);
+            put_seconds(draft, sink, layout, y, span);
+        }
         Aspect::Amber => {}
     }
 }
@@ -257,13 +269,15 @@ fn put_span<O: Sink>(
     layout: Layout,
     y: u32,
     name: &[u8],
+    minimum: u32,
     span: &Span<Aspect>,
 )
     requires layout { IsLayout layout }
+    requires minimum { minimum ≤ 255 }
     requires name { length name.now ≤ 32 }
     requires span { IsSeen layout span.now }
     requires y { y ≤ 100000 }
-    ensures { Puts O.taken O.faults draft.old draft.new sink.old sink.new (span_text layout y name.now span.now) }
+    ensures { Puts O.taken O.faults draft.old draft.new sink.old sink.new (span_text layout y name.now minimum span.now) }
 {
     let x = begin_of(layout, span);
     let width = width_of(layout, span);
@@ -278,7 +292,7 @@ fn put_span<O: Sink>(
         thick,
     );
     put_title(draft, sink, layout, name, span);
-    put_told(draft, sink, layout, y, span);
+    put_told(draft, sink, layout, y, minimum, span);
 }
 
 // Puts a span that has some of the strip's seconds.
@@ -288,15 +302,17 @@ fn put_seen<O: Sink>(
     layout: Layout,
     y: u32,
     name: &[u8],
+    minimum: u32,
     span: &Span<Aspect>,
 )
     requires layout { IsLayout layout }
+    requires minimum { minimum ≤ 255 }
     requires name { length name.now ≤ 32 }
     requires y { y ≤ 100000 }
-    ensures { Puts O.taken O.faults draft.old draft.new sink.old sink.new (seen_text layout y name.now span.now) }
+    ensures { Puts O.taken O.faults draft.old draft.new sink.old sink.new (seen_text layout y name.now minimum span.now) }
 {
     if is_seen(layout, span) {
-        put_span(draft, sink, layout, y, name, span);
+        put_span(draft, sink, layout, y, name, minimum, span);
     }
 }
 
@@ -307,15 +323,17 @@ fn put_row<O: Sink>(
     layout: Layout,
     y: u32,
     name: &[u8],
+    minimum: u32,
     spans: &[Span<Aspect>],
 )
     requires layout { IsLayout layout }
+    requires minimum { minimum ≤ 255 }
     requires name { length name.now ≤ 32 }
     requires y { y ≤ 100000 }
-    ensures { Puts O.taken O.faults draft.old draft.new sink.old sink.new (row_text layout y name.now spans.now) }
+    ensures { Puts O.taken O.faults draft.old draft.new sink.old sink.new (row_text layout y name.now minimum spans.now) }
 {
     for span in spans {
-        put_seen(draft, sink, layout, y, name, span);
+        put_seen(draft, sink, layout, y, name, minimum, span);
     }
 }
 
@@ -326,14 +344,16 @@ pub fn put_group<O: Sink>(
     layout: Layout,
     y: u32,
     name: &[u8],
+    minimum: u32,
     spans: &[Span<Aspect>],
 )
     requires layout { IsLayout layout }
+    requires minimum { minimum ≤ 255 }
     requires name { length name.now ≤ 32 }
     requires y { y ≤ 100000 }
-    ensures { Puts O.taken O.faults draft.old draft.new sink.old sink.new (group_text layout y name.now spans.now) }
+    ensures { Puts O.taken O.faults draft.old draft.new sink.old sink.new (group_text layout y name.now minimum spans.now) }
 {
     put_label(draft, sink, b"n", layout.left - 12, y + 15, name);
-    put_row(draft, sink, layout, y, name, spans);
+    put_row(draft, sink, layout, y, name, minimum, spans);
     put_across(draft, sink, y + 20, right_of(layout));
 }

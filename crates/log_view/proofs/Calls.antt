@@ -8,7 +8,9 @@ use Rattle.log_view.specs.declared.form.Window.{Window}
 use Rattle.log_view.specs.declared.stop.Stop.{Stop}
 use Rattle.log_view.specs.declared.stop.Stop.TheVariants.{Memory, Words, TooManySeconds, ReadFault, WriteFault, Line, LogEnds}
 use Rattle.log_view.specs.Call.{IsAnswered, IsStopped, IsTextOf, IsWritten}
-use Rattle.log_view.specs.Form.{Asked, Diagram, Help, Text, Version, form_of, strip_by, strip_form, strip_of, strips_form, window_from, window_of, window_to, with_window}
+use Rattle.log_view.specs.Form.{Asked, Help, Version, diagram_form, form_of, letters_form, look_form, text_form, window_from, window_of, window_to}
+use Rattle.log_view.specs.Look.{look_of}
+use Rattle.log_svg.specs.Words.{Looked}
 
 -- a text that is asked for, and is written
 pub answered : (asked : Asked) (file : Contents) (text : List ℕ) (given : Result (Unit {0}) Stop) (old new : Option (List ℕ)) → IsTextOf asked file text → IsWritten text given old new →
@@ -42,25 +44,21 @@ by_to : (to : List ℕ) (from : Option ℕ) → IsByWords (window_to to from)
 by_to to None = tt
 by_to to (Some from) = by_from from (within from 604801 (number_of to))
 
-by_window : (make : Window → Asked) (window : Result Window Stop) → IsByWords window → IsByWords (with_window make window)
-by_window make (Ok window) is = tt
-by_window make (Err stop) is = is
+by_look : (log : List ℕ) (window : Window) (look : Option Looked) → IsByWords (look_form log window look)
+by_look log window None = tt
+by_look log window (Some look) = tt
 
-by_strip : (log : List ℕ) (window : Window) (strip : Result ℕ Stop) → IsByWords strip → IsByWords (strip_form log window strip)
-by_strip log window (Ok strip) is = tt
-by_strip log window (Err stop) is = is
+by_diagram : (log : List ℕ) (window : Result Window Stop) (look : Option Looked) → IsByWords window → IsByWords (diagram_form log window look)
+by_diagram log (Err stop) look is = is
+by_diagram log (Ok window) look is = by_look log window look
 
-by_strips : (log : List ℕ) (window : Result Window Stop) (strip : Result ℕ Stop) → IsByWords window → IsByWords strip → IsByWords (strips_form log window strip)
-by_strips log (Ok window) strip is of_strip = by_strip log window strip of_strip
-by_strips log (Err stop) strip is of_strip = is
+by_letters : (log : List ℕ) (window : Window) (rest : List (List ℕ)) → IsByWords (letters_form log window rest)
+by_letters log window [] = tt
+by_letters log window (word ∷ rest) = tt
 
-strip_said : (strip : Option ℕ) → IsByWords (strip_by strip)
-strip_said None = tt
-strip_said (Some strip) = tt
-
-by_option : (option value : List ℕ) → IsByWords (strip_of option value)
-by_option option value =
-    chosen (bytes_eq option (codes "--strip")) (strip_by (within 30 600 (number_of value))) (Err Words) (strip_said (within 30 600 (number_of value))) tt
+by_text : (log : List ℕ) (window : Result Window Stop) (rest : List (List ℕ)) → IsByWords window → IsByWords (text_form log window rest)
+by_text log (Err stop) rest is = is
+by_text log (Ok window) rest is = by_letters log window rest
 
 pub by_words : (words : List (List ℕ)) → IsByWords (form_of words)
 by_words [] = tt
@@ -68,14 +66,9 @@ by_words (a ∷ []) = chosen (bytes_eq a (codes "--help")) (Ok Help) (if bytes_e
     (chosen (bytes_eq a (codes "--version")) (Ok Version) (Err Words) tt tt)
 by_words (a ∷ b ∷ []) = tt
 by_words (a ∷ b ∷ c ∷ []) = tt
-by_words (a ∷ b ∷ c ∷ d ∷ []) =
+by_words (a ∷ b ∷ c ∷ d ∷ rest) =
     let window = by_to d (within 1 604801 (number_of c)) in
-    chosen (bytes_eq a (codes "diagram")) (with_window (λ w. Diagram b w 120) (window_of c d)) (if bytes_eq a (codes "text") then with_window (Text b) (window_of c d) else Err Words)
-    (by_window (λ w. Diagram b w 120) (window_of c d) window)
-    (chosen (bytes_eq a (codes "text")) (with_window (Text b) (window_of c d)) (Err Words) (by_window (Text b) (window_of c d) window) tt)
-by_words (a ∷ b ∷ c ∷ d ∷ e ∷ []) = tt
-by_words (a ∷ b ∷ c ∷ d ∷ e ∷ f ∷ []) =
-    let window = by_to d (within 1 604801 (number_of c)) in
-    chosen (bytes_eq a (codes "diagram")) (strips_form b (window_of c d) (strip_of e f)) (Err Words)
-    (by_strips b (window_of c d) (strip_of e f) window (by_option e f)) tt
-by_words (a ∷ b ∷ c ∷ d ∷ e ∷ f ∷ g ∷ words) = tt
+    chosen (bytes_eq a (codes "diagram")) (diagram_form b (window_of c d) (look_of rest))
+    (if bytes_eq a (codes "text") then text_form b (window_of c d) rest else Err Words)
+    (by_diagram b (window_of c d) (look_of rest) window)
+    (chosen (bytes_eq a (codes "text")) (text_form b (window_of c d) rest) (Err Words) (by_text b (window_of c d) rest window) tt)

@@ -6,6 +6,7 @@ pub mod Showable
 pub mod Reading
 pub mod Blocks
 pub mod Calls
+pub mod Options
 pub mod NoteTexts
 pub mod NumberTexts
 pub mod CutTexts

@@ -12,5 +12,5 @@ end_note a log t n e = grind (arith, append_assoc, append-nil)
 pub line_note : (a log c n b r e : List ℕ) → a ++ (log ++ (c ++ (n ++ (b ++ (r ++ (e ++ [])))))) ≡ a ++ (log ++ c ++ n ++ b ++ r) ++ e
 line_note a log c n b r e = grind (arith, append_assoc, append-nil)
 
-pub words_note : (a w f h e : List ℕ) → (a ++ w) ++ (f ++ ((h ++ e) ++ [])) ≡ a ++ (w ++ (f ++ h)) ++ e
-words_note a w f h e = grind (arith, append_assoc, append-nil)
+pub words_note : (a w f l h e : List ℕ) → (a ++ w) ++ (f ++ (l ++ ((h ++ e) ++ []))) ≡ a ++ (w ++ (f ++ l ++ h)) ++ e
+words_note a w f l h e = grind (arith, append_assoc, append-nil)

@@ -23,7 +23,7 @@ use Rattle.log_view.specs.Notes.{status_of, stop_note}
 unfoldable pub usage_text : List ℕ
 usage_text =
     form_words name.Diagram
-    ++ codes "\n                                 an SVG signal timing diagram of these seconds, at most 3600, in strips of N (120)\n"
+    ++ codes "\n                                 an SVG signal timing diagram of these seconds, at most 3600, in strips of N (120); second 1 is at HH:MM:SS\n"
     ++ form_words name.Text
     ++ codes "      the same as characters\n"
     ++ form_words name.Sums
@@ -41,14 +41,14 @@ version_text = codes "log_report 0.1.0\n"
 abbrev pub IsTextOf : Asked → Contents → List ℕ → Type 0
 IsTextOf Help file text = text ≡ usage_text
 IsTextOf Version file text = text ≡ version_text
-IsTextOf (Diagram log window strip) file text = (d : Drawn) × IsDiagramOf (file log) window d × (text ≡ diagram_text (shown_in d) strip)
+IsTextOf (Diagram log window look) file text = (d : Drawn) × IsDiagramOf (file log) window d × (text ≡ diagram_text (shown_in d) look)
 IsTextOf (Text log window) file text = (d : Drawn) × IsDiagramOf (file log) window d × (text ≡ letters_text (shown_in d))
 
 -- why there is no such text
 abbrev pub HasNoText : Asked → Contents → Stop → Type 0
 HasNoText Help file stop = ⊥
 HasNoText Version file stop = ⊥
-HasNoText (Diagram log window strip) file stop = IsUndrawn (file log) window.to stop
+HasNoText (Diagram log window look) file stop = IsUndrawn (file log) window.to stop
 HasNoText (Text log window) file stop = IsUndrawn (file log) window.to stop
 
 -- a sink has taken the text, or only its first bytes, and failed

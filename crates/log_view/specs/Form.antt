@@ -2,9 +2,11 @@
 use Rattle.std.specs.Prelude.{ℕ, ◌+◌, ◌<◌, ◌≤◌, List, [], ◌∷◌, codes, Option, None, Some, Result, Ok, Err, if◌then◌else◌, nat_lt}
 use Rattle.std.specs.Str.{bytes_eq}
 use Rattle.sig_types.specs.Text.{number_of, within}
+use Rattle.log_svg.specs.Words.{Looked}
 use Rattle.log_view.specs.declared.form.Window.{Window}
 use Rattle.log_view.specs.declared.stop.Stop.{Stop}
 use Rattle.log_view.specs.declared.stop.Stop.TheVariants.{Words, TooManySeconds}
+use Rattle.log_view.specs.Look.{look_of}
 
 -- 1 to 3,600 seconds of a log, of which the longest has 604,801
 pub record IsWindow (window : Window) : Type 0 where
@@ -13,11 +15,11 @@ pub record IsWindow (window : Window) : Type 0 where
   pub hour : window.to < window.from + 3600
   pub last : window.to ≤ 604801
 
--- what is asked for: the usage, the version, a picture of some seconds of a log in strips of so many, or the same as characters
+-- what is asked for: the usage, the version, a picture of some seconds of a log that is to look so, or the same as characters
 pub data Asked : Type 0 where
   Help : Asked
   Version : Asked
-  Diagram : (log : List ℕ) (window : Window) (strip : ℕ) → Asked
+  Diagram : (log : List ℕ) (window : Window) (look : Looked) → Asked
   Text : (log : List ℕ) (window : Window) → Asked
 
 -- at most 3,600 seconds
@@ -38,48 +40,41 @@ window_to to (Some from) = window_from from (within from 604801 (number_of to))
 abbrev pub window_of : List ℕ → List ℕ → Result Window Stop
 window_of from to = window_to to (within 1 604801 (number_of from))
 
--- what is asked of a window, where there is one
-abbrev pub with_window : (Window → Asked) → Result Window Stop → Result Asked Stop
-with_window make (Ok window) = Ok (make window)
-with_window make (Err stop) = Err stop
-
 -- --help and --version
 abbrev pub lone_form : List ℕ → Result Asked Stop
 lone_form word =
     if bytes_eq word (codes "--help") then Ok Help else (if bytes_eq word (codes "--version") then Ok Version else Err Words)
 
--- diagram LOG FROM TO and text LOG FROM TO; a strip has 120 seconds where no word says it
-abbrev pub window_form : List ℕ → List ℕ → Result Window Stop → Result Asked Stop
-window_form word log window =
-    if bytes_eq word (codes "diagram") then with_window (λ w. Diagram log w 120) window
-    else (if bytes_eq word (codes "text") then with_window (Text log) window else Err Words)
+-- a diagram of these seconds that is to look so
+abbrev pub look_form : List ℕ → Window → Option Looked → Result Asked Stop
+look_form log window None = Err Words
+look_form log window (Some look) = Ok (Diagram log window look)
 
--- how many seconds a strip is to have, where that is a number
-abbrev pub strip_by : Option ℕ → Result ℕ Stop
-strip_by None = Err Words
-strip_by (Some strip) = Ok strip
+-- the same, where the seconds may be wrong
+abbrev pub diagram_form : List ℕ → Result Window Stop → Option Looked → Result Asked Stop
+diagram_form log (Err stop) look = Err stop
+diagram_form log (Ok window) look = look_form log window look
 
--- --strip N
-abbrev pub strip_of : List ℕ → List ℕ → Result ℕ Stop
-strip_of option value = if bytes_eq option (codes "--strip") then strip_by (within 30 600 (number_of value)) else Err Words
+-- characters of these seconds, where nothing follows
+abbrev pub letters_form : List ℕ → Window → List (List ℕ) → Result Asked Stop
+letters_form log window [] = Ok (Text log window)
+letters_form log window (word ∷ rest) = Err Words
 
--- a diagram in strips of so many seconds
-abbrev pub strip_form : List ℕ → Window → Result ℕ Stop → Result Asked Stop
-strip_form log window (Ok strip) = Ok (Diagram log window strip)
-strip_form log window (Err stop) = Err stop
+-- the same, where the seconds may be wrong
+abbrev pub text_form : List ℕ → Result Window Stop → List (List ℕ) → Result Asked Stop
+text_form log (Err stop) rest = Err stop
+text_form log (Ok window) rest = letters_form log window rest
 
--- a diagram of these seconds in such strips
-abbrev pub strips_form : List ℕ → Result Window Stop → Result ℕ Stop → Result Asked Stop
-strips_form log (Ok window) strip = strip_form log window strip
-strips_form log (Err stop) strip = Err stop
+-- diagram LOG FROM TO and how it is to look, and text LOG FROM TO
+abbrev pub window_form : List ℕ → List ℕ → Result Window Stop → List (List ℕ) → Result Asked Stop
+window_form word log window rest =
+    if bytes_eq word (codes "diagram") then diagram_form log window (look_of rest)
+    else (if bytes_eq word (codes "text") then text_form log window rest else Err Words)
 
--- diagram LOG FROM TO --strip N
-abbrev pub option_form : List ℕ → List ℕ → Result Window Stop → Result ℕ Stop → Result Asked Stop
-option_form word log window strip = if bytes_eq word (codes "diagram") then strips_form log window strip else Err Words
-
--- --help, --version, diagram LOG FROM TO [--strip N], text LOG FROM TO
+-- --help, --version, diagram LOG FROM TO [--strip N] [--title TEXT] [--begin HH:MM:SS], text LOG FROM TO
 abbrev pub form_of : List (List ℕ) → Result Asked Stop
+form_of [] = Err Words
 form_of (word ∷ []) = lone_form word
-form_of (word ∷ log ∷ from ∷ to ∷ []) = window_form word log (window_of from to)
-form_of (word ∷ log ∷ from ∷ to ∷ option ∷ value ∷ []) = option_form word log (window_of from to) (strip_of option value)
-form_of _ = Err Words
+form_of (word ∷ log ∷ []) = Err Words
+form_of (word ∷ log ∷ from ∷ []) = Err Words
+form_of (word ∷ log ∷ from ∷ to ∷ rest) = window_form word log (window_of from to) rest

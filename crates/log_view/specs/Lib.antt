@@ -1,3 +1,4 @@
+pub mod Look
 pub mod Form
 pub mod Asked
 pub mod Named

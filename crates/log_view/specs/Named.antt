@@ -6,9 +6,15 @@ use Rattle.log_view.specs.declared.named.FormName.TheVariants.{Diagram, Text, Su
 
 -- how a form is written
 abbrev pub form_words : FormName → List ℕ
-form_words Diagram = codes "log_report diagram LOG FROM TO [--strip N]"
+form_words Diagram = codes "log_report diagram LOG FROM TO [--strip N] [--title TEXT] [--begin HH:MM:SS]"
 form_words Text = codes "log_report text LOG FROM TO"
 form_words Sums = codes "log_report sums LOG [FROM TO] [--each SECONDS] [--serves DETECTORS:GROUP] [--csv]"
+
+-- what its words may be, as the note on words that are no form tells it
+abbrev pub form_limits : FormName → List ℕ
+form_limits Diagram = codes ", with N from 30 to 600, TEXT of 1 to 80 bytes without control characters, and HH:MM:SS up to 23:59:59"
+form_limits Text = []
+form_limits Sums = []
 
 -- the form with this first word
 abbrev pub form_called : List ℕ → Option FormName

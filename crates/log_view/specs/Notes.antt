@@ -10,7 +10,7 @@ use Rattle.log_view.specs.declared.stop.Status.{Status}
 use Rattle.log_view.specs.declared.stop.Status.TheVariants as status
 use Rattle.log_view.specs.declared.stop.Stop.{Stop}
 use Rattle.log_view.specs.declared.stop.Stop.TheVariants.{Memory, Words, TooManySeconds, ReadFault, WriteFault, Line, LogEnds}
-use Rattle.log_view.specs.Named.{form_begun, form_words, log_named}
+use Rattle.log_view.specs.Named.{form_begun, form_limits, form_words, log_named}
 
 -- how a call ends that stopped so
 abbrev pub status_of : Stop → Status
@@ -50,10 +50,10 @@ reason_name why.Fault = codes "Fault"
 reason_name why.LineTooLong = codes "LineTooLong"
 reason_name why.TooManySeconds = codes "TooManySeconds"
 
--- what would be words of a form: those of the form that is begun, and else what the usage tells
+-- what would be words of a form: those of the form that is begun, with what they may be, and else what the usage tells
 abbrev pub right_words : Option FormName → List ℕ
 right_words None = codes "see log_report --help"
-right_words (Some form) = form_words form ++ codes ", or --help"
+right_words (Some form) = form_words form ++ form_limits form ++ codes ", or --help"
 
 -- what the note says of a stop of a call with these words: of a log that wasn't read to its end, its name
 abbrev pub stop_words : List (List ℕ) → Stop → List ℕ

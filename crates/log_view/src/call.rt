@@ -4,7 +4,9 @@ ghost use Rattle.std.specs.Option.{ForSome};
 ghost use Rattle.sig_io.specs.Draft.{IsDraft, Puts};
 ghost use Rattle.sig_io.specs.Outside.{Rose};
 ghost use Rattle.sig_io.specs.Seen.{seen};
-ghost use Rattle.log_svg.specs.Diagram.{IsShowable, IsStrip, diagram_text};
+ghost use Rattle.log_svg.specs.Diagram.{IsShowable, diagram_text};
+ghost use Rattle.log_svg.specs.LookIn.{look_in};
+ghost use Rattle.log_svg.specs.Words.{IsLook};
 ghost use Rattle.log_svg.specs.ShownIn.{shown_in};
 ghost use Rattle.log_view.specs.Asked.{IsInOrder, asked_in};
 ghost use Rattle.log_view.specs.Call.{IsAnswered, IsReported, IsWritten, usage_text, version_text};
@@ -16,7 +18,7 @@ use crate::gathering::gather;
 use crate::letters::put_text;
 use crate::named::{FormName, form_words};
 use crate::stop::{Status, Stop, status_of, write_stop};
-use log_svg::{Diagram, put_diagram};
+use log_svg::{Diagram, Look, put_diagram};
 use sig_io::{Draft, Files, Sink};
 use std::alloc::Global;
 
@@ -28,7 +30,7 @@ fn put_usage<O: Sink>(draft: &mut Draft, sink: &mut O)
     draft.put(sink, form_words(FormName::Diagram));
     draft.put(
         sink,
-        b"\n                                 an SVG signal timing diagram of these seconds, at most 3600, in strips of N (120)\n",
+        b"\n                                 an SVG signal timing diagram of these seconds, at most 3600, in strips of N (120); second 1 is at HH:MM:SS\n",
     );
     draft.put(sink, form_words(FormName::Text));
     draft.put(sink, b"      the same as characters\n");
@@ -92,15 +94,15 @@ fn write_version<O: Sink>(out: &mut O) -> Result<(), Stop>
 }
 
 // Writes a diagram.
-fn write_diagram<O: Sink>(diagram: &Diagram, strip: u32, out: &mut O) -> Result<(), Stop>
+fn write_diagram<O: Sink>(diagram: &Diagram, look: Look<'_>, out: &mut O) -> Result<(), Stop>
     requires diagram { IsShowable (shown_in diagram.now) }
-    requires strip { IsStrip strip }
-    ensures written { IsWritten (diagram_text (shown_in diagram.now) strip) result (O.taken out.old) (O.taken out.new) }
+    requires look { IsLook (look_in look) }
+    ensures written { IsWritten (diagram_text (shown_in diagram.now) (look_in look.entry)) result (O.taken out.old) (O.taken out.new) }
     ensures stop { IfErr result (λ stop. stop ≡ Stop.WriteFault) }
     ensures cause { OnErr result (Rose (O.faults out.old) (O.faults out.new)) }
 {
     let mut draft = Draft::new();
-    put_diagram(&mut draft, out, diagram, strip);
+    put_diagram(&mut draft, out, diagram, look);
     end(draft, out)
 }
 
@@ -134,8 +136,8 @@ fn do_form<F: Files, O: Sink>(
     match form {
         Form::Help => write_usage(out),
         Form::Version => write_version(out),
-        Form::Diagram(log, window, strip) => match gather(alloc, files, log, window) {
-            Ok(diagram) => write_diagram(&diagram, strip, out),
+        Form::Diagram(log, window, look) => match gather(alloc, files, log, window) {
+            Ok(diagram) => write_diagram(&diagram, look, out),
             Err(stop) => Err(stop),
         },
         Form::Text(log, window) => match gather(alloc, files, log, window) {
@@ -147,7 +149,8 @@ fn do_form<F: Files, O: Sink>(
 
 /// Does what the words of the command line after the program's name say, and tells in a note why it stopped where it did.
 ///
-/// - `diagram LOG FROM TO [--strip N]` writes an SVG signal timing diagram of 1 to 3,600 seconds of a log, in strips of N seconds.
+/// - `diagram LOG FROM TO` writes an SVG signal timing diagram of 1 to 3,600 seconds of a log, with `--strip N` in strips of N
+///   seconds, with `--title TEXT` with a title, and with `--begin HH:MM:SS` with the time of the day, at which second 1 begins.
 /// - `text LOG FROM TO` writes the same as characters.
 /// - `--help` and `--version` write how it is called, and the version.
 ///

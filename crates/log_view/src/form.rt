@@ -1,17 +1,16 @@
 // The words of a call.
 ghost use Rattle.std.specs.Prelude.{◌≡◌, ◌+◌, ◌<◌, ◌≤◌, IfOk, map, string_bytes};
 ghost use Rattle.log_view.specs.Asked.{IsInOrder, asked_by};
-ghost use Rattle.log_svg.specs.Diagram.{IsStrip};
-ghost use Rattle.log_view.specs.Form.{IsWindow, form_of, lone_form, option_form, strip_form, strip_of, window_form, window_of};
+ghost use Rattle.log_view.specs.Form.{IsWindow, form_of, letters_form, lone_form, look_form, window_form, window_of};
+ghost use Rattle.log_view.specs.Look.{look_of};
 
+use crate::look::look_of;
 use crate::stop::Stop;
+use log_svg::Look;
 use sig_types::text::number;
 
 // The most seconds of a diagram.
 const MOST: u32 = 3600;
-
-// How many seconds a strip of a diagram has, where no word says it.
-const STRIP: u32 = 120;
 
 // The last second that a log can have.
 const LAST: u32 = 604_801;
@@ -32,8 +31,8 @@ pub enum Form<'a> {
     Help,
     /// Which version it is.
     Version,
-    /// A signal timing diagram of these seconds, in strips of so many.
-    Diagram(&'a str, Window, u32),
+    /// A signal timing diagram of these seconds, which is to look so.
+    Diagram(&'a str, Window, Look<'a>),
     /// The same as characters.
     Text(&'a str, Window),
 }
@@ -69,69 +68,49 @@ fn lone_form(word: &str) -> Result<Form<'_>, Stop>
     }
 }
 
-// How many seconds a strip is to have.
-fn strip_of(option: &str, value: &str) -> Result<u32, Stop>
-    ensures strip { result ≡ strip_of option.now value.now }
-    ensures order { IfOk result IsStrip }
-{
-    if option == "--strip" {
-        match number(value.as_bytes(), 30, 600) {
-            Some(strip) => Ok(strip),
-            None => Err(Stop::Words),
-        }
-    } else {
-        Err(Stop::Words)
-    }
-}
-
-// A diagram in strips of so many seconds.
-fn strip_form<'a>(log: &'a str, window: Window, strip: Result<u32, Stop>) -> Result<Form<'a>, Stop>
-    requires window { IsWindow window }
-    requires strip { IfOk strip IsStrip }
-    ensures form { asked_by result ≡ strip_form log.now window strip }
+// A diagram of these seconds, and how it is to look.
+fn look_form<'a>(log: &'a str, window: Window, rest: &'a [String]) -> Result<Form<'a>, Stop>
+    requires { IsWindow window }
+    ensures form { asked_by result ≡ look_form log.now window (look_of (map string_bytes rest.now)) }
     ensures order { IfOk result IsInOrder }
 {
-    match strip {
-        Ok(strip) => Ok(Form::Diagram(log, window, strip)),
-        Err(stop) => Err(stop),
+    match look_of(rest) {
+        Some(look) => Ok(Form::Diagram(log, window, look)),
+        None => Err(Stop::Words),
     }
 }
 
-// diagram LOG FROM TO --strip N
-fn option_form<'a>(
+// Characters of these seconds, where nothing follows.
+fn letters_form<'a>(log: &'a str, window: Window, rest: &[String]) -> Result<Form<'a>, Stop>
+    requires { IsWindow window }
+    ensures form { asked_by result ≡ letters_form log.now window (map string_bytes rest.now) }
+    ensures order { IfOk result IsInOrder }
+{
+    match rest {
+        [] => Ok(Form::Text(log, window)),
+        [_, ..] => Err(Stop::Words),
+    }
+}
+
+// `diagram LOG FROM TO` and how it is to look, and `text LOG FROM TO`.
+fn window_form<'a>(
     word: &str,
     log: &'a str,
     from: &str,
     to: &str,
-    option: &str,
-    value: &str,
+    rest: &'a [String],
 ) -> Result<Form<'a>, Stop>
-    ensures form { asked_by result ≡ option_form word.now log.now (window_of from.now to.now) (strip_of option.now value.now) }
+    ensures form { asked_by result ≡ window_form word.now log.now (window_of from.now to.now) (map string_bytes rest.now) }
     ensures order { IfOk result IsInOrder }
 {
     if word == "diagram" {
         match window_of(from, to) {
-            Ok(window) => strip_form(log, window, strip_of(option, value)),
-            Err(stop) => Err(stop),
-        }
-    } else {
-        Err(Stop::Words)
-    }
-}
-
-// diagram LOG FROM TO and text LOG FROM TO
-fn window_form<'a>(word: &str, log: &'a str, from: &str, to: &str) -> Result<Form<'a>, Stop>
-    ensures form { asked_by result ≡ window_form word.now log.now (window_of from.now to.now) }
-    ensures order { IfOk result IsInOrder }
-{
-    if word == "diagram" {
-        match window_of(from, to) {
-            Ok(window) => Ok(Form::Diagram(log, window, STRIP)),
+            Ok(window) => look_form(log, window, rest),
             Err(stop) => Err(stop),
         }
     } else if word == "text" {
         match window_of(from, to) {
-            Ok(window) => Ok(Form::Text(log, window)),
+            Ok(window) => letters_form(log, window, rest),
             Err(stop) => Err(stop),
         }
     } else {
@@ -145,18 +124,16 @@ pub fn form_of(words: &[String]) -> Result<Form<'_>, Stop>
     ensures order { IfOk result IsInOrder }
 {
     match words {
+        [] => Err(Stop::Words),
         [word] => lone_form(word.as_str()),
-        [word, log, from, to] => {
-            window_form(word.as_str(), log.as_str(), from.as_str(), to.as_str())
-        }
-        [word, log, from, to, option, value] => option_form(
+        [_, _] => Err(Stop::Words),
+        [_, _, _] => Err(Stop::Words),
+        [word, log, from, to, rest @ ..] => window_form(
             word.as_str(),
             log.as_str(),
             from.as_str(),
             to.as_str(),
-            option.as_str(),
-            value.as_str(),
+            rest,
         ),
-        _ => Err(Stop::Words),
     }
 }

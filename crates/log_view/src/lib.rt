@@ -8,6 +8,7 @@ mod form;
 mod gathering;
 mod laws;
 mod letters;
+mod look;
 mod named;
 mod stop;
 

@@ -1,6 +1,6 @@
 // The forms that read one log, by their first word, and the log that the words of a call name.
 ghost use Rattle.std.specs.Prelude.{◌≡◌, map, string_bytes};
-ghost use Rattle.log_view.specs.Named.{form_begun, form_called, form_words, log_named};
+ghost use Rattle.log_view.specs.Named.{form_begun, form_called, form_limits, form_words, log_named};
 
 /// A form of a call that reads one log, by its first word.
 #[derive(Clone, Copy, Debug, PartialEq, Eq)]
@@ -18,10 +18,23 @@ pub fn form_words(form: FormName) -> &'static [u8]
     ensures { result.now ≡ form_words form }
 {
     match form {
-        FormName::Diagram => b"log_report diagram LOG FROM TO [--strip N]",
+        FormName::Diagram =>
+            b"log_report diagram LOG FROM TO [--strip N] [--title TEXT] [--begin HH:MM:SS]",
         FormName::Text => b"log_report text LOG FROM TO",
         FormName::Sums =>
             b"log_report sums LOG [FROM TO] [--each SECONDS] [--serves DETECTORS:GROUP] [--csv]",
+    }
+}
+
+/// What the words of a form may be, as the note on words that are no form tells it.
+pub(crate) fn form_limits(form: FormName) -> &'static [u8]
+    ensures { result.now ≡ form_limits form }
+{
+    match form {
+        FormName::Diagram =>
+            b", with N from 30 to 600, TEXT of 1 to 80 bytes without control characters, and HH:MM:SS up to 23:59:59",
+        FormName::Text => b"",
+        FormName::Sums => b"",
     }
 }
 

@@ -6,7 +6,7 @@ ghost use Rattle.std.specs.List.{flat_map};
 ghost use Rattle.sig_io.specs.Outside.{Rose};
 ghost use Rattle.log_view.specs.Notes.{exit_number, note_of, reason_name, right_words, status_of, stop_note, stop_of};
 
-use crate::named::{FormName, form_begun, form_words, log_named};
+use crate::named::{FormName, form_begun, form_limits, form_words, log_named};
 use itoa::Buffer;
 use log_records::{LogStop, LogWhy};
 use sig_io::{Sink, put_each};
@@ -121,7 +121,12 @@ fn write_words<N: Sink>(notes: &mut N, form: Option<FormName>)
     match form {
         Some(form) => write_pieces(
             notes,
-            &[b"log_report: Words: ", form_words(form), b", or --help\n"],
+            &[
+                b"log_report: Words: ",
+                form_words(form),
+                form_limits(form),
+                b", or --help\n",
+            ],
         ),
         None => write_pieces(notes, &[b"log_report: Words: see log_report --help\n"]),
     }

@@ -136,8 +136,8 @@ fn a_detector_is_covered(rt: HostRuntime) -> Result<(), Fail> {
     Ok(())
 }
 
-// 33 seconds of one group that is green from second 30 to 32.
-const LONGER: &str = "VAPLOG 1 K1\n\
+/// 33 seconds of one group that is green from second 30 to 32.
+pub(crate) const LONGER: &str = "VAPLOG 1 K1\n\
 1|S1|R|-|1-2:Running|-\n\
 2|S1|R|-|1-2:Running|-\n\
 3|S1|R|-|1-2:Running|-\n\
@@ -211,7 +211,8 @@ type Stopped = (&'static [&'static str], Status, &'static str);
 
 // Notes on words that are no form.
 const DIAGRAM_WORDS: &str =
-    "log_report: Words: log_report diagram LOG FROM TO [--strip N], or --help\n";
+    "log_report: Words: log_report diagram LOG FROM TO [--strip N] [--title TEXT] [--begin HH:MM:SS], \
+with N from 30 to 600, TEXT of 1 to 80 bytes without control characters, and HH:MM:SS up to 23:59:59, or --help\n";
 
 const TEXT_WORDS: &str = "log_report: Words: log_report text LOG FROM TO, or --help\n";
 
@@ -290,6 +291,47 @@ fn stops(rt: HostRuntime) -> Result<(), Fail> {
         assert_eq!(rt; told.status, *status);
         assert_eq!(rt; told.out.bytes().len(), 0);
         assert_eq!(rt; told.notes.bytes(), note.as_bytes());
+    }
+    Ok(())
+}
+
+// Options behind the seconds of a diagram that are none.
+const WRONG: [&[&str]; 18] = [
+    &["--strip"],
+    &["--strip", "601"],
+    &["--title"],
+    &["--title", ""],
+    &["--title", "a\tb"],
+    &["--title", "a\u{7f}b"],
+    &["--title", "\u{fffe}"],
+    &["--title", "\u{ffff}"],
+    &["--title", LONG],
+    &["--title", "A", "--title", "B"],
+    &["--title", "A", "--strip", "60"],
+    &["--begin", "24:00:00"],
+    &["--begin", "23:60:00"],
+    &["--begin", "23:59:60"],
+    &["--begin", "7:00"],
+    &["--begin", "07:00:0"],
+    &["--begin", "07-00-00"],
+    &["--begin", "07:00", "--title", "A"],
+];
+
+// A title of 81 bytes.
+const LONG: &str =
+    "123456789 123456789 123456789 123456789 123456789 123456789 123456789 123456789 1";
+
+#[test]
+fn wrong_options_of_a_diagram_are_told(rt: HostRuntime) -> Result<(), Fail> {
+    for options in &WRONG {
+        let mut words = vec![in rt.alloc(); "diagram", "l", "1", "6"]?;
+        for option in *options {
+            words.push(*option)?;
+        }
+        let told = call(rt.alloc(), &words, LOG)?;
+        assert_eq!(rt; told.status, Status::Words);
+        assert_eq!(rt; told.out.bytes().len(), 0);
+        assert_eq!(rt; told.notes.bytes(), DIAGRAM_WORDS.as_bytes());
     }
     Ok(())
 }

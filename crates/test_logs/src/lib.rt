@@ -9,3 +9,5 @@ mod charts;
 mod parts;
 #[cfg(test)]
 mod reasons;
+#[cfg(test)]
+mod titled;

@@ -5,4 +5,4 @@ use Rattle.log_svg.proofs.band.put_band.Given as goal
 
 abbrev pub invariant-loop-stay : goal.invariant-loop-stay
 invariant-loop-stay g l =
-    Puts g.O.Sink.taken g.O.Sink.faults l.fn.draft l.draft l.fn.sink l.sink (band_text l.layout (take l.stay-index l.stays))
+    Puts g.O.Sink.taken g.O.Sink.faults l.fn.draft l.draft l.fn.sink l.sink (band_text l.stages l.layout (take l.stay-index l.stays))

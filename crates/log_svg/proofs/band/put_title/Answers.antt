@@ -5,4 +5,4 @@ use Rattle.log_svg.proofs.band.put_title.Goals as goal
 pub returns : goal.returns
 unfolding stay_title
 returns g c =
-    then (then (then c.put.ensures c.put_place.ensures) c.put_times.ensures) c.put-2.ensures
+    then (then (then c.put.ensures c.put_named.ensures) c.put_times.ensures) c.put-2.ensures

@@ -1,5 +1,6 @@
 use Rattle.std.proofs.Common.{refl}
 use Rattle.log_svg.specs.Diagram.{diagram_text}
+use Rattle.log_svg.specs.LookIn.{look_in}
 use Rattle.log_svg.specs.ShownIn.{shown_in}
 use Rattle.log_view.specs.Form.{Diagram, Text}
 use Rattle.log_view.specs.Letters.{letters_text}
@@ -10,7 +11,7 @@ pub returns-in-Ok-clause-answered : goal.returns-in-Ok-clause-answered
 returns-in-Ok-clause-answered g c file told =
     let d = c.in-Ok.diagram in
     rw c.in-Diagram.is
-    (answered (Diagram c.in-Diagram.log.now c.in-Diagram.window c.in-Diagram.strip) file (diagram_text (shown_in d) c.in-Diagram.strip) c.write_diagram.result _ _
+    (answered (Diagram c.in-Diagram.log.now c.in-Diagram.window (look_in c.in-Diagram.look)) file (diagram_text (shown_in d) (look_in c.in-Diagram.look)) c.write_diagram.result _ _
     (d, c.in-Ok.ensures.gathering file told, refl) c.write_diagram.ensures.written)
 
 pub returns-in-Ok-gather-clause-answered : goal.returns-in-Ok-gather-clause-answered
