@@ -1,11 +1,12 @@
-//! Draws, sums and judges a log: `diagram LOG FROM TO` writes an SVG signal timing diagram of these seconds, `text LOG FROM TO` the
-//! same as characters, `sums LOG [FROM TO]` what groups, stages, refusals, faults and detectors add up to,
-//! `breaches LOG PUA TIMES INTERGREENS` what the log of any controller breaks of the rules of a junction,
+//! Draws, sums, compares and judges logs: `diagram LOG FROM TO` writes an SVG signal timing diagram of these seconds, `text LOG FROM TO` the
+//! same as characters, `sums LOG [FROM TO]` what groups, stages, refusals, faults and detectors add up to, `compare LOG LOG` where
+//! two logs differ first and the sums of both, `breaches LOG PUA TIMES INTERGREENS` what the log of any controller breaks of the rules of a junction,
 //! `protocol LOG PUA TIMES INTERGREENS` what came in it, and `refusals LOG PUA TIMES INTERGREENS` why commands and turns were
 //! refused.
 #![tactic(auto)]
 
 use breach_view::report_breaches;
+use compare_view::report_compare;
 use log_view::{Status, Stop, exit_status, report, write_stop};
 use protocol_view::report_protocol;
 use refusal_view::report_refusals;
@@ -46,6 +47,9 @@ fn answer<F: Files, O: Sink, N: Sink>(
         }
         Some(word) if word.as_str() == "refusals" => {
             judge_notes::exit_status(report_refusals(alloc, words, files, out, notes))
+        }
+        Some(word) if word.as_str() == "compare" => {
+            judge_notes::exit_status(report_compare(alloc, words, files, out, notes))
         }
         _ => exit_status(report(alloc, words, files, out, notes)),
     }

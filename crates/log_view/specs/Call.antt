@@ -28,6 +28,7 @@ usage_text =
     ++ codes "      the same as characters\n"
     ++ form_words name.Sums
     ++ codes "\n                                 what groups, stages, refusals, faults and detectors add up to, in parts of so many seconds\n"
+    ++ codes "log_report compare LOG LOG       where two logs differ first, and what both add up to\n"
     ++ codes "log_report breaches LOG PUA TIMES INTERGREENS [--amber-tolerance N] [--csv]\n                                 each breach of the rules by any controller, in words or as a table\n"
     ++ codes "log_report protocol LOG PUA TIMES INTERGREENS [--csv]\n                                 what came in the log of any controller, beside what the tables say\n"
     ++ codes "log_report refusals LOG PUA TIMES INTERGREENS [FROM TO] [--csv]\n                                 why each command and each turn was refused, in numbers\n"

@@ -41,6 +41,10 @@ fn put_usage<O: Sink>(draft: &mut Draft, sink: &mut O)
     );
     draft.put(
         sink,
+        b"log_report compare LOG LOG       where two logs differ first, and what both add up to\n",
+    );
+    draft.put(
+        sink,
         b"log_report breaches LOG PUA TIMES INTERGREENS [--amber-tolerance N] [--csv]\n                                 each breach of the rules by any controller, in words or as a table\n",
     );
     draft.put(

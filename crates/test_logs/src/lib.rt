@@ -6,6 +6,8 @@ mod calls;
 #[cfg(test)]
 mod charts;
 #[cfg(test)]
+mod comparing;
+#[cfg(test)]
 mod parts;
 #[cfg(test)]
 mod reasons;

@@ -8,4 +8,4 @@ returns g c =
     let diagram = rw c.form_words.ensures at c.put.ensures in
     let text = rw c.form_words-2.ensures at c.put-3.ensures in
     let sums = rw c.form_words-3.ensures at c.put-5.ensures in
-    then (then (then (then (then (then (then (then (then diagram c.put-2.ensures) text) c.put-4.ensures) sums) c.put-6.ensures) c.put-7.ensures) c.put-8.ensures) c.put-9.ensures) c.put-10.ensures
+    then (then (then (then (then (then (then (then (then (then diagram c.put-2.ensures) text) c.put-4.ensures) sums) c.put-6.ensures) c.put-7.ensures) c.put-8.ensures) c.put-9.ensures) c.put-10.ensures) c.put-11.ensures

@@ -1,0 +1,5 @@
+pub mod Form
+pub mod Loaded
+pub mod Told
+pub mod Call
+pub mod Laws

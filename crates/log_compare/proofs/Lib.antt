@@ -1,0 +1,7 @@
+pub mod Pieces
+pub mod Lists
+pub mod Cuts
+pub mod Entries
+pub mod Comparing
+pub mod Aspects
+pub mod Besides

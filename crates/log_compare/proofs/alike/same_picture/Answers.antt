@@ -1,0 +1,9 @@
+use Rattle.std.proofs.Common.{arith}
+use Rattle.std.proofs.lemmas.List.{ext_get_or}
+use Rattle.sig_types.specs.declared.aspect.Aspect.TheVariants.{Red}
+use Rattle.log_compare.proofs.alike.same_picture.Goals as goal
+
+pub returns-clause-same : goal.returns-clause-same
+returns-clause-same c = λ is.
+    ext_get_or Red c.args.one.now c.args.other.now (omega (arith, c.if-len.false, c.len.ensures.len, c.len-2.ensures.len))
+    (λ i inside. c.loop-place.invariant i (omega (arith, c.loop-place-test.false, c.len-place-end.ensures.len, inside)))

@@ -1,0 +1,6 @@
+pub mod Fields
+pub mod Text
+pub mod Difference
+pub mod Stepping
+pub mod Rows
+pub mod Sides
