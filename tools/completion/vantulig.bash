@@ -69,7 +69,7 @@ _vantulig_log_report()
 {
     local cur=${COMP_WORDS[COMP_CWORD]}
     case $COMP_CWORD in
-        1) COMPREPLY=($(compgen -W "diagram text sums breaches protocol refusals --help --version" -- "$cur")) ;;
+        1) COMPREPLY=($(compgen -W "diagram text sums compare breaches protocol refusals --help --version" -- "$cur")) ;;
         2) _vantulig_files log ;;
         *)
             local options
@@ -77,6 +77,7 @@ _vantulig_log_report()
                 diagram) [ "$COMP_CWORD" -gt 4 ] && COMPREPLY=($(compgen -W "--strip --title --begin" -- "$cur")); return ;;
                 breaches) options="--amber-tolerance --csv" ;;
                 protocol | refusals) options=--csv ;;
+                compare) _vantulig_files log; return ;;
                 sums) COMPREPLY=($(compgen -W "--each --serves --csv" -- "$cur")); return ;;
                 *) return ;;
             esac
