@@ -3,7 +3,10 @@ use Rattle.std.proofs.Common.{◌≡◌, ◌<◌, arith, length, map, Bool, true
 use Rattle.std.specs.Prelude.{filter, not}
 use Rattle.pua_model.specs.Plan.{PlanOf}
 use Rattle.site_findings.specs.declared.finding.Finding.{Finding}
-use Rattle.site_findings.specs.Allowed.{allowed_in, is_allowed_told, kept}
+use Rattle.site_findings.specs.declared.finding.Examined.{Examined}
+use Rattle.site_findings.specs.declared.finding.Told.{Told}
+use Rattle.site_findings.specs.declared.finding.Told.TheVariants.{Refused, Unread, NotJudged, Warned}
+use Rattle.site_findings.specs.Allowed.{IsKept, allowed_in, is_allowed_told, kept}
 
 over : {X : Type 0} (t : Bool) (y : X) (a b r : List X) → a ≡ b ++ r → cond t (y ∷ a) a ≡ cond t (y ∷ b) b ++ r
 over true y a b r h = ap (λ l. y ∷ l) h
@@ -30,3 +33,27 @@ pub none_allowed : {X : Type 0} (f : X → List ℕ) (words : List X) → length
 none_allowed f [] h = refl
 none_allowed f (w ∷ []) h = refl
 none_allowed f (w ∷ x ∷ ws) h = let no : ⊥ = omega (arith, h) in absurd no
+
+told-all : (plan : Option PlanOf) (told : Told) → is_allowed_told plan [] told ≡ false
+told-all plan (Refused refusal) = refl
+told-all plan Unread = refl
+told-all plan NotJudged = refl
+told-all plan (Warned warning) = refl
+
+kept-all : (plan : Option PlanOf) (fs : List Finding) → kept plan [] fs ≡ fs
+kept-all plan [] = refl
+kept-all plan (f ∷ fs) =
+    ap (λ t. cond (not t) (f ∷ kept plan [] fs) (kept plan [] fs)) (told-all plan f.told) ∙ ap (λ gs. f ∷ gs) (kept-all plan fs)
+
+-- where nothing is allowed, all is told
+pub all_kept : (allowed : List (List ℕ)) (examined : Examined) → allowed ≡ [] → IsKept allowed examined examined
+all_kept allowed examined e = record {
+  findings = sym (ap (λ texts. kept examined.plan texts examined.findings.items) e ∙ kept-all examined.plan examined.findings.items);
+  plan = refl;
+  worst = refl;
+  pua = refl;
+  times = refl;
+  intergreens = refl;
+  program = refl;
+  detectors = refl;
+}

@@ -1,5 +1,5 @@
 // Warnings that are allowed, so that they are not told.
-ghost use Rattle.std.specs.Prelude.{◌≡◌, map, string_bytes, IfOk};
+ghost use Rattle.std.specs.Prelude.{◌≡◌, [], map, string_bytes, true, IfOk};
 ghost use Rattle.site_findings.specs.Allowed.{IsKept, allowed_in, allows, behind_allowed, has_word, has_words, is_allowed, is_allowed_told, kept, parts_words};
 ghost use Rattle.site_findings.specs.Warnings.{warning_name, warning_text};
 
@@ -111,10 +111,24 @@ fn kept(
     Ok(told)
 }
 
+// Whether the words of a call begin with nothing that they allow.
+fn allows_none(words: &[String]) -> bool
+    ensures { result ≡ true → allowed_in (map string_bytes words.now) ≡ [] }
+{
+    match words {
+        [flag, _, ..] => flag.as_str() != "--allow",
+        [] | [_] => true,
+    }
+}
+
 /// What was found, less the warnings that the words of a call allow: each word that follows an `--allow`, from the first word on.
+#[tactic(auto, using(crate::proofs::AllowedMore::all_kept))]
 pub fn allow(alloc: Global, examined: Examined, words: &[String]) -> Result<Examined, AllocError>
     ensures { IfOk result (IsKept (allowed_in (map string_bytes words.now)) examined) }
 {
+    if allows_none(words) {
+        return Ok(examined);
+    }
     let Examined {
         findings,
         plan,

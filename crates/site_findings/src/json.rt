@@ -197,6 +197,9 @@ fn put_json_line(
     put_json_told(text, severity_text(told), &word, &sentence, cure)
 }
 
+// So many bytes has the line of most findings at most.
+const USUAL: usize = 320;
+
 /// All findings as lines of JSON, an object each.
 pub fn write_json(
     alloc: Global,
@@ -207,6 +210,7 @@ pub fn write_json(
 {
     let sheets = sheets_of(alloc, examined)?;
     let mut text = Text::new(alloc);
+    text.reserve(examined.findings.len().saturating_mul(USUAL))?;
     for finding in examined.findings.iter() {
         put_json_line(alloc, &mut text, &sheets, examined, names, finding)?;
     }
