@@ -4,11 +4,10 @@
 The site is the four-arm junction of crates/junction/examples/four_arms with one of its files in the place of another: much that is
 warned of, in many lines and in one, the same and another each time; a plan of many parts; tables of records that are refused; a
 detector file beyond 16 MiB. Each workload stands at half and at whole size, so that a time which grows faster than its file shows.
-A row is the workload, the bytes of its file, the warnings and refusals by the last line, processor seconds and megabytes (millions
-of bytes).
+A row is the workload, the bytes of its file, processor seconds, megabytes (millions of bytes) of the text and of `--json`, and the
+warnings and refusals by the last line of the text.
 """
 import os
-import resource
 import shutil
 import subprocess
 import sys
@@ -68,18 +67,15 @@ WORKLOADS = {
 }
 
 
-def measured(program, folder):
-    """Runs the program over the files of a folder, and returns its last line, its processor seconds and its most megabytes."""
-    script = (
-        "import resource, subprocess, sys\n"
-        "ran = subprocess.run(sys.argv[1:], stdout=subprocess.PIPE, stderr=subprocess.DEVNULL)\n"
-        "last = ran.stdout.decode('latin-1').splitlines()[-1:]\n"
-        "used = resource.getrusage(resource.RUSAGE_CHILDREN)\n"
-        "print(used.ru_utime + used.ru_stime, used.ru_maxrss, *last)\n"
-    )
-    words = [sys.executable, "-c", script, program, *FILES.values()]
-    said = subprocess.run(words, cwd=folder, stdout=subprocess.PIPE, text=True, check=True).stdout.split(None, 2)
-    return (said[2].strip() if len(said) > 2 else ""), float(said[0]), int(said[1]) * 1024 / 1e6
+def measured(words, folder):
+    """Runs these words in a folder, and returns the last line that they write, their processor seconds and their most megabytes."""
+    with tempfile.NamedTemporaryFile("r") as told:
+        # (time itself is small: a child of this program would count what this program has)
+        timed = ["/usr/bin/time", "-q", "-f", "%U %S %M", "-o", told.name, *words]
+        said = subprocess.run(timed, cwd=folder, stdout=subprocess.PIPE, stderr=subprocess.DEVNULL, check=False).stdout
+        user, system, most = told.read().split()
+    last = said.decode("latin-1").splitlines()[-1:]
+    return "".join(last), float(user) + float(system), int(most) * 1024 / 1e6
 
 
 def main(program):
@@ -92,11 +88,12 @@ def main(program):
                 path = os.path.join(folder, FILES[which])
                 with open(path, "w", encoding="utf-8") as file:
                     file.write(text(part))
-                last, seconds, most = measured(os.path.abspath(program), folder)
-                print(f"{name:24} {os.path.getsize(path):10,} {seconds:8.2f} s {most:7.1f} MB  {last}", flush=True)
+                last, seconds, most = measured([program, *FILES.values()], folder)
+                _, _, of_json = measured([program, "--json", *FILES.values()], folder)
+                print(f"{name:24} {os.path.getsize(path):10,} {seconds:8.2f} s {most:7.1f} MB {of_json:7.1f} MB  {last}", flush=True)
 
 
 if __name__ == "__main__":
     if len(sys.argv) != 2:
         sys.exit(__doc__)
-    main(sys.argv[1])
+    main(os.path.abspath(sys.argv[1]))
