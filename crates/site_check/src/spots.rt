@@ -110,7 +110,7 @@ fn spot_of(text: &[u8], marks: &Marks, token: &Token) -> Spot
     ensures { result ≡ token_spot text.now token.now.place token.now.line }
 {
     let place = token.place as usize;
-    let from = marks.column(place);
+    let from = marks.column(text, place);
     Spot {
         line: token.line,
         from,
