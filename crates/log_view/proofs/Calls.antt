@@ -40,7 +40,7 @@ by_from : (from : ℕ) (to : Option ℕ) → IsByWords (window_from from to)
 by_from from None = tt
 by_from from (Some to) = chosen (nat_lt to (from + 3600)) (Ok (record { from = from; to = to })) (Err TooManySeconds) tt tt
 
-by_to : (to : List ℕ) (from : Option ℕ) → IsByWords (window_to to from)
+pub by_to : (to : List ℕ) (from : Option ℕ) → IsByWords (window_to to from)
 by_to to None = tt
 by_to to (Some from) = by_from from (within from 604801 (number_of to))
 

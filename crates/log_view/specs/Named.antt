@@ -6,7 +6,7 @@ use Rattle.log_view.specs.declared.named.FormName.TheVariants.{Diagram, Text, Su
 
 -- how a form is written
 abbrev pub form_words : FormName → List ℕ
-form_words Diagram = codes "log_report diagram LOG FROM TO [--strip N] [--title TEXT] [--begin HH:MM:SS]"
+form_words Diagram = codes "log_report diagram LOG FROM TO [--site PUA TIMES INTERGREENS] [--strip N] [--title TEXT] [--begin HH:MM:SS]"
 form_words Text = codes "log_report text LOG FROM TO"
 form_words Sums = codes "log_report sums LOG [FROM TO] [--each SECONDS] [--serves DETECTORS:GROUP] [--csv]"
 

@@ -97,8 +97,8 @@ fn write_version<O: Sink>(out: &mut O) -> Result<(), Stop>
     end(draft, out)
 }
 
-// Writes a diagram.
-fn write_diagram<O: Sink>(diagram: &Diagram, look: Look<'_>, out: &mut O) -> Result<(), Stop>
+/// Writes a diagram.
+pub fn write_diagram<O: Sink>(diagram: &Diagram, look: Look<'_>, out: &mut O) -> Result<(), Stop>
     requires diagram { IsShowable (shown_in diagram.now) }
     requires look { IsLook (look_in look) }
     ensures written { IsWritten (diagram_text (shown_in diagram.now) (look_in look.entry)) result (O.taken out.old) (O.taken out.new) }

@@ -37,8 +37,8 @@ pub enum Form<'a> {
     Text(&'a str, Window),
 }
 
-// The seconds that two words ask for.
-fn window_of(from: &str, to: &str) -> Result<Window, Stop>
+/// The seconds that two words ask for.
+pub fn window_of(from: &str, to: &str) -> Result<Window, Stop>
     ensures window { result ≡ window_of from.now to.now }
     ensures order { IfOk result IsWindow }
 {

@@ -204,7 +204,7 @@ fn with_title<'a>(strip: u32, words: &'a [String]) -> Option<Look<'a>>
 
 /// How the words behind the seconds of a diagram ask it to look: `--strip N`, `--title TEXT` and `--begin HH:MM:SS`, in this order,
 /// each where it is wanted.
-pub(crate) fn look_of(words: &[String]) -> Option<Look<'_>>
+pub fn look_of(words: &[String]) -> Option<Look<'_>>
     ensures look { looked_by result ≡ look_of (map string_bytes words.now) }
     ensures fits { IfSome result (λ l. IsLook (look_in l)) }
 {

@@ -19,7 +19,7 @@ pub fn form_words(form: FormName) -> &'static [u8]
 {
     match form {
         FormName::Diagram =>
-            b"log_report diagram LOG FROM TO [--strip N] [--title TEXT] [--begin HH:MM:SS]",
+            b"log_report diagram LOG FROM TO [--site PUA TIMES INTERGREENS] [--strip N] [--title TEXT] [--begin HH:MM:SS]",
         FormName::Text => b"log_report text LOG FROM TO",
         FormName::Sums =>
             b"log_report sums LOG [FROM TO] [--each SECONDS] [--serves DETECTORS:GROUP] [--csv]",

@@ -211,7 +211,7 @@ type Stopped = (&'static [&'static str], Status, &'static str);
 
 // Notes on words that are no form.
 const DIAGRAM_WORDS: &str =
-    "log_report: Words: log_report diagram LOG FROM TO [--strip N] [--title TEXT] [--begin HH:MM:SS], \
+    "log_report: Words: log_report diagram LOG FROM TO [--site PUA TIMES INTERGREENS] [--strip N] [--title TEXT] [--begin HH:MM:SS], \
 with N from 30 to 600, TEXT of 1 to 80 bytes without control characters, and HH:MM:SS up to 23:59:59, or --help\n";
 
 const TEXT_WORDS: &str = "log_report: Words: log_report text LOG FROM TO, or --help\n";
