@@ -11,6 +11,7 @@ use log_view::{Status, Stop, exit_status, report, write_stop};
 use protocol_view::report_protocol;
 use refusal_view::report_refusals;
 use sig_io::{DiskFiles, ErrSink, Files, OutSink, Sink};
+use site_view::{has_site, report_site};
 use std::alloc::{AllocError, Global};
 use std::env::Args;
 use std::io::ErrorKind;
@@ -50,6 +51,9 @@ fn answer<F: Files, O: Sink, N: Sink>(
         }
         Some(word) if word.as_str() == "compare" => {
             judge_notes::exit_status(report_compare(alloc, words, files, out, notes))
+        }
+        _ if has_site(words) => {
+            judge_notes::exit_status(report_site(alloc, words, files, out, notes))
         }
         _ => exit_status(report(alloc, words, files, out, notes)),
     }

@@ -6,6 +6,8 @@ mod breaches;
 #[cfg(test)]
 mod calls;
 #[cfg(test)]
+mod diagram;
+#[cfg(test)]
 mod protocol;
 #[cfg(test)]
 mod refusals;

@@ -1,0 +1,5 @@
+pub mod Loading
+pub mod More
+pub mod Calls
+pub mod Few
+pub mod ByWords

@@ -1,0 +1,4 @@
+pub mod Form
+pub mod Stop
+pub mod Parts
+pub mod Call
