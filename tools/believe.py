@@ -205,6 +205,8 @@ THEOREMS = [
     ("the page of what came in a part of a log", "`log_protocol::Page`, `Sheet::put`",
      [("log_protocol", "Page", ["IsPageOf"]), ("log_protocol", "Texts", ["page_text"]), ("log_protocol", "Came", ["came_in"]),
       ("log_protocol", "Laws", ["ShortestIsFirst"])]),
+    ("the whole contract of `log_report diagram` with a site", "`site_view::report_site`",
+     [("site_view", "Call", ["IsReported"])]),
     ("the whole contract of `log_report refusals`", "`refusal_view::report_refusals`",
      [("refusal_view", "Call", ["IsReported"])]),
     ("what an observer sees of a pass and of a second", "`Vm::pass`, `Controller::second_seen`",

@@ -74,7 +74,7 @@ _vantulig_log_report()
         *)
             local options
             case ${COMP_WORDS[1]} in
-                diagram) [ "$COMP_CWORD" -gt 4 ] && COMPREPLY=($(compgen -W "--strip --title --begin" -- "$cur")); return ;;
+                diagram) [ "$COMP_CWORD" -gt 4 ] && COMPREPLY=($(compgen -f -W "--site --strip --title --begin" -- "$cur")); return ;;
                 breaches) options="--amber-tolerance --csv" ;;
                 protocol | refusals) options=--csv ;;
                 compare) _vantulig_files log; return ;;
