@@ -1,11 +1,11 @@
 #!/usr/bin/env python3
 """tools/example_logs.py PROGRAM CHECK REPORT TRACE
 
-Writes what the gate compares of the examples, after a change of an example or of what a log says: in the crate test_examples, which
-checks, runs and judges them all, copies of their files, their logs, the words and the output. Beside each example it draws its
-diagram.svg. PROGRAM is a built `junction`, and CHECK, REPORT and TRACE are a built `junction_check`, `log_report` and
-`junction_trace`. It stops where a call fails, a log isn't safe, or something is found in the files. Look at the difference before it
-is committed."""
+Writes what the gate compares of the examples, after a change of an example or of what a log says: in the crate test_examples,
+which checks, runs and judges them all, copies of their files, their logs, the words and the output. Beside each example it
+draws its diagram.svg, and of some with_site.svg. PROGRAM is a built `junction`, and CHECK, REPORT and TRACE are a built
+`junction_check`, `log_report` and `junction_trace`. It stops where a call fails, a log isn't safe, or something is found in the
+files. Look at the difference before it is committed."""
 import argparse
 import shutil
 import subprocess
@@ -20,6 +20,9 @@ TABLES = ["times.csv", "intergreens.csv"]
 
 # The seconds of a diagram, where they are not the first hundred.
 DRAWN = {"four_arms": (1, 60), "green_wave/west": (61, 175), "green_wave/east": (61, 175)}
+
+# Whose diagram is drawn once more with what its site adds, since its stages have names.
+SITED = ["left_turn"]
 
 # What is told of the inside of some examples: form, example, and the words behind its files.
 TRACED = [
@@ -94,6 +97,9 @@ def main():
         first, last = DRAWN.get(example, (1, min(100, log.count(b"\n") - 1)))
         picture = call(reporter, ["diagram", audit[1], str(first), str(last)])
         (plan.parent / "diagram.svg").write_bytes(picture)
+        if example in SITED:
+            picture = call(reporter, ["diagram", audit[1], str(first), str(last), "--site", *run[2:5]])
+            (plan.parent / "with_site.svg").write_bytes(picture)
         reports = [["report", "text", audit[1], "1", "40"], ["report", "sums", audit[1]]]
         output += found + log + verdict + b"".join(call(reporter, words[1:]) for words in reports)
         calls += [check, run, ["calls", *run[1:], audit[1]], audit, *reports]
