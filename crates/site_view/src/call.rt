@@ -50,6 +50,7 @@ fn draw<'a, O: Sink>(
     requires look { IsLook (look_in form.now.look) }
     ensures put { IsPut (diagram_text (shown_in diagram.now) (look_by tables.now.times names.now (look_in form.now.look)))
         result (O.taken out.old) (O.taken out.new) }
+    ensures unwritten { IfErr result (λ stop. (stop ≡ DiagramStop.Log Stop.WriteFault → ⊥) → out.new ≡ out.old) }
     ensures read { IsReadFault result → ⊥ }
     ensures write { IsWriteFault result → Rose (O.faults out.old) (O.faults out.new) }
 {
@@ -84,6 +85,7 @@ fn draw_at<'a, F: Files, O: Sink>(
     ensures answered { ForSome (F.told files.old) (λ file. site_of (asked_in form.now).site file ≡ Ok (site_of_tables tables.now) →
         names.now ≡ tables.now.plan.stage_names →
         IsAnswered (asked_in form.now) file result (O.taken out.old) (O.taken out.new)) }
+    ensures unwritten { IfErr result (λ stop. (stop ≡ DiagramStop.Log Stop.WriteFault → ⊥) → out.new ≡ out.old) }
     ensures contents_stay { F.told files.new ≡ F.told files.old }
     ensures later { F.faults files.old ≤ F.faults files.new }
     ensures read { IsReadFault result → Rose (F.faults files.old) (F.faults files.new) }
@@ -111,6 +113,7 @@ fn do_form<'a, F: Files, O: Sink>(
     requires look { IsLook (look_in form.now.look) }
     ensures answered { ForSome (F.told files.old) (λ file.
         IsAnswered (asked_in form.now) file result (O.taken out.old) (O.taken out.new)) }
+    ensures unwritten { IfErr result (λ stop. (stop ≡ DiagramStop.Log Stop.WriteFault → ⊥) → out.new ≡ out.old) }
     ensures contents_stay { F.told files.new ≡ F.told files.old }
     ensures read { IsReadFault result → Rose (F.faults files.old) (F.faults files.new) }
     ensures write { IsWriteFault result → Rose (O.faults out.old) (O.faults out.new) }
@@ -143,6 +146,8 @@ pub fn report_site<F: Files, O: Sink, N: Sink>(
         (seen (O.taken out.old) (O.taken out.new) (O.faults out.old) (O.faults out.new))
         (seen (N.taken notes.old) (N.taken notes.new) (N.faults notes.old) (N.faults notes.new))
         result }
+    ensures unread { IfErr (form_of (map string_bytes words.now)) (λ stop. files.new ≡ files.old) }
+    ensures unwritten { (result ≡ Status.Done → ⊥) → (result ≡ Status.WriteFault → ⊥) → out.new ≡ out.old }
     ensures contents_stay { F.told files.new ≡ F.told files.old }
 {
     let form = match form_of(words) {
