@@ -58,6 +58,7 @@ STAGE 1 times:1|1 seconds:2|1\n\
 INTERSTAGE 1-2 times:1|1 seconds:1|1\n\
 REFUSED K2:Conflict:K1 times:1|- seconds:1|- longest_run:1|- longest_run_from:2|-\n\
 RULE K2:Conflict times:1|- seconds:1|- longest_run:1|- longest_run_from:2|-\n\
+BEFORE_GREEN K2:Conflict times:1|- seconds:1|- longest_run:1|- longest_run_from:2|-\n\
 DETECTOR 1 vehicles:1|- occupied:2|- largest_headway:0|- headway_after:2|-\n\
 GROUP K2 shortest:-|1 mean:-|1.0 longest:-|1 first_green:-|2 shortest_red:-|1 mean_red:-|1.0 longest_ended_red:-|1\n\
 STAGE 2 times:-|1 seconds:-|1\n\
