@@ -242,6 +242,8 @@ THEOREMS = [
     ("`TRACE` statements stand in the code where they are laid out", "`print_laws::traces_stand_there`",
      [("print_laws", "Stands", ["TracesStandThere"])]),
     ("the whole contract of `junction_trace`", "`trace_call::trace`", [("trace_call", "Call", ["IsTraced"])]),
+    ("of a program that is told of there is one, the one of the file, and of what is asked for one text", "`trace_laws`",
+     [("trace_laws", "Laws", ["OneProgram", "IsWhatRunPlays", "OneText"])]),
     ("a program at its site, with its checked tree and its text", "`trace_load::load_program`", [("trace_load", "Loaded", ["IsToldLoad"])]),
     ("files that are kept as far as they were read", "`trace_load::KeptFiles`", [("trace_load", "Kept", ["IsFront"])]),
     ("the seconds of a detector file, told one after the other", "`trace_run::tell_all`",

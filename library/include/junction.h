@@ -35,7 +35,8 @@ enum junction_status {
     JUNCTION_NOTHING = 4,    /* there is no such group, refused stage command or variable */
     JUNCTION_REFUSED = 5,    /* a text is refused */
     JUNCTION_TOO_LONG = 7,   /* a text has more bytes than it may have */
-    JUNCTION_NO_NAMES = 8    /* the controller is of a code file, in which variables have no names */
+    JUNCTION_NO_NAMES = 8,   /* the controller is of a code file, in which variables have no names */
+    JUNCTION_NO_COMMAND = 9  /* a command names no stage or group of the plan: nothing has changed */
 };
 
 /* A text: its bytes need no end. A null pointer with length 0 is an empty text. */
@@ -107,6 +108,37 @@ enum junction_status junction_second(struct junction *junction, const struct jun
  * taken. */
 enum junction_status junction_seconds(struct junction *junction, size_t seconds, const struct junction_counts *counts,
                                       struct junction_told *told, size_t *made);
+
+/* What a caller commands in a second, in the place of the program. All 0: nothing is commanded, and the active stage goes on. */
+struct junction_commands {
+    uint8_t from, to;   /* a stage command: the interstage between these stages; 0 and 0: none */
+    uint8_t stage;      /* the stage that is wished: where another one is active in this second, the command from that one to this; 0: none */
+    uint8_t reserved;   /* 0 */
+    uint8_t groups[64]; /* what is wished of each group over what the stage wishes: 0 nothing, 1 green, 2 red */
+};
+
+/* Makes one second by these commands; the program makes no pass in it, and its timers count on. Seconds by commands and seconds by
+ * the program may follow each other in any order: the guard is the same. JUNCTION_NOT_TAKEN as for junction_second. It takes no
+ * memory and waits for nothing. */
+enum junction_status junction_given_second(struct junction *junction, const struct junction_counts *counts,
+                                           const struct junction_commands *commands, struct junction_told *told);
+
+/* What the second that comes would refuse. 360 bytes without a gap; all that tells nothing is 0, but 255 in `others`. */
+struct junction_mask {
+    uint8_t place, from, to, t;  /* the place of the second that comes, before its commands, as in junction_told */
+    uint8_t groups, stages;      /* how many there are */
+    uint8_t reserved[2];         /* 0 */
+    uint8_t turns[64];           /* the turn that each group can be wished to make: 1 a start (by a wish of green), 2 an end (of red) */
+    uint8_t rules[64];           /* the rule that refuses it where no other group turns by a wish; 0: it is obeyed */
+    uint8_t others[64];          /* the group in its way, or 255 */
+    uint16_t waits[64];          /* in how many seconds at the earliest it would be obeyed, where all goes on by nature until then;
+                                    0: in the second that comes; 65535: never */
+    uint8_t stage_rules[32];     /* of each stage (place p is stage p + 1) the rule that refuses the command from the active stage to
+                                    it; 0: it is obeyed, or active */
+};
+
+/* Tells what the second that comes would refuse; JUNCTION_NOT_TAKEN where no second is left. It changes nothing. */
+enum junction_status junction_mask(struct junction *junction, struct junction_mask *mask);
 
 /* A stage command of the last second that was refused, by its place: its stages and its rule. */
 struct junction_refused_stage {

@@ -110,6 +110,19 @@ enum junction_status junction_second(struct junction *junction, const struct jun
     return (enum junction_status)junction_c_second(&junction->handle, counts, told);
 }
 
+enum junction_status junction_given_second(struct junction *junction, const struct junction_counts *counts,
+                                           const struct junction_commands *commands, struct junction_told *told) {
+    if (!is_place(junction, alignof(struct junction)) || !is_place(counts, alignof(struct junction_counts)) ||
+        !is_place(commands, alignof(struct junction_commands)) || !is_place(told, alignof(struct junction_told)))
+        return JUNCTION_WRONG_CALL;
+    return (enum junction_status)junction_c_given_second(&junction->handle, counts, commands, told);
+}
+
+enum junction_status junction_mask(struct junction *junction, struct junction_mask *mask) {
+    if (!is_place(junction, alignof(struct junction)) || !is_place(mask, alignof(struct junction_mask))) return JUNCTION_WRONG_CALL;
+    return (enum junction_status)junction_c_mask(&junction->handle, mask);
+}
+
 enum junction_status junction_seconds(struct junction *junction, size_t seconds, const struct junction_counts *counts,
                                       struct junction_told *told, size_t *made) {
     if (!is_place(made, alignof(size_t))) return JUNCTION_WRONG_CALL;

@@ -24,6 +24,11 @@ typedef uint32_t proved_load(struct proved_handle *handle, const uint8_t *progra
 proved_load junction_c_load, junction_c_load_code;
 /* 0: made and told; 3: the counts are not taken; 4: nothing is held */
 uint32_t junction_c_second(struct proved_handle *handle, const struct junction_counts *counts, struct junction_told *told);
+/* 0: made and told; 3: the counts are not taken; 4: nothing is held; 9: a command names no stage or group */
+uint32_t junction_c_given_second(struct proved_handle *handle, const struct junction_counts *counts,
+                                 const struct junction_commands *commands, struct junction_told *told);
+/* 0: told; 3: no second is left; 4: nothing is held */
+uint32_t junction_c_mask(struct proved_handle *handle, struct junction_mask *mask);
 /* 0: told; 4: there is none, or nothing is held */
 uint32_t junction_c_refused_stage(struct proved_handle *handle, size_t place, struct junction_refused_stage *told);
 /* the length of the name, which is copied as far as it fits; 0: there is no such group, or nothing is held */

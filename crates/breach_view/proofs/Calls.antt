@@ -7,7 +7,7 @@ use Rattle.log_judge.proofs.AllFound.{none_of_none}
 use Rattle.sig_types.specs.Rules.{Rules}
 use Rattle.sig_types.specs.Turns.{Picture}
 use Rattle.log_judge.specs.declared.find.Terms.{Terms}
-use Rattle.log_parts.specs.Log.{first_second}
+use Rattle.log_read.specs.Readings.{first_second}
 use Rattle.log_site.specs.declared.stop.SiteStop.{SiteStop}
 use Rattle.log_site.specs.declared.stop.SiteStop.TheVariants as unsited
 use Rattle.log_site.specs.Loading.{Site, site_of}

@@ -9,11 +9,11 @@ use Rattle.log_judge.specs.declared.judge.Judge.{Judge}
 use Rattle.log_judge.specs.Breaches.{breaches, breaches_within}
 use Rattle.log_judge.specs.Stands.{StandsFor, seconds_of}
 use Rattle.log_judge.proofs.AllFound.{none_of_none, none_within}
-use Rattle.log_parts.specs.declared.part.LogPart.{LogPart}
-use Rattle.log_parts.specs.Answers.{Reads}
+use Rattle.log_read.specs.declared.pictures.LogPictures.{LogPictures}
+use Rattle.log_read.specs.Answers.{Reads}
 
 -- the pictures that were read so far, with the breaches that are complete within them
-pub record SoFar (judge : Judge) (part : LogPart) (found : List Breach) (told : Option Contents) (name : List ℕ) (names : List (List ℕ)) (r : Rules)
+pub record SoFar (judge : Judge) (part : LogPictures) (found : List Breach) (told : Option Contents) (name : List ℕ) (names : List (List ℕ)) (r : Rules)
     (k : Terms) : Type 0 where
   pub pictures : List Picture
   pub stands : StandsFor judge pictures
@@ -21,7 +21,7 @@ pub record SoFar (judge : Judge) (part : LogPart) (found : List Breach) (told : 
   pub reads : (file : Contents) → told ≡ Some file → Reads part names (file name) pictures
 
 -- before the first picture
-pub none_read : (judge : Judge) (part : LogPart) (found : List Breach) (told : Option Contents) (name : List ℕ) (names : List (List ℕ)) (r : Rules)
+pub none_read : (judge : Judge) (part : LogPictures) (found : List Breach) (told : Option Contents) (name : List ℕ) (names : List (List ℕ)) (r : Rules)
     (k : Terms) → StandsFor judge [] → found ≡ [] → ((names : List (List ℕ)) (bytes : List ℕ) → Reads part names bytes []) →
     SoFar judge part found told name names r k
 none_read judge part found told name names r k stands none unread = record {

@@ -8,7 +8,8 @@ use Rattle.sig_io.specs.Seen.{Seen}
 use Rattle.sig_types.specs.Turns.{Picture}
 use Rattle.log_judge.specs.declared.breach.Breach.{Breach}
 use Rattle.log_judge.specs.Breaches.{breaches}
-use Rattle.log_parts.specs.Log.{IsPart, first_second}
+use Rattle.log_read.specs.Readings.{IsPictures, first_second}
+use Rattle.log_read.specs.declared.begin.Begin.TheVariants.{Anywhere}
 use Rattle.log_site.specs.Loading.{ReachedInSite, Site, site_of}
 use Rattle.log_site.specs.Stop.{IsLoadStop}
 use Rattle.judge_notes.specs.declared.status.Status.{Status}
@@ -37,7 +38,7 @@ pub record IsTold (asked : Asked) (file : Contents) (text : List ℕ) (broken : 
   pub at : Site
   pub site_is : site_of asked.site file ≡ Ok at
   pub pictures : List Picture
-  pub log : IsPart at.plan.names (file asked.log) pictures None
+  pub log : IsPictures Anywhere at.plan.names (file asked.log) pictures None
   pub text_is : text ≡ text_of asked.csv at.plan.names (first_second (file asked.log)) (length pictures)
       (breaches at.rules (unknown_past asked.tolerance) pictures)
   pub broken_is : broken ≡ is_some_breach (breaches at.rules (unknown_past asked.tolerance) pictures)

@@ -7,14 +7,14 @@ use Rattle.log_judge.specs.declared.find.Terms.{Terms}
 use Rattle.log_judge.specs.declared.judge.Judge.{Judge}
 use Rattle.log_judge.specs.Breaches.{breaches, breaches_within}
 use Rattle.log_judge.specs.Stands.{StandsFor}
-use Rattle.log_parts.specs.declared.part.LogPart.{LogPart}
-use Rattle.log_parts.specs.Answers.{IsFirst, first_given}
-use Rattle.log_parts.specs.Log.{IsPart}
+use Rattle.log_read.specs.declared.pictures.LogPictures.{LogPictures}
+use Rattle.log_read.specs.Answers.{IsFirst, first_given}
+use Rattle.log_read.specs.Readings.{IsPictures}
+use Rattle.log_read.specs.declared.begin.Begin.TheVariants.{Anywhere}
 use Rattle.log_site.specs.Loading.{Site}
 use Rattle.log_site.specs.declared.stop.SiteStop.TheVariants as site
 use Rattle.judge_notes.specs.declared.stop.JudgeStop.{JudgeStop}
 use Rattle.judge_notes.specs.declared.stop.JudgeStop.TheVariants.{Words, Memory, Site as Unsited, ReadFault, RefusedLine, WriteFault}
-use Rattle.judge_notes.specs.declared.stop.LineWhy.TheVariants.{Picture as Line, Record as Whole}
 use Rattle.breach_view.specs.declared.finding.Found.{Found}
 
 -- how a log is judged of which the past is not known, with this tolerance
@@ -27,31 +27,30 @@ IsLogStop names word bytes Words = ⊥
 IsLogStop names word bytes Memory = Unit {0}
 IsLogStop names word bytes (Unsited stop) = ⊥
 IsLogStop names word bytes (ReadFault w) = w.now ≡ word
-IsLogStop names word bytes (RefusedLine w line (Line why)) =
-    (w.now ≡ word) × ((pictures : List Picture) × IsPart names bytes pictures (Some (line, why)))
-IsLogStop names word bytes (RefusedLine w line (Whole why)) = ⊥
+IsLogStop names word bytes (RefusedLine w line why) =
+    (w.now ≡ word) × ((pictures : List Picture) × IsPictures Anywhere names bytes pictures (Some (line, why)))
 IsLogStop names word bytes WriteFault = ⊥
 
 -- a log with these bytes was read to its end, and these are the breaches that are complete within it
-pub record IsReadWhole (names : List (List ℕ)) (bytes : List ℕ) (r : Rules) (k : Terms) (judge : Judge) (part : LogPart) (found : List Breach) :
+pub record IsReadWhole (names : List (List ℕ)) (bytes : List ℕ) (r : Rules) (k : Terms) (judge : Judge) (part : LogPictures) (found : List Breach) :
     Type 0 where
   pub pictures : List Picture
-  pub log : IsPart names bytes pictures None
+  pub log : IsPictures Anywhere names bytes pictures None
   pub stands : StandsFor judge pictures
   pub found_are : found ≡ breaches_within r k pictures
-  pub first : IsFirst bytes pictures (first_given part)
+  pub first : IsFirst Anywhere bytes pictures (first_given part)
 
 -- a log with these bytes was read to its end, or no further for a stop
-abbrev pub IsReading : List (List ℕ) → (word bytes : List ℕ) → Rules → Terms → Judge → LogPart → List Breach → Result (Unit {0}) JudgeStop → Type 0
+abbrev pub IsReading : List (List ℕ) → (word bytes : List ℕ) → Rules → Terms → Judge → LogPictures → List Breach → Result (Unit {0}) JudgeStop → Type 0
 IsReading names word bytes r k judge part found (Ok x) = IsReadWhole names bytes r k judge part found
 IsReading names word bytes r k judge part found (Err stop) = IsLogStop names word bytes stop
 
 -- all breaches of a log with these bytes at a site: those of its pictures, by the rules of the site
 pub record AreFound (at : Site) (bytes : List ℕ) (tolerance : ℕ) (found : Found) : Type 0 where
   pub pictures : List Picture
-  pub log : IsPart at.plan.names bytes pictures None
+  pub log : IsPictures Anywhere at.plan.names bytes pictures None
   pub breaches_are : found.breaches.items ≡ breaches at.rules (unknown_past tolerance) pictures
-  pub first : IsFirst bytes pictures found.first
+  pub first : IsFirst Anywhere bytes pictures found.first
   pub count : found.pictures ≡ length pictures
 
 -- what is answered of a log with these bytes at a site

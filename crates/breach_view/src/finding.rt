@@ -7,13 +7,13 @@ ghost use Rattle.pua_model.specs.Plan.{groups_in};
 ghost use Rattle.sig_tables.specs.SiteRules.{rules_of};
 ghost use Rattle.log_judge.specs.Breaches.{breaches, breaches_within};
 ghost use Rattle.log_judge.specs.Stands.{StandsFor, groups_of, seconds_of, terms_of};
-ghost use Rattle.log_parts.specs.Answers.{Reads, first_given, is_live, name_of, pictures_given};
+ghost use Rattle.log_read.specs.Answers.{Reads, begin_of, first_given, is_live, name_of, pictures_given};
 ghost use Rattle.log_site.specs.Sites.{site_of_tables};
 ghost use Rattle.breach_view.specs.Found.{IsFinding, IsReadFault, IsReading, IsWriteFault};
 
-use judge_notes::{JudgeStop, LineWhy};
+use judge_notes::JudgeStop;
 use log_judge::{Breach, Judge};
-use log_parts::{LogPart, LogRefusal};
+use log_read::{Begin, LogPictures, LogRefusal};
 use log_site::SiteTables;
 use sig_io::Files;
 use sig_types::Memory;
@@ -33,7 +33,7 @@ pub struct Found {
 // Judges the pictures of a log, up to its end, a refused line or a fault.
 fn find_within<'a, F: Files>(
     tables: &SiteTables,
-    part: &mut LogPart,
+    part: &mut LogPictures,
     judge: &mut Judge,
     found: &mut Vec<Breach>,
     log: &'a str,
@@ -41,6 +41,7 @@ fn find_within<'a, F: Files>(
 ) -> Result<(), JudgeStop<'a>>
     requires times { length tables.now.times ≡ groups_in tables.now.plan }
     requires intergreens { tables.now.intergreens.count ≡ groups_in tables.now.plan }
+    requires begin { begin_of part.old ≡ Begin.Anywhere }
     requires live { is_live part.old ≡ true }
     requires none_given { pictures_given part.old ≡ 0 }
     requires unread { (names : List (List ℕ)) (bytes : List ℕ) → Reads part.old names bytes [] }
@@ -67,7 +68,7 @@ fn find_within<'a, F: Files>(
                 return Err(JudgeStop::RefusedLine {
                     word: log,
                     line,
-                    why: LineWhy::Picture(why),
+                    why,
                 });
             }
         }
@@ -115,7 +116,7 @@ pub fn find_breaches<'a, F: Files>(
     ensures read_fault { IsReadFault result → Rose (F.faults files.old) (F.faults files.new) }
     ensures no_write { IsWriteFault result → ⊥ }
 {
-    let mut part = match LogPart::make(alloc, log) {
+    let mut part = match LogPictures::make(alloc, log, Begin::Anywhere) {
         Ok(part) => part,
         Err(_memory) => return Err(JudgeStop::Memory),
     };

@@ -1,11 +1,12 @@
 -- Two logs are told as alike exactly where they are.
 use Rattle.std.proofs.Common.{◌≡◌, ℕ, ◌-◌, true, false, List, length, get_or, Option, None, Some, sym, ap, arith}
 use Rattle.sig_types.specs.declared.record.Record.{Record}
-use Rattle.log_records.proofs.LogLaws.{one_answer, one_header}
+use Rattle.log_read.specs.declared.begin.Begin.TheVariants.{AtOne}
+use Rattle.log_read.proofs.Entries.{no_record}
+use Rattle.log_read.proofs.LogLaws.{one_found, one_header}
 use Rattle.log_compare.specs.declared.difference.Difference.{Difference}
 use Rattle.log_compare.specs.declared.difference.Difference.TheVariants.{Nowhere, OneEnds, OtherEnds, In}
 use Rattle.log_compare.specs.Difference.{EndsFirst}
-use Rattle.log_compare.proofs.Entries.{no_record}
 use Rattle.compare_view.specs.Laws.{AlikeIsTold, AreAlike}
 use Rattle.compare_view.specs.Told.{IsFound, differs}
 
@@ -37,9 +38,9 @@ by_found names others bytes other_bytes rs ss (Some (In second one other)) found
 
 pub alike_is_told : AlikeIsTold
 alike_is_told asked bytes other_bytes differ text told names others rs ss is too =
-    let named = one_header told.names names bytes told.sums_are.records rs told.sums_are.log is in
-    let other_named = one_header told.others others other_bytes told.other_sums_are.records ss told.other_sums_are.log too in
-    let same = (one_answer told.names names bytes told.sums_are.records rs None None told.sums_are.log is).0 in
-    let other_same = (one_answer told.others others other_bytes told.other_sums_are.records ss None None told.other_sums_are.log too).0 in
+    let named = one_header AtOne told.names names bytes told.sums_are.records rs told.sums_are.log is in
+    let other_named = one_header AtOne told.others others other_bytes told.other_sums_are.records ss told.other_sums_are.log too in
+    let same = (one_found AtOne told.names names bytes told.sums_are.records rs None None told.sums_are.log is).0 in
+    let other_same = (one_found AtOne told.others others other_bytes told.other_sums_are.records ss None None told.other_sums_are.log too).0 in
     rw (← named, ← other_named, ← same, ← other_same, told.differ_is)
     (by_found told.names told.others bytes other_bytes told.sums_are.records told.other_sums_are.records told.difference told.found)

@@ -1,11 +1,12 @@
 -- What a call answers.
-use Rattle.std.specs.Prelude.{◌≡◌, ◌⊎◌, ℕ, Bool, List, Option, None, Some, Result, Ok, Err, if◌then◌else◌}
+use Rattle.std.specs.Prelude.{false, ◌≡◌, ◌⊎◌, ℕ, Bool, List, Option, None, Some, Result, Ok, Err, if◌then◌else◌}
 use Rattle.std.specs.Option.{ForSome}
 use Rattle.std.specs.Io.KnownBytes.{append_known}
 use Rattle.sig_io.specs.Outside.{Contents, Rose}
 use Rattle.sig_io.specs.Seen.{Seen}
 use Rattle.sig_types.specs.declared.record.Record.{Record}
-use Rattle.log_records.specs.Log.{IsLog}
+use Rattle.log_read.specs.Readings.{IsRecords}
+use Rattle.log_read.specs.declared.begin.Begin.TheVariants.{AtOne}
 use Rattle.judge_notes.specs.declared.status.Status.{Status}
 use Rattle.judge_notes.specs.declared.status.Status.TheVariants.{Done, Broken}
 use Rattle.judge_notes.specs.declared.stop.JudgeStop.{JudgeStop}
@@ -18,7 +19,7 @@ use Rattle.compare_view.specs.Told.{IsBroken, IsTextOf}
 
 -- all lines of a log with these bytes are accepted
 abbrev pub IsAccepted : List ℕ → Type 0
-IsAccepted bytes = (names : List (List ℕ)) × ((records : List Record) × IsLog names bytes records None)
+IsAccepted bytes = (names : List (List ℕ)) × ((records : List Record) × IsRecords false AtOne names bytes records None)
 
 -- the one log isn't read to its end for this reason, or the one is, and the other isn't
 abbrev pub IsLogStop : Asked → Contents → JudgeStop → Type 0

@@ -1,7 +1,8 @@
 -- What follows from what is told of two logs.
 use Rattle.std.specs.Prelude.{◌≡◌, ℕ, Bool, true, false, List, None}
 use Rattle.sig_types.specs.declared.record.Record.{Record}
-use Rattle.log_records.specs.Log.{IsLog}
+use Rattle.log_read.specs.Readings.{IsRecords}
+use Rattle.log_read.specs.declared.begin.Begin.TheVariants.{AtOne}
 use Rattle.compare_view.specs.Form.{Asked}
 use Rattle.compare_view.specs.Told.{IsTextOf}
 
@@ -13,5 +14,5 @@ pub record AreAlike (names others : List (List ℕ)) (rs ss : List Record) : Typ
 -- two logs are told as alike exactly where they are
 abbrev pub AlikeIsTold : Type 0
 AlikeIsTold = (asked : Asked) (bytes other_bytes : List ℕ) (differ : Bool) (text : List ℕ) → IsTextOf asked bytes other_bytes differ text →
-    (names others : List (List ℕ)) (rs ss : List Record) → IsLog names bytes rs None → IsLog others other_bytes ss None →
+    (names others : List (List ℕ)) (rs ss : List Record) → IsRecords false AtOne names bytes rs None → IsRecords false AtOne others other_bytes ss None →
     (differ ≡ false → AreAlike names others rs ss) × (differ ≡ true → AreAlike names others rs ss → ⊥)

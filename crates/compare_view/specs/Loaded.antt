@@ -1,11 +1,9 @@
 -- What the reading of a log gives.
 use Rattle.std.specs.Prelude.{◌≡◌, ℕ, ◌≤◌, List, [], length, Result, Ok, Err}
-use Rattle.log_records.specs.Answers.{names_of}
+use Rattle.log_read.specs.RecordAnswers.{names_of}
 use Rattle.log_view.specs.Answers.{IsRefusedAt}
 use Rattle.judge_notes.specs.declared.stop.JudgeStop.{JudgeStop}
 use Rattle.judge_notes.specs.declared.stop.JudgeStop.TheVariants.{Words, Memory, Site, ReadFault, RefusedLine, WriteFault}
-use Rattle.judge_notes.specs.declared.stop.LineWhy.{LineWhy}
-use Rattle.judge_notes.specs.declared.stop.LineWhy.TheVariants.{Picture, Record}
 use Rattle.record_sums.specs.Serves.{serves_of}
 use Rattle.sums_text.specs.Words.{AreTextual}
 use Rattle.sums_view.specs.Summed.{AreSumsIn}
@@ -27,18 +25,13 @@ IsUnread word (ReadFault at) = at.now ≡ word
 IsUnread word (RefusedLine at line why) = ⊥
 IsUnread word WriteFault = ⊥
 
--- the first line that is refused, of a log with these bytes, is this one for this reason
-abbrev pub IsRefusal : List ℕ → ℕ → LineWhy → Type 0
-IsRefusal bytes line (Picture why) = ⊥
-IsRefusal bytes line (Record why) = IsRefusedAt bytes line why
-
 -- why the log with this word and these bytes is not added up
 abbrev pub IsUnloaded : List ℕ → List ℕ → JudgeStop → Type 0
 IsUnloaded word bytes Words = ⊥
 IsUnloaded word bytes Memory = Unit {0}
 IsUnloaded word bytes (Site why) = ⊥
 IsUnloaded word bytes (ReadFault at) = at.now ≡ word
-IsUnloaded word bytes (RefusedLine at line why) = (at.now ≡ word) × IsRefusal bytes line why
+IsUnloaded word bytes (RefusedLine at line why) = (at.now ≡ word) × IsRefusedAt bytes line why
 IsUnloaded word bytes WriteFault = ⊥
 
 -- reading a log may stop so

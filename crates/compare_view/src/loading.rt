@@ -6,8 +6,8 @@ ghost use Rattle.sums_view.specs.Summed.{IsUnsummed};
 ghost use Rattle.compare_view.specs.Loaded.{IsFault, IsOfLoad, IsSummed, IsUnloaded, IsUnread};
 
 use crate::bytes::LogBytes;
-use judge_notes::{JudgeStop, LineWhy};
-use log_records::LogRecords;
+use judge_notes::JudgeStop;
+use log_read::{Begin, LogRecords};
 use log_view::{Stop, stop_of};
 use record_sums::LogSums;
 use sig_io::{Files, ReadRefusal, read_whole};
@@ -56,11 +56,7 @@ fn stop_in<'a>(stop: Stop, word: &'a str) -> JudgeStop<'a>
     ensures no_fault { IsFault {A = Unit {0}} (Err result) → ⊥ }
 {
     match stop {
-        Stop::Line { line, why } => JudgeStop::RefusedLine {
-            word,
-            line,
-            why: LineWhy::Record(why),
-        },
+        Stop::Line { line, why } => JudgeStop::RefusedLine { word, line, why },
         Stop::Memory => JudgeStop::Memory,
         // No read of bytes in memory fails, and adding up stops in no other way.
         Stop::ReadFault => JudgeStop::Memory,
@@ -80,7 +76,7 @@ fn sum_up<'a>(alloc: Global, word: &'a str, bytes: Vec<u8>) -> Result<Summed, Ju
     ensures no_fault { IsFault result → ⊥ }
 {
     let mut file = LogBytes::new(&bytes);
-    let mut records = match LogRecords::open(alloc, &mut file, word) {
+    let mut records = match LogRecords::open(alloc, &mut file, word, Begin::AtOne) {
         Ok(records) => records,
         Err(stop) => return Err(stop_in(stop_of(stop), word)),
     };

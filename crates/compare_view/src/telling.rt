@@ -5,8 +5,9 @@ ghost use Rattle.sig_io.specs.Draft.{Puts};
 ghost use Rattle.sig_io.specs.Outside.{Rose};
 ghost use Rattle.sig_types.specs.LogForm.{spaced};
 ghost use Rattle.sig_types.specs.declared.record.Record.{Record};
-ghost use Rattle.log_records.specs.Answers.{names_of};
-ghost use Rattle.log_records.specs.Log.{IsLog};
+ghost use Rattle.log_read.specs.declared.begin.Begin.{Begin};
+ghost use Rattle.log_read.specs.RecordAnswers.{names_of};
+ghost use Rattle.log_read.specs.Readings.{IsRecords};
 ghost use Rattle.log_compare.specs.Rows.{rows_of};
 ghost use Rattle.log_compare.specs.Sides.{Beside, side_in, sides_of, sides_text};
 ghost use Rattle.sums_text.specs.Table.{table_text};
@@ -81,7 +82,7 @@ fn difference_of<'a>(
     other: &'a [u8],
 ) -> Result<Option<Difference<'a>>, Memory>
     requires { length names.now ≤ 64 }
-    ensures { IfOk result (λ d. (rs ss : List Record) → IsLog names.now one.now rs None → IsLog others.now other.now ss None →
+    ensures { IfOk result (λ d. (rs ss : List Record) → IsRecords false Begin.AtOne names.now one.now rs None → IsRecords false Begin.AtOne others.now other.now ss None →
         IsFound names.now others.now one.now other.now rs ss d) }
 {
     if !same_names(names, others) {

@@ -190,6 +190,7 @@ one_kept r one g green red is none =
             (λ pair both. no_pair (nat_lt j i) pair);
         pending = λ j i lt lt'. no_wait (is_red_amber (trace one j (length one - 1))) j i
             (latest_green (alone r g green red) audited (trace one j) j (length one - 1)) (last_end true (trace one i) (length one - 1));
+        hidden = λ j i lt lt'. refl;
       };
     }
 

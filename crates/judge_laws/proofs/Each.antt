@@ -5,7 +5,8 @@ use Rattle.sig_types.specs.Rules.{Rules}
 use Rattle.sig_types.specs.Turns.{History, trace}
 use Rattle.log_judge.specs.declared.breach.Breach.{Breach}
 use Rattle.log_judge.specs.declared.find.Terms.{Terms}
-use Rattle.log_judge.specs.Breaches.{gather, listed, of_pairs, are_both_on, step_breach, red_amber_breach, amber_breach, green_breach, red_breach, conflict_breach, intergreen_breach, pending_breach, running_breach, sequence_breaches, breaches_after, last_breaches, breaches_within, breaches}
+use Rattle.log_judge.specs.Opening.{hidden_breach}
+use Rattle.log_judge.specs.Breaches.{gather, listed, of_pairs, are_both_on, step_breach, red_amber_breach, amber_breach, green_breach, red_breach, conflict_breach, intergreen_breach, pending_breach, opening_of, running_breach, sequence_breaches, breaches_after, last_breaches, breaches_within, breaches}
 
 -- P holds of each breach of the list
 abbrev pub Each : (Breach → Type 0) → List Breach → Type 0
@@ -60,6 +61,8 @@ pub record EachLast (P : Breach → Type 0) (r : Rules) (k : Terms) (h : History
   pub running : (g : ℕ) → g < r.count → Each P (listed (running_breach r k (trace h g) g m (trace h g m)))
   pub conflict : (g i : ℕ) → g < r.count → i < r.count → Each P (listed (conflict_breach r true (trace h g) (trace h i) g i m))
   pub pending : (g i : ℕ) → g < r.count → i < r.count → Each P (listed (pending_breach r k (trace h g) (trace h i) g i m))
+  pub hidden : (g i : ℕ) → g < r.count → i < r.count →
+      Each P (listed (hidden_breach r k g i (suc m) (opening_of r k (trace h g) g m) (opening_of r k (trace h i) i m)))
 
 after_each : (P : Breach → Type 0) (r : Rules) (k : Terms) (h : History) (m : ℕ) → Each P (breaches_after r k h m) → EachAfter P r k h m
 unfolding breaches_after
@@ -105,11 +108,15 @@ last_each P r k h m each =
     let one = λ (g : ℕ). listed (running_breach r k (trace h g) g m (trace h g m)) in
     let two = λ (g i : ℕ). conflict_breach r true (trace h g) (trace h i) g i m in
     let three = λ (g i : ℕ). pending_breach r k (trace h g) (trace h i) g i m in
-    let rest = each_right P (gather one r.count) (of_pairs two r.count ++ of_pairs three r.count) each in
+    let four = λ (g i : ℕ). hidden_breach r k g i (suc m) (opening_of r k (trace h g) g m) (opening_of r k (trace h i) i m) in
+    let rest = each_right P (gather one r.count) (of_pairs two r.count ++ (of_pairs three r.count ++ of_pairs four r.count)) each in
+    let rest2 = each_right P (of_pairs two r.count) (of_pairs three r.count ++ of_pairs four r.count) rest in
     record {
-      running = λ g lt. gathered_each P one r.count g (each_left P (gather one r.count) (of_pairs two r.count ++ of_pairs three r.count) each) lt;
-      conflict = λ g i lt lt'. pair_each P two r.count g i (each_left P (of_pairs two r.count) (of_pairs three r.count) rest) lt lt';
-      pending = λ g i lt lt'. pair_each P three r.count g i (each_right P (of_pairs two r.count) (of_pairs three r.count) rest) lt lt';
+      running = λ g lt. gathered_each P one r.count g
+          (each_left P (gather one r.count) (of_pairs two r.count ++ (of_pairs three r.count ++ of_pairs four r.count)) each) lt;
+      conflict = λ g i lt lt'. pair_each P two r.count g i (each_left P (of_pairs two r.count) (of_pairs three r.count ++ of_pairs four r.count) rest) lt lt';
+      pending = λ g i lt lt'. pair_each P three r.count g i (each_left P (of_pairs three r.count) (of_pairs four r.count) rest2) lt lt';
+      hidden = λ g i lt lt'. pair_each P four r.count g i (each_right P (of_pairs three r.count) (of_pairs four r.count) rest2) lt lt';
     }
 
 each_last : (P : Breach → Type 0) (r : Rules) (k : Terms) (h : History) (m : ℕ) → EachLast P r k h m → Each P (last_breaches r k h m)
@@ -117,7 +124,8 @@ unfolding last_breaches
 each_last P r k h m each =
     each_both P _ _ (each_gathered P (λ g. listed (running_breach r k (trace h g) g m (trace h g m))) r.count each.running)
     (each_both P _ _ (each_pair P (λ g i. conflict_breach r true (trace h g) (trace h i) g i m) r.count each.conflict)
-    (each_pair P (λ g i. pending_breach r k (trace h g) (trace h i) g i m) r.count each.pending))
+    (each_both P _ _ (each_pair P (λ g i. pending_breach r k (trace h g) (trace h i) g i m) r.count each.pending)
+    (each_pair P (λ g i. hidden_breach r k g i (suc m) (opening_of r k (trace h g) g m) (opening_of r k (trace h i) i m)) r.count each.hidden)))
 
 -- of all tests of a history
 pub record EachTest (P : Breach → Type 0) (r : Rules) (k : Terms) (h : History) : Type 0 where

@@ -163,6 +163,7 @@ each_broken r h two_way is = of_tests (λ b. IsBroken r h (named b)) r audited h
         (soon_row (is_red_amber (trace h g (length h - 1))) g i (latest_green r audited (trace h g) g (length h - 1)) (r.between i g)
         (last_end true (trace h i) (length h - 1)))
         (λ some. (lt, λ before. wait_breaks r h g i is lt lt' (four_of r h before) (λ none. some none.pending)));
+    hidden = λ g i lt lt'. tt;
   };
 })
 

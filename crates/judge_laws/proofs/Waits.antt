@@ -180,6 +180,7 @@ none_passes r h i g two_way is lt lt' four none z listed =
         conflict = λ j k lt lt'. none_conflict (waiting r i g) true (trace h j) (trace h k) j k (length h - 1)
             (apart j k (length h - 1) lt lt' (omega (arith, is.begun)));
         pending = λ j k lt lt'. pending j k;
+        hidden = λ j k lt lt'. refl;
       };
     }
 

@@ -7,4 +7,4 @@ mod stop;
 
 pub use note::write_stop;
 pub use status::{Status, exit_status, status_of};
-pub use stop::{JudgeStop, LineWhy};
+pub use stop::JudgeStop;

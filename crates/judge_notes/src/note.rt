@@ -5,52 +5,13 @@ ghost use Rattle.std.specs.List.{flat_map};
 ghost use Rattle.std.specs.Io.KnownBytes.{append_known};
 ghost use Rattle.sig_io.specs.Outside.{Rose};
 ghost use Rattle.log_site.specs.Reasons.{told_text};
-ghost use Rattle.judge_notes.specs.Notes.{line_note, line_reason, note_of, picture_reason, record_reason, site_note, stop_note};
+ghost use Rattle.judge_notes.specs.Notes.{line_note, note_of, site_note, stop_note};
 
-use crate::stop::{JudgeStop, LineWhy};
+use crate::stop::JudgeStop;
 use itoa::Buffer;
-use log_lines::LogWhy as PictureWhy;
-use log_records::LogWhy as RecordWhy;
+use log_read::why_name;
 use log_site::{ReasonText, SiteStop, name_alone, reason_told};
 use sig_io::{Sink, put_each};
-
-fn picture_reason(why: PictureWhy) -> &'static [u8]
-    ensures { result.now ≡ picture_reason why }
-{
-    match why {
-        PictureWhy::Header => b"Header",
-        PictureWhy::Line => b"Line",
-        PictureWhy::LineTooLong => b"LineTooLong",
-        PictureWhy::TooManySeconds => b"TooManySeconds",
-    }
-}
-
-fn record_reason(why: RecordWhy) -> &'static [u8]
-    ensures { result.now ≡ record_reason why }
-{
-    match why {
-        RecordWhy::Header => b"Header",
-        RecordWhy::Fields => b"Fields",
-        RecordWhy::Second => b"Second",
-        RecordWhy::Stage => b"Stage",
-        RecordWhy::Aspects => b"Aspects",
-        RecordWhy::Counts => b"Counts",
-        RecordWhy::Refused => b"Refused",
-        RecordWhy::Fault => b"Fault",
-        RecordWhy::LineTooLong => b"LineTooLong",
-        RecordWhy::TooManySeconds => b"TooManySeconds",
-    }
-}
-
-// Why a line of a log is refused.
-fn line_reason(why: LineWhy) -> &'static [u8]
-    ensures { result.now ≡ line_reason why }
-{
-    match why {
-        LineWhy::Picture(why) => picture_reason(why),
-        LineWhy::Record(why) => record_reason(why),
-    }
-}
 
 // Writes a note of these pieces. One of at most 4,096 bytes is given to the sink whole. A fault changes nothing else.
 fn write_pieces<N: Sink>(pieces: &[&[u8]], notes: &mut N)
@@ -131,7 +92,7 @@ pub fn write_stop<N: Sink>(stop: &JudgeStop<'_>, notes: &mut N)
         JudgeStop::RefusedLine { word, line, why } => write_refusal(
             word.as_bytes(),
             *line,
-            &name_alone(line_reason(*why)),
+            &name_alone(why_name(*why)),
             notes,
         ),
         JudgeStop::WriteFault => write_pieces(&[b"log_report: WriteFault\n"], notes),

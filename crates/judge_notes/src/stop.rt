@@ -1,17 +1,7 @@
 // Why a call that judges a log stopped.
 
-use log_lines::LogWhy as PictureWhy;
-use log_records::LogWhy as RecordWhy;
+use log_read::LogWhy;
 use log_site::SiteStop;
-
-/// Why a line of a log is refused.
-#[derive(Clone, Copy, Debug, PartialEq, Eq)]
-pub enum LineWhy {
-    /// A log of which only the pictures are read.
-    Picture(PictureWhy),
-    /// A log whose records are read whole.
-    Record(RecordWhy),
-}
 
 /// Why a call ended before all was done. A file goes by its word, and its lines count from 1.
 #[derive(Drop)]
@@ -28,7 +18,7 @@ pub enum JudgeStop<'a> {
     RefusedLine {
         word: &'a str,
         line: u32,
-        why: LineWhy,
+        why: LogWhy,
     },
     /// Standard output could not be written.
     WriteFault,

@@ -1,5 +1,5 @@
 -- The words of breaches, a line for each.
-use Rattle.std.specs.Prelude.{ℕ, ◌+◌, ◌-◌, List, ◌++◌, codes, length, nat_lt, if◌then◌else◌}
+use Rattle.std.specs.Prelude.{ℕ, ◌+◌, ◌-◌, ◌==◌, List, ◌++◌, codes, length, nat_lt, if◌then◌else◌}
 use Rattle.std.specs.List.{flat_map}
 use Rattle.std.specs.Fmt.{decimal}
 use Rattle.sig_types.specs.declared.aspect.Aspect.{Aspect}
@@ -7,7 +7,7 @@ use Rattle.sig_types.specs.declared.aspect.Aspect.TheVariants.{Red, RedAmber, Gr
 use Rattle.sig_types.specs.declared.numbers.GroupNo.{GroupNo}
 use Rattle.pua_model.specs.Plan.{name_of}
 use Rattle.log_judge.specs.declared.breach.Breach.{Breach}
-use Rattle.log_judge.specs.declared.breach.Breach.TheVariants.{Step, Short, Long, Conflict, Intergreen}
+use Rattle.log_judge.specs.declared.breach.Breach.TheVariants.{Step, Short, Long, Conflict, Intergreen, Hidden}
 use Rattle.judge_text.specs.Sums.{sums_text}
 use Rattle.judge_text.specs.Words.{head_text}
 
@@ -44,6 +44,20 @@ cleared_text names first pictures second group other ended least =
     ++ name_of names group ++ green_text first pictures second ++ codes ", " ++ decimal (second - ended) ++ codes " s later; intergreen "
     ++ decimal least ++ codes " s"
 
+-- A green at this place, or so many seconds before the first picture, with what passed since an end so many seconds before it.
+abbrev pub behind_text : ℕ → ℕ → ℕ → ℕ → ℕ → List ℕ
+behind_text first pictures second ended before =
+    if before == 0
+    then green_text first pictures second ++ codes ", at most " ++ decimal (second + ended - before) ++ codes " s later"
+    else codes " turned green at least " ++ decimal before ++ codes " s before it"
+
+-- an end that lies before the log, and a green too soon after it
+abbrev pub hidden_text : List (List ℕ) → ℕ → ℕ → ℕ → GroupNo → GroupNo → ℕ → ℕ → ℕ → List ℕ
+hidden_text names first pictures second group other ended before least =
+    codes " " ++ name_of names other ++ codes ": " ++ name_of names other ++ codes " ended at most " ++ decimal ended ++ codes " s before second "
+    ++ decimal first ++ codes ", " ++ name_of names group ++ behind_text first pictures second ended before ++ codes "; intergreen "
+    ++ decimal least ++ codes " s"
+
 -- what shows a breach
 abbrev pub evidence_text : List (List ℕ) → ℕ → ℕ → Breach → List ℕ
 evidence_text names first pictures (Step second group was is) = codes ": " ++ aspect_name is ++ codes " after " ++ aspect_name was
@@ -53,6 +67,8 @@ evidence_text names first pictures (Conflict second group other since) =
     codes " " ++ name_of names other ++ codes ": both on from second " ++ decimal (first + since) ++ codes " for " ++ decimal (second - since) ++ codes " s"
 evidence_text names first pictures (Intergreen second group other ended least) =
     cleared_text names first pictures second group other ended least
+evidence_text names first pictures (Hidden second group other ended before least) =
+    hidden_text names first pictures second group other ended before least
 
 -- the line of a breach
 unfoldable pub line_text : List (List ℕ) → ℕ → ℕ → Breach → List ℕ

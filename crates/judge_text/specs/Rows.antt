@@ -5,7 +5,7 @@ use Rattle.std.specs.Fmt.{decimal}
 use Rattle.sig_types.specs.LogForm.{letter}
 use Rattle.pua_model.specs.Plan.{name_of}
 use Rattle.log_judge.specs.declared.breach.Breach.{Breach}
-use Rattle.log_judge.specs.declared.breach.Breach.TheVariants.{Step, Short, Long, Conflict, Intergreen}
+use Rattle.log_judge.specs.declared.breach.Breach.TheVariants.{Step, Short, Long, Conflict, Intergreen, Hidden}
 use Rattle.judge_text.specs.Words.{head_text}
 
 -- the names of the columns
@@ -26,6 +26,8 @@ fields_text names first (Long second group aspect since most) =
 fields_text names first (Conflict second group other since) = name_of names other ++ codes ",," ++ span_text first since second
 fields_text names first (Intergreen second group other ended least) =
     name_of names other ++ codes ",," ++ span_text first ended second ++ decimal least
+fields_text names first (Hidden second group other ended before least) =
+    name_of names other ++ codes ",,," ++ decimal (second + ended - before) ++ codes "," ++ decimal least
 
 -- the row of a breach
 unfoldable pub row_text : List (List ℕ) → ℕ → Breach → List ℕ

@@ -3,10 +3,10 @@ ghost use Rattle.std.specs.Prelude.{◌≡◌, ◌+◌, ◌-◌, ◌≤◌, ◌+
 ghost use Rattle.std.specs.List.{flat_map};
 ghost use Rattle.std.specs.Fmt.{decimal};
 ghost use Rattle.sig_io.specs.Draft.{Puts};
-ghost use Rattle.judge_text.specs.Lines.{aspect_name, breaches_text, cleared_text, evidence_text, green_text, lasted_text, line_text, time_name};
+ghost use Rattle.judge_text.specs.Lines.{aspect_name, behind_text, breaches_text, cleared_text, evidence_text, green_text, hidden_text, lasted_text, line_text, time_name};
 
 use crate::sums::put_sums;
-use crate::words::{put_head, put_name, put_second};
+use crate::words::{put_between, put_head, put_name, put_second};
 use log_judge::Breach;
 use pua_model::Plan;
 use sig_io::{Draft, Sink};
@@ -113,6 +113,77 @@ fn put_cleared<O: Sink>(
     draft.put(sink, b" s");
 }
 
+// A green that comes too soon after an end before the log.
+#[derive(Clone, Copy)]
+struct Hidden {
+    second: u32,
+    group: GroupNo,
+    other: GroupNo,
+    ended: u32,
+    before: u32,
+    least: u32,
+}
+
+// Puts where a green is, and what passed since an end before the log.
+fn put_behind<O: Sink>(
+    draft: &mut Draft,
+    sink: &mut O,
+    first: u32,
+    pictures: u32,
+    second: u32,
+    ended: u32,
+    before: u32,
+)
+    ensures { Puts O.taken O.faults draft.old draft.new sink.old sink.new (behind_text first pictures second ended before) }
+{
+    if before == 0 {
+        put_green(draft, sink, first, pictures, second);
+        draft.put(sink, b", at most ");
+        put_between(draft, sink, second, ended, before);
+        draft.put(sink, b" s later");
+    } else {
+        draft.put(sink, b" turned green at least ");
+        draft.put_number(sink, before);
+        draft.put(sink, b" s before it");
+    }
+}
+
+// Puts an end before the log, and the green too soon after it.
+fn put_hidden<O: Sink>(
+    draft: &mut Draft,
+    sink: &mut O,
+    plan: &Plan,
+    first: u32,
+    pictures: u32,
+    soon: Hidden,
+)
+    ensures { Puts O.taken O.faults draft.old draft.new sink.old sink.new
+        (hidden_text plan.now.names first pictures soon.second soon.group soon.other soon.ended soon.before soon.least) }
+{
+    draft.put(sink, b" ");
+    put_name(draft, sink, plan, soon.other);
+    draft.put(sink, b": ");
+    put_name(draft, sink, plan, soon.other);
+    draft.put(sink, b" ended at most ");
+    draft.put_number(sink, soon.ended);
+    draft.put(sink, b" s before second ");
+    draft.put_number(sink, first);
+    draft.put(sink, b", ");
+    put_name(draft, sink, plan, soon.group);
+    put_behind(
+        draft,
+        sink,
+        first,
+        pictures,
+        soon.second,
+        soon.ended,
+        soon.before,
+    );
+    draft.put(sink, b"; intergreen ");
+    draft.put_number(sink, soon.least);
+    draft.put(sink, b" s");
+}
+
 // Puts what shows a breach.
 fn put_evidence<O: Sink>(
     draft: &mut Draft,
@@ -174,6 +245,24 @@ fn put_evidence<O: Sink>(
                 least,
             };
             put_cleared(draft, sink, plan, first, pictures, soon)
+        }
+        Breach::Hidden {
+            second,
+            group,
+            other,
+            ended,
+            before,
+            least,
+        } => {
+            let soon = Hidden {
+                second,
+                group,
+                other,
+                ended,
+                before,
+                least,
+            };
+            put_hidden(draft, sink, plan, first, pictures, soon)
         }
     }
 }

@@ -5,7 +5,7 @@ ghost use Rattle.std.specs.Fmt.{decimal};
 ghost use Rattle.sig_io.specs.Draft.{Puts};
 ghost use Rattle.judge_text.specs.Rows.{fields_text, row_text, span_text, table_text};
 
-use crate::words::{letter, put_head, put_name, put_second};
+use crate::words::{letter, put_between, put_head, put_name, put_second};
 use log_judge::Breach;
 use pua_model::Plan;
 use sig_io::{Draft, Sink};
@@ -76,6 +76,20 @@ fn put_fields<O: Sink>(draft: &mut Draft, sink: &mut O, plan: &Plan, first: u32,
             put_name(draft, sink, plan, other);
             draft.put(sink, b",,");
             put_span(draft, sink, first, ended, second);
+            draft.put_number(sink, least);
+        }
+        Breach::Hidden {
+            second,
+            other,
+            ended,
+            before,
+            least,
+            ..
+        } => {
+            put_name(draft, sink, plan, other);
+            draft.put(sink, b",,,");
+            put_between(draft, sink, second, ended, before);
+            draft.put(sink, b",");
             draft.put_number(sink, least);
         }
     }

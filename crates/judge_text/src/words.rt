@@ -1,5 +1,5 @@
 // The words of breaches.
-ghost use Rattle.std.specs.Prelude.{◌≡◌, ◌+◌, ◌≤◌, ◌++◌, ◌∷◌, [], List, ℕ, Option, length, codes};
+ghost use Rattle.std.specs.Prelude.{◌≡◌, ◌+◌, ◌-◌, ◌≤◌, ◌++◌, ◌∷◌, [], List, ℕ, Option, length, codes};
 ghost use Rattle.std.specs.Fmt.{decimal};
 ghost use Rattle.sig_io.specs.Draft.{Puts};
 ghost use Rattle.sig_types.specs.LogForm.{letter};
@@ -36,6 +36,7 @@ pub(crate) fn rule_of(breach: &Breach) -> Rule
         Breach::Long { aspect, .. } => aspect_rule(*aspect),
         Breach::Conflict { .. } => Rule::Conflict,
         Breach::Intergreen { .. } => Rule::Intergreen,
+        Breach::Hidden { .. } => Rule::Intergreen,
     }
 }
 
@@ -49,6 +50,7 @@ pub(crate) fn group_of(breach: &Breach) -> GroupNo
         Breach::Long { group, .. } => *group,
         Breach::Conflict { group, .. } => *group,
         Breach::Intergreen { group, .. } => *group,
+        Breach::Hidden { group, .. } => *group,
     }
 }
 
@@ -62,6 +64,7 @@ pub(crate) fn other_of(breach: &Breach) -> Option<GroupNo>
         Breach::Long { .. } => None,
         Breach::Conflict { other, .. } => Some(*other),
         Breach::Intergreen { other, .. } => Some(*other),
+        Breach::Hidden { other, .. } => Some(*other),
     }
 }
 
@@ -75,6 +78,7 @@ fn second_of(breach: &Breach) -> u32
         Breach::Long { second, .. } => *second,
         Breach::Conflict { second, .. } => *second,
         Breach::Intergreen { second, .. } => *second,
+        Breach::Hidden { second, .. } => *second,
     }
 }
 
@@ -102,6 +106,20 @@ pub(crate) fn put_second<O: Sink>(draft: &mut Draft, sink: &mut O, first: u32, p
     ensures { Puts O.taken O.faults draft.old draft.new sink.old sink.new (decimal (first + place)) }
 {
     draft.put_long_number(sink, u64::from(first) + u64::from(place));
+}
+
+/// Puts the seconds from an end so many seconds before second 0 to a green in this second, or so many before second 0.
+pub(crate) fn put_between<O: Sink>(
+    draft: &mut Draft,
+    sink: &mut O,
+    second: u32,
+    ended: u32,
+    before: u32,
+)
+    ensures { Puts O.taken O.faults draft.old draft.new sink.old sink.new (decimal (second + ended - before)) }
+{
+    let passed = u64::from(second) + u64::from(ended);
+    draft.put_long_number(sink, passed.saturating_sub(u64::from(before)));
 }
 
 /// Puts the second, the rule and the group of a breach, with this between them.

@@ -13,7 +13,10 @@ ghost use Rattle.junction_calls.specs.Variables.{AreNamesTold, IsValueTold};
 use junction_calls::{
     Refusal, RefusedStage, group_name, load_into, refused_stage, variable_names, variable_value,
 };
-use junction_handle::{DetectorCounts, Junction, Told, make_second, take};
+use junction_handle::{
+    ActionMask, DetectorCounts, GivenCommands, Junction, Told, make_given_second, make_second,
+    take, tell_mask,
+};
 use junction_run::Source;
 use std::alloc::Global;
 
@@ -106,6 +109,29 @@ pub extern "C" fn junction_c_second(
         Some(false) => 3,
         Some(true) => 0,
     }
+}
+
+/// Makes a second whose commands are given in the place of the program's. 0: it was made and is told. 3: the counts are not taken.
+/// 4: the handle holds nothing. 9: a command names no stage or group. Where it isn't 0 nothing has changed.
+#[unsafe(no_mangle)]
+pub extern "C" fn junction_c_given_second(
+    alloc: Global,
+    handle: &mut Junction,
+    counts: &DetectorCounts,
+    commands: &GivenCommands,
+    told: &mut Told,
+) -> u32 {
+    make_given_second(handle, alloc, counts, commands, told)
+}
+
+/// Tells what the second that comes would refuse. 0: it is told. 3: no second is left. 4: the handle holds nothing.
+#[unsafe(no_mangle)]
+pub extern "C" fn junction_c_mask(
+    alloc: Global,
+    handle: &mut Junction,
+    mask: &mut ActionMask,
+) -> u32 {
+    tell_mask(handle, alloc, mask)
 }
 
 /// Tells the refused stage command of the last second at that place. 0: it is told; 4: there is none, or the handle holds nothing.

@@ -9,6 +9,10 @@ use junction_run::{LoadStop, judge_source};
 use std::alloc::{AllocError, Global};
 use vap_check::Checked;
 
+// Frees a program. A value that goes out of scope is freed part by part in each way out of its function, and each part is a step of the
+// function's proof; by this a way out has one step.
+fn free_checked(_checked: Checked) {}
+
 // The names of the variables of a checked program.
 fn names_of(alloc: Global, checked: &Checked) -> Result<Vec<u8>, AllocError>
     ensures { IfOk result (λ text. text.items ≡ names_text (program_of checked.now.tree)) }
@@ -38,10 +42,14 @@ pub fn variable_names(alloc: Global, program: &[u8], names: &mut [u8], length: &
     };
     match names_of(alloc, &checked) {
         Ok(text) => {
+            free_checked(checked);
             *length = copy_text(&text, names);
             0
         }
-        Err(_) => 1,
+        Err(_) => {
+            free_checked(checked);
+            1
+        }
     }
 }
 

@@ -8,8 +8,8 @@ use Rattle.sig_types.specs.Rules.{Rules}
 use Rattle.sig_types.specs.Turns.{Picture}
 use Rattle.pua_model.specs.Plan.{PlanOf, groups_in}
 use Rattle.controller.specs.Past.{Site}
-use Rattle.log_lines.specs.declared.lines.LogLines.{LogLines}
-use Rattle.log_lines.specs.Answers.{Reads}
+use Rattle.log_read.specs.declared.pictures.LogPictures.{LogPictures}
+use Rattle.log_read.specs.Answers.{Reads}
 use Rattle.sig_audit.specs.declared.auditor.Auditor.{Auditor}
 use Rattle.sig_audit.specs.declared.trial.InterEnd.{InterEnd}
 use Rattle.sig_audit.specs.declared.verdict.Verdict.{Verdict}
@@ -30,19 +30,19 @@ use Rattle.junction_run.specs.Ended.{IsEnded}
 use Rattle.junction_run.specs.Form.{SiteWords, Audit}
 use Rattle.junction_run.specs.Loading.{Logged, IsLogged, Loads, LogAfterSite, Reached, ReachedAfterSite, ReachedInSite, site_of}
 use Rattle.junction_run.specs.LogJudged.{IsAudited, IsJudgedLog}
-use Rattle.junction_run.specs.Reasons.{log_reason}
+use Rattle.log_read.specs.Whys.{why_name}
 use Rattle.junction_run.specs.Stop.{IsLoadStop, IsUnloadedBy}
 use Rattle.junction_run.proofs.Ends.{append_known-nil}
 use Rattle.junction_run.proofs.Texts.{unloaded_later}
 
 -- these pictures of a log were read, and judged
-pub record SoFar (auditor : Auditor) (lines : LogLines) (told : Option Contents) (name : List ℕ) (plan : PlanOf) (r : Rules) : Type 0 where
+pub record SoFar (auditor : Auditor) (lines : LogPictures) (told : Option Contents) (name : List ℕ) (plan : PlanOf) (r : Rules) : Type 0 where
   pub pictures : List Picture
   pub stands : StandsFor auditor r (replicate (groups_in plan) Red ∷ pictures)
   pub reads : ForSome told (λ file. Reads lines plan.names (file name) pictures)
 
 -- at the start
-pub none_read : (auditor : Auditor) (lines : LogLines) (told : Option Contents) (name : List ℕ) (plan : PlanOf) (r : Rules) →
+pub none_read : (auditor : Auditor) (lines : LogPictures) (told : Option Contents) (name : List ℕ) (plan : PlanOf) (r : Rules) →
     StandsFor auditor r (replicate (groups_in plan) Red ∷ []) → ((names : List (List ℕ)) (bytes : List ℕ) → Reads lines names bytes []) →
     SoFar auditor lines told name plan r
 none_read auditor lines told name plan r stands reads = record { pictures = []; stands = stands; reads = λ file e. reads plan.names (file name) }
@@ -107,5 +107,5 @@ audit_ended log words file site (Err (Play (RefusedLine w line (Record why)))) o
     let logged : Logged = record { site = site; pictures = is.2; refusal = Some (line, why) } in
     let loads = loads_log log words file site logged at (refl, is.3) in (
       (Ok logged, loads, refl, ([], refl, is.1 ∙ sym (append_known-nil old))),
-      (Ok logged, loads, refl, ap (λ v. line_note v line (log_reason why)) is.0),
+      (Ok logged, loads, refl, ap (λ v. line_note v line (why_name why)) is.0),
     )

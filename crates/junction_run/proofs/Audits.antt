@@ -14,10 +14,12 @@ use Rattle.sig_types.proofs.LastBelow.{least_below-some}
 use Rattle.pua_model.specs.Plan.{PlanOf, groups_in, interstage_at}
 use Rattle.sig_guard.specs.Safety.{IsHistory}
 use Rattle.controller.specs.Past.{Site}
-use Rattle.log_lines.specs.declared.refusal.LogWhy.{LogWhy}
-use Rattle.log_lines.specs.Log.{IsLog, HasPictures, line_at}
-use Rattle.log_lines.proofs.LogLaws.{one_answer, some_answer}
-use Rattle.log_lines.proofs.RecordForms.{record_parts}
+use Rattle.log_read.specs.declared.refusal.LogWhy.{LogWhy}
+use Rattle.log_read.specs.Log.{HasEntries, line_at}
+use Rattle.log_read.specs.Readings.{IsPictures, pictures_by}
+use Rattle.log_read.specs.declared.begin.Begin.TheVariants.{AtOne}
+use Rattle.log_read.proofs.LogLaws.{one_pictures, some_pictures}
+use Rattle.log_read.proofs.RecordForms.{record_parts}
 use Rattle.sig_audit.specs.declared.trial.InterEnd.{InterEnd}
 use Rattle.sig_audit.specs.declared.trial.InterEnd.TheVariants as inter
 use Rattle.sig_audit.specs.Trial.{EndsAs, IsInterEnd, first_turn, is_settled, refused_in}
@@ -36,12 +38,12 @@ logged_so site a b at at' pictures refusal = λ j. record { site = (at ∙ sym a
 
 pub one_log : (site : Site) (bytes : List ℕ) (a b : Logged) → IsLogged site bytes a → IsLogged site bytes b → a ≡ b
 one_log site bytes a b p q =
-    let same = one_answer site.plan.names bytes a.pictures b.pictures a.refusal b.refusal p.1 q.1 in
+    let same = one_pictures AtOne site.plan.names bytes a.pictures b.pictures a.refusal b.refusal p.1 q.1 in
     logged_so site a b p.0 q.0 same.0 same.1
 
 pub logs_have_one_answer : LogsHaveOneAnswer
 logs_have_one_answer site bytes =
-    let some = some_answer site.plan.names bytes in
+    let some = some_pictures AtOne site.plan.names bytes in
     let logged : Logged = record { site = site; pictures = some.0; refusal = some.1.0 } in
     (logged, (refl, some.1.1), λ other is. one_log site bytes other logged is (refl, some.1.1))
 
@@ -140,11 +142,11 @@ inter_is plan i end from to first last =
 -- ---- the verdict
 
 -- the pictures of a log have the groups of the plan
-sized : (names lines : List (List ℕ)) (n : ℕ) (pictures : List Picture) → HasPictures names lines n pictures → (k : ℕ) → k < length pictures →
+sized : (names lines : List (List ℕ)) (n : ℕ) (pictures : List Picture) → HasEntries (pictures_by names) 1 lines n pictures → (k : ℕ) → k < length pictures →
     length (get_or pictures k []) ≡ length names
-sized names lines n pictures has k lt = (record_parts (length names) (k + 1) (line_at lines (k + 1)) (get_or pictures k []) (has.pictures_are k lt)).groups_are
+sized names lines n pictures has k lt = (record_parts (length names) (1 + k) (line_at lines (k + 1)) (get_or pictures k []) (has.entries_are k [] lt)).groups_are
 
-log_sized : (names : List (List ℕ)) (bytes : List ℕ) (pictures : List Picture) (refusal : Option (ℕ × LogWhy)) → IsLog names bytes pictures refusal →
+log_sized : (names : List (List ℕ)) (bytes : List ℕ) (pictures : List Picture) (refusal : Option (ℕ × LogWhy)) → IsPictures AtOne names bytes pictures refusal →
     (k : ℕ) → k < length pictures → length (get_or pictures k []) ≡ length names
 log_sized names bytes pictures None is k lt = sized names (fed_lines bytes) _ pictures is.0 k lt
 log_sized names bytes pictures (Some at) is k lt = sized names (fed_lines bytes) _ pictures is.0 k lt
@@ -175,7 +177,7 @@ one_audit : (site : Site) (pictures : List Picture) (a b : List ℕ) → IsAudit
 one_audit site pictures a b p q = p.text_is ∙ judged_once site pictures p.judged q.judged ∙ sym q.text_is
 
 some_audit : (site : Site) (bytes : List ℕ) (pictures : List Picture) (refusal : Option (ℕ × LogWhy)) → IsSound site →
-    IsLog site.plan.names bytes pictures refusal →
+    IsPictures AtOne site.plan.names bytes pictures refusal →
     (text : List ℕ) × IsAudit site pictures text
 some_audit site bytes pictures refusal sound is =
     let history = log_history (groups_in site.plan) pictures (log_sized site.plan.names bytes pictures refusal is) in
@@ -203,7 +205,7 @@ pub logs_have_one_audit : LogsHaveOneAudit
 logs_have_one_audit log words file logged loads =
     let at = log_at (site_of words file) (file log) logged loads in
     let sound : IsSound logged.site = subst IsSound (sym at.2.0) (site_sound words file at.0 at.1) in
-    let is : IsLog logged.site.plan.names (file log) logged.pictures logged.refusal
-    = subst (λ s. IsLog s.plan.names (file log) logged.pictures logged.refusal) (sym at.2.0) at.2.1 in
+    let is : IsPictures AtOne logged.site.plan.names (file log) logged.pictures logged.refusal
+    = subst (λ s. IsPictures AtOne s.plan.names (file log) logged.pictures logged.refusal) (sym at.2.0) at.2.1 in
     let audit = some_audit logged.site (file log) logged.pictures logged.refusal sound is in
     (audit.0, audit.1, λ other that. one_audit logged.site logged.pictures other audit.0 that audit.1)

@@ -37,11 +37,12 @@ use Rattle.signal_log.specs.Laws.{Lacks}
 use Rattle.signal_log.specs.Log.{header_text, log_text, place_text, record_line, record_text, records_text}
 use Rattle.signal_log.proofs.Lengths.{header_is_short, lines_are_short}
 use Rattle.signal_log.proofs.LogLines.{lines_begin, lines_have_no_feed}
-use Rattle.log_lines.specs.declared.refusal.LogWhy.{LogWhy}
-use Rattle.log_lines.specs.Laws.{AreReadable, Written, written_from, written_line}
-use Rattle.log_lines.specs.Log.{IsLog}
-use Rattle.log_lines.proofs.LogLaws.{one_answer}
-use Rattle.log_lines.proofs.ReadBack.{reads_back}
+use Rattle.log_read.specs.declared.refusal.LogWhy.{LogWhy}
+use Rattle.log_read.specs.Laws.{AreReadable, Written, written_from, written_line}
+use Rattle.log_read.specs.Readings.{IsPictures}
+use Rattle.log_read.specs.declared.begin.Begin.TheVariants.{AtOne}
+use Rattle.log_read.proofs.LogLaws.{one_pictures}
+use Rattle.log_read.proofs.ReadBack.{reads_back}
 use Rattle.sig_audit.specs.declared.verdict.Verdict.TheVariants as verdict
 use Rattle.sig_audit.specs.Verdict.{IsVerdict}
 use Rattle.sig_audit.proofs.VerdictLaws.{one_verdict}
@@ -256,7 +257,7 @@ module _ (site : Site) (plan : IsPlan site.plan) where
   pictures_are [] = refl
   pictures_are (r ∷ rs) = ap (λ l. r.picture ∷ l) (pictures_are rs)
 
-  read_again : (fs : List Counts) (rs : List Record) → AreFrames fs → AreBoundedFrom site 1 fs rs → IsLog names (log_text names rs) (record_pictures rs) None
+  read_again : (fs : List Counts) (rs : List Record) → AreFrames fs → AreBoundedFrom site 1 fs rs → IsPictures AtOne names (log_text names rs) (record_pictures rs) None
   unfolding log_text header_text
   read_again fs rs frames are =
       let feeds = lines_have_no_feed names plan.names in
@@ -265,8 +266,8 @@ module _ (site : Site) (plan : IsPlan site.plan) where
       append_assoc (header_line names) (10 ∷ []) (records_text names rs) ∙ ap (λ l. header_line names ++ 10 ∷ l) (texts_are 1 fs rs are) in
       let count : length ws ≤ 604801 = omega (arith, length-map rs (written_of names), counts_are 1 fs rs are, frames.few) in
       let read = reads_back names ws feeds.0 (header_is_short names plan.names plan.groups_at_most) count (readable 1 fs rs frames.sizes are) in
-      subst (λ l. IsLog names l (record_pictures rs) None) (sym text)
-      (subst (λ ps. IsLog names (header_line names ++ 10 ∷ written_from 1 ws) ps None) (pictures_are rs) read)
+      subst (λ l. IsPictures AtOne names l (record_pictures rs) None) (sym text)
+      (subst (λ ps. IsPictures AtOne names (header_line names ++ 10 ∷ written_from 1 ws) ps None) (pictures_are rs) read)
 
 records_count : (playing : Playing) (frames : List Counts) → IsWithinLimits playing frames → length (records_of playing frames) ≡ length frames
 records_count playing frames limits = counts_are playing.site limits.plan 1 frames (records_of playing frames) limits.records
@@ -368,7 +369,7 @@ audit_by : (log : List ℕ) (words : SiteWords) (audited : Contents) (playing : 
 audit_by log words audited playing frames o r judged site is =
     let loads : LogAfterSite (Ok playing.site) (audited log) r = subst (λ x. LogAfterSite x (audited log) r) site is in
     let logged : Logged = loads.0 in
-    let one = one_answer playing.site.plan.names (audited log) logged.pictures (record_pictures (records_of playing frames)) logged.refusal None
+    let one = one_pictures AtOne playing.site.plan.names (audited log) logged.pictures (record_pictures (records_of playing frames)) logged.refusal None
     loads.1.1 judged.is_log in
     subst (λ x. SaysSafe (answer_to (Audit log words) audited x) (length frames)) (sym loads.2)
     (says_by log playing.site logged.site (record_pictures (records_of playing frames)) logged.pictures logged.refusal (length frames) judged.is_safe

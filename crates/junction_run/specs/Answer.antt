@@ -7,7 +7,7 @@ use Rattle.sig_io.specs.Draft.{IsCut}
 use Rattle.controller.specs.Past.{Site}
 use Rattle.det_stream.specs.declared.refusal.StreamWhy.{StreamWhy}
 use Rattle.det_stream.specs.Stream.{Stream, stream_of}
-use Rattle.log_lines.specs.declared.refusal.LogWhy.{LogWhy}
+use Rattle.log_read.specs.declared.refusal.LogWhy.{LogWhy}
 use Rattle.sig_types.specs.Turns.{Picture}
 use Rattle.vap_ast.specs.Syntax.{Program}
 use Rattle.junction_run.specs.declared.status.Status.{Status}
@@ -16,7 +16,8 @@ use Rattle.junction_run.specs.Codes.{IsCompiled}
 use Rattle.junction_run.specs.Audited.{IsAudit}
 use Rattle.junction_run.specs.Form.{Form, Play, Compile, Sample, Audit}
 use Rattle.junction_run.specs.Loading.{Unloaded, TooLong, Refused, Loaded, Loads, Playing}
-use Rattle.junction_run.specs.Reasons.{stream_reason, log_reason}
+use Rattle.junction_run.specs.Reasons.{stream_reason}
+use Rattle.log_read.specs.Whys.{why_name}
 use Rattle.junction_run.specs.Records.{log_of}
 use Rattle.junction_run.specs.Sampled.{sample_text}
 
@@ -97,7 +98,7 @@ sample_answer seed seconds playing = in_pieces status.Done (λ k text. text ≡ 
 -- first refused line
 abbrev pub audit_answer : (log : List ℕ) → Site → List Picture → Option (ℕ × LogWhy) → Answer
 audit_answer log site pictures None = in_pieces status.Done (λ k text. IsAudit site pictures text) 1 0 []
-audit_answer log site pictures (Some at) = stopped status.RefusedLine (line_note log at.0 (log_reason at.1))
+audit_answer log site pictures (Some at) = stopped status.RefusedLine (line_note log at.0 (why_name at.1))
 
 -- the answer to a form that works on this
 abbrev pub loaded_answer : (form : Form) → Contents → Loaded form → Answer

@@ -12,8 +12,9 @@ use Rattle.sig_tables.specs.SiteRules.{rules_by}
 use Rattle.sig_tables.specs.TimesTable.{times_refusal, times_of}
 use Rattle.sig_tables.specs.IntergreenTable.{intergreens_refusal, intergreen_of}
 use Rattle.controller.specs.Past.{Site}
-use Rattle.log_lines.specs.declared.refusal.LogWhy.{LogWhy}
-use Rattle.log_lines.specs.Log.{IsLog}
+use Rattle.log_read.specs.declared.refusal.LogWhy.{LogWhy}
+use Rattle.log_read.specs.Readings.{IsPictures}
+use Rattle.log_read.specs.declared.begin.Begin.TheVariants.{AtOne}
 use Rattle.junction_run.specs.Codes.{CodeIs}
 use Rattle.junction_run.specs.Form.{SiteWords, Source, ProgramFile, CodeFile, word_of, Form, Play, Compile, Sample, Audit}
 use Rattle.junction_run.specs.Programs.{ProgramIs, logic_of, store_of}
@@ -167,7 +168,7 @@ pub record Logged : Type 0 where
 
 -- a log with these bytes tells this at the site
 abbrev pub IsLogged : Site → List ℕ → Logged → Type 0
-IsLogged site bytes logged = (logged.site ≡ site) × IsLog site.plan.names bytes logged.pictures logged.refusal
+IsLogged site bytes logged = (logged.site ≡ site) × IsPictures AtOne site.plan.names bytes logged.pictures logged.refusal
 
 -- the site first, and then a log with these bytes
 abbrev pub LogAfterSite : Result Site Unloaded → List ℕ → Result Logged Unloaded → Type 0

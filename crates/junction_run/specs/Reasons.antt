@@ -20,8 +20,7 @@ use Rattle.vap_code.specs.declared.VerifyWhy.{VerifyWhy}
 use Rattle.vap_code.specs.declared.VerifyWhy.TheVariants as verify
 use Rattle.det_stream.specs.declared.refusal.StreamWhy.{StreamWhy}
 use Rattle.det_stream.specs.declared.refusal.StreamWhy.TheVariants as stream
-use Rattle.log_lines.specs.declared.refusal.LogWhy.{LogWhy}
-use Rattle.log_lines.specs.declared.refusal.LogWhy.TheVariants as log
+use Rattle.log_read.specs.Whys.{why_name}
 use Rattle.junction_run.specs.declared.reasons.ReasonText.{ReasonText}
 use Rattle.junction_run.specs.declared.stop.LineReason.{LineReason}
 use Rattle.junction_run.specs.declared.stop.LineReason.TheVariants.{Frame, Record}
@@ -120,17 +119,10 @@ stream_reason (stream.RearsAhead detector) = codes "RearsAhead " ++ decimal dete
 stream_reason stream.LineTooLong = codes "LineTooLong"
 stream_reason stream.TooManySeconds = codes "TooManySeconds"
 
--- the reason of a refused line of a log
-abbrev pub log_reason : LogWhy → List ℕ
-log_reason log.Header = codes "Header"
-log_reason log.Line = codes "Line"
-log_reason log.LineTooLong = codes "LineTooLong"
-log_reason log.TooManySeconds = codes "TooManySeconds"
-
 -- the reason of a refused line
 abbrev pub line_reason : LineReason → List ℕ
 line_reason (Frame why) = stream_reason why
-line_reason (Record why) = log_reason why
+line_reason (Record why) = why_name why
 
 -- the text of a reason
 abbrev pub reason_text : Reason → List ℕ

@@ -9,7 +9,8 @@ use Rattle.pua_model.specs.Plan.{IsPlan, groups_in}
 use Rattle.controller.specs.Bounds.{AreBoundedFrom}
 use Rattle.controller.specs.Second.{record_pictures}
 use Rattle.det_stream.specs.Stream.{stream_of}
-use Rattle.log_lines.specs.Log.{IsLog}
+use Rattle.log_read.specs.Readings.{IsPictures}
+use Rattle.log_read.specs.declared.begin.Begin.TheVariants.{AtOne}
 use Rattle.sig_audit.specs.declared.verdict.Verdict.TheVariants as verdict
 use Rattle.sig_audit.specs.Verdict.{IsVerdict}
 use Rattle.junction_run.specs.declared.status.Status.{Status}
@@ -33,7 +34,7 @@ LoadedRunsAreWithinLimits =
 -- Who reads this text line by line finds exactly the pictures of the run over these frames, and no line to refuse; and these
 -- pictures are judged safe, with the number of the run's seconds.
 pub record IsJudgedSafe (playing : Playing) (frames : List Counts) (text : List ℕ) : Type 0 where
-  pub is_log : IsLog playing.site.plan.names text (record_pictures (records_of playing frames)) None
+  pub is_log : IsPictures AtOne playing.site.plan.names text (record_pictures (records_of playing frames)) None
   pub is_safe : IsVerdict playing.site.rules (replicate (groups_in playing.site.plan) Red ∷ record_pictures (records_of playing frames))
       (verdict.Safe (length frames))
 

@@ -7,7 +7,7 @@ ghost use Rattle.sig_io.specs.Outside.{HasCause, Rose};
 ghost use Rattle.sig_tables.specs.SiteRules.{rules_of};
 ghost use Rattle.pua_model.specs.Plan.{groups_in};
 ghost use Rattle.sig_guard.specs.Stands.{rules};
-ghost use Rattle.log_lines.specs.Answers.{Reads, is_live, name_of, pictures_given};
+ghost use Rattle.log_read.specs.Answers.{Reads, begin_of, is_live, name_of, pictures_given};
 ghost use Rattle.sig_audit.specs.declared.trial.InterEnd.{InterEnd};
 ghost use Rattle.sig_audit.specs.Verdict.{IsNamed};
 ghost use Rattle.junction_run.specs.Answers.{may_write};
@@ -25,7 +25,7 @@ use crate::form::SiteWords;
 use crate::site::{SiteTables, take_site};
 use crate::stop::{LineReason, LoadStop, PlayStop, Stop};
 use pua_model::Plan;
-use sig_audit::{Auditor, LogLines, LogRefusal, Verdict};
+use sig_audit::{Auditor, Begin, LogPictures, LogRefusal, Verdict};
 use sig_guard::Guard;
 use sig_io::{Draft, Files, PutFault, Sink};
 use sig_tables::{Intergreens, Times};
@@ -36,12 +36,13 @@ fn judge_log<'a, F: Files>(
     plan: &Plan,
     times: &Times,
     intergreens: &Intergreens,
-    lines: &mut LogLines,
+    lines: &mut LogPictures,
     word: &'a str,
     files: &mut F,
 ) -> Result<Verdict, PlayStop<'a>>
     requires times { length times.now ≡ groups_in plan.now }
     requires intergreens { intergreens.now.count ≡ groups_in plan.now }
+    requires begin { begin_of lines.old ≡ Begin.AtOne }
     requires live { is_live lines.old ≡ true }
     requires none_given { pictures_given lines.old ≡ 0 }
     requires unread { (names : List (List ℕ)) (bytes : List ℕ) → Reads lines.old names bytes [] }
@@ -119,7 +120,7 @@ fn audit_at<'a, F: Files, O: Sink>(
         Ok(guard) => guard,
         Err(_memory) => return Err(Stop::Load(LoadStop::Memory)),
     };
-    let mut lines = match LogLines::make(alloc, log) {
+    let mut lines = match LogPictures::make(alloc, log, Begin::AtOne) {
         Ok(lines) => lines,
         Err(_memory) => return Err(Stop::Load(LoadStop::Memory)),
     };

@@ -99,6 +99,9 @@ pub fn judge_source<'a>(alloc: Global, text: &[u8], word: &'a str) -> Result<Che
     check_tree(alloc, program, word)
 }
 
+// Frees a program, in one step of a way out.
+fn free_checked(_checked: Checked) {}
+
 // Judges the text of a program, and compiles it.
 fn judge_program<'a>(alloc: Global, text: &[u8], word: &'a str) -> Result<Verified, LoadStop<'a>>
     requires { length text.now ≤ 1048576 }
@@ -110,8 +113,14 @@ fn judge_program<'a>(alloc: Global, text: &[u8], word: &'a str) -> Result<Verifi
         Err(stop) => return Err(stop),
     };
     match compile(alloc, &checked) {
-        Ok(code) => Ok(code),
-        Err(_memory) => Err(LoadStop::Memory),
+        Ok(code) => {
+            free_checked(checked);
+            Ok(code)
+        }
+        Err(_memory) => {
+            free_checked(checked);
+            Err(LoadStop::Memory)
+        }
     }
 }
 

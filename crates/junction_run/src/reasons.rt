@@ -11,7 +11,6 @@ ghost use Rattle.junction_run.specs.Reasons.{
   code_reason,
   verify_reason,
   stream_reason,
-  log_reason,
   line_reason,
   reason_text,
   told_text,
@@ -22,7 +21,7 @@ use code_file::CodeWhy;
 use code_verify::VerifyWhy;
 use det_stream::StreamWhy;
 use itoa::Buffer;
-use log_lines::LogWhy;
+use log_read::why_name;
 use pua_model::Plan;
 use pua_reader::PuaWhy;
 use sig_tables::TableWhy;
@@ -222,24 +221,13 @@ fn stream_reason<'x>(why: StreamWhy, digits: &'x mut Buffer) -> ReasonText<'x>
     }
 }
 
-fn log_reason<'x>(why: LogWhy) -> ReasonText<'x>
-    ensures { told_text result ≡ log_reason why }
-{
-    match why {
-        LogWhy::Header => name_alone(b"Header"),
-        LogWhy::Line => name_alone(b"Line"),
-        LogWhy::LineTooLong => name_alone(b"LineTooLong"),
-        LogWhy::TooManySeconds => name_alone(b"TooManySeconds"),
-    }
-}
-
 /// The pieces of the reason of a refused line.
 pub(crate) fn line_reason<'x>(reason: LineReason, digits: &'x mut Buffer) -> ReasonText<'x>
     ensures { told_text result ≡ line_reason reason }
 {
     match reason {
         LineReason::Frame(why) => stream_reason(why, digits),
-        LineReason::Record(why) => log_reason(why),
+        LineReason::Record(why) => name_alone(why_name(why)),
     }
 }
 

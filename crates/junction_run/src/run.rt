@@ -52,6 +52,13 @@ pub fn make_controller(alloc: Global, site: Site) -> Result<Controller, Memory>
     Controller::make(alloc, plan, times, intergreens, code)
 }
 
+// Frees a controller. A value that goes out of scope is freed part by part in each way out of its function, and each part is a step of
+// the function's proof; by this a way out has one step.
+fn free_controller(_controller: Controller) {}
+
+// Frees what seconds are made with.
+fn free_run(_controller: Controller, _lines: Lines) {}
+
 // Plays a detector file at a site. All memory is taken before the first byte is written.
 fn play_site<'a, F: Files, O: Sink>(
     alloc: Global,
@@ -81,11 +88,20 @@ fn play_site<'a, F: Files, O: Sink>(
     };
     let mut lines = match Lines::make(alloc, detectors) {
         Ok(lines) => lines,
-        Err(_memory) => return Err(Stop::Load(LoadStop::Memory)),
+        Err(_memory) => {
+            free_controller(controller);
+            return Err(Stop::Load(LoadStop::Memory));
+        }
     };
     match play(&mut controller, &mut lines, detectors, files, out) {
-        Ok(()) => Ok(()),
-        Err(stop) => Err(Stop::Play(stop)),
+        Ok(()) => {
+            free_run(controller, lines);
+            Ok(())
+        }
+        Err(stop) => {
+            free_run(controller, lines);
+            Err(Stop::Play(stop))
+        }
     }
 }
 

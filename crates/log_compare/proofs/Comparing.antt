@@ -1,38 +1,34 @@
 -- Two logs, compared line by line.
-use Rattle.std.proofs.Common.{◌≡◌, ◌∙◌, ℕ, suc, ◌+◌, ◌-◌, ◌<◌, ◌≤◌, List, [], ◌∷◌, ◌++◌, length, get_or, take, drop, None, Some, refl, sym, ap, arith, inl, inr}
+use Rattle.std.proofs.Common.{false, ◌≡◌, ◌∙◌, ℕ, suc, ◌+◌, ◌-◌, ◌<◌, ◌≤◌, List, [], ◌∷◌, ◌++◌, length, get_or, take, drop, None, refl, sym, ap, arith, inl, inr}
 use Rattle.std.proofs.lemmas.Bool.{cases_lt}
 use Rattle.std.proofs.lemmas.List.{length-drop, take_all}
 use Rattle.std.proofs.Math.Seq.{take-suc}
 use Rattle.sig_types.specs.declared.record.Record.{Record}
-use Rattle.log_records.specs.declared.refusal.LogWhy.{LogWhy}
-use Rattle.log_records.specs.declared.refusal.LogWhy.TheVariants as why
-use Rattle.log_records.specs.Log.{IsLog, line_at, reason_at}
-use Rattle.log_records.specs.Records.{IsEntry}
-use Rattle.log_records.specs.Watchers.{told_lines}
-use Rattle.log_records.proofs.LogLemmas.{head_at, too_many}
+use Rattle.log_read.specs.declared.refusal.LogWhy.TheVariants as why
+use Rattle.log_read.specs.Log.{line_at}
+use Rattle.log_read.specs.Readings.{IsRecords, records_by}
+use Rattle.log_read.specs.declared.begin.Begin.TheVariants.{AtOne}
+use Rattle.log_read.specs.Records.{IsEntry}
+use Rattle.log_read.specs.Watchers.{told_lines}
+use Rattle.log_read.proofs.Entries.{never, no_record}
+use Rattle.log_read.proofs.LineLemmas.{head_at}
+use Rattle.log_read.proofs.LogLaws.{some_lines}
+use Rattle.log_read.proofs.LogLemmas.{too_many}
 use Rattle.log_compare.specs.declared.difference.Difference.{Difference}
 use Rattle.log_compare.specs.declared.difference.Difference.TheVariants.{Nowhere, OneEnds, OtherEnds, In}
 use Rattle.log_compare.specs.declared.difference.Step.TheVariants.{Found}
 use Rattle.log_compare.specs.Difference.{EndsFirst, IsDifference, IsFirst}
 use Rattle.log_compare.specs.Stepping.{Begins, GoesOn, IsStep, Parts, Stops}
-use Rattle.log_compare.proofs.Entries.{no_record}
-
-none_some : (w : LogWhy) → None ≡ Some w → ⊥
-none_some w e = cc
 
 -- an accepted log has a line
-some_lines : (names lines : List (List ℕ)) → reason_at names lines (length lines) ≡ None → 1 ≤ length lines
-some_lines names [] none = absurd (none_some why.Header (sym none))
-some_lines names (x ∷ xs) none = omega arith
-
-pub has_lines : (names : List (List ℕ)) (bytes : List ℕ) (rs : List Record) → IsLog names bytes rs None → 1 ≤ length (told_lines bytes)
-has_lines names bytes rs is = some_lines names (told_lines bytes) is.1
+pub has_lines : (names : List (List ℕ)) (bytes : List ℕ) (rs : List Record) → IsRecords false AtOne names bytes rs None → 1 ≤ length (told_lines bytes)
+has_lines names bytes rs is = some_lines (records_by false names) 1 (told_lines bytes) is.1
 
 -- and not too many
-pub few_lines : (names : List (List ℕ)) (bytes : List ℕ) (rs : List Record) → IsLog names bytes rs None → length (told_lines bytes) ≤ 604802
+pub few_lines : (names : List (List ℕ)) (bytes : List ℕ) (rs : List Record) → IsRecords false AtOne names bytes rs None → length (told_lines bytes) ≤ 604802
 few_lines names bytes rs is = elim (cases_lt 604802 (length (told_lines bytes))) [
-  | inl many ↦ absurd (none_some why.TooManySeconds
-      (sym (is.0.accepted 604802 many) ∙ too_many names 604802 (line_at (told_lines bytes) 604802) (omega arith)))
+  | inl many ↦ absurd (never why.TooManySeconds
+      (sym (too_many (records_by false names) 1 604802 (line_at (told_lines bytes) 604802) (omega arith)) ∙ is.0.accepted 604802 many))
   | inr few ↦ few
 ]
 
@@ -47,7 +43,7 @@ pub record Compared (one other rest other_rest : List ℕ) (second : ℕ) (rs ss
 
 -- behind the headers
 pub compared_first : (names : List (List ℕ)) (one other rest other_rest : List ℕ) (rs ss : List Record) → told_lines rest ≡ drop 1 (told_lines one) →
-    told_lines other_rest ≡ drop 1 (told_lines other) → IsLog names one rs None → IsLog names other ss None → Compared one other rest other_rest 1 rs ss
+    told_lines other_rest ≡ drop 1 (told_lines other) → IsRecords false AtOne names one rs None → IsRecords false AtOne names other ss None → Compared one other rest other_rest 1 rs ss
 compared_first names one other rest other_rest rs ss left other_left is too = record {
   some = omega arith;
   left = left;
@@ -65,15 +61,16 @@ record At (names : List (List ℕ)) (bytes : List ℕ) (second : ℕ) (rs : List
   more : second < length (told_lines bytes)
 
 at_line : (names : List (List ℕ)) (bytes rest after line : List ℕ) (second : ℕ) (rs : List Record) → 1 ≤ second → told_lines rest ≡ drop second (told_lines bytes) →
-    Begins rest line after → IsLog names bytes rs None → At names bytes second rs line
+    Begins rest line after → IsRecords false AtOne names bytes rs None → At names bytes second rs line
 at_line names bytes rest after line second rs some left begins is =
     let head = head_at (told_lines bytes) second line (told_lines after) (sym left ∙ begins) in
     let inside : second - 1 < length rs = omega (arith, head.inside, is.0.count) in
     let place : second - 1 + 1 ≡ second = omega (arith, some) in
+    let number : 1 + (second - 1) ≡ second = omega (arith, some) in
     record {
       inside = inside;
       line_is = head.here;
-      entry = λ d. rw (← head.here) (rw place at (is.0.records_are (second - 1) d inside));
+      entry = λ d. rw (← head.here) (rw (number, place) at (is.0.entries_are (second - 1) d inside));
       more = head.inside;
     }
 
@@ -92,7 +89,7 @@ with_next second rs some inside =
 
 -- lines that say the same
 pub compared_next : (names : List (List ℕ)) (one other rest other_rest after other_after : List ℕ) (second : ℕ) (rs ss : List Record) →
-    GoesOn names second rest other_rest after other_after → IsLog names one rs None → IsLog names other ss None →
+    GoesOn names second rest other_rest after other_after → IsRecords false AtOne names one rs None → IsRecords false AtOne names other ss None →
     Compared one other rest other_rest second rs ss → Compared one other after other_after (second + 1) rs ss
 compared_next names one other rest other_rest after other_after second rs ss on is too so =
     let at = at_line names one rest after on.line second rs so.some so.left on.begins is in
@@ -110,21 +107,21 @@ compared_next names one other rest other_rest after other_after second rs ss on 
 
 -- no line is left
 over : (names : List (List ℕ)) (bytes rest : List ℕ) (second : ℕ) (rs : List Record) → told_lines rest ≡ drop second (told_lines bytes) → told_lines rest ≡ [] →
-    second ≤ length (told_lines bytes) → IsLog names bytes rs None → length rs ≡ second - 1
+    second ≤ length (told_lines bytes) → IsRecords false AtOne names bytes rs None → length rs ≡ second - 1
 over names bytes rest second rs left none inside is =
     let gone : length (drop second (told_lines bytes)) ≡ 0 = ap length (sym left ∙ none) in
     omega (arith, length-drop second (told_lines bytes), gone, is.0.count)
 
 -- a line is left
 not_over : (names : List (List ℕ)) (bytes rest : List ℕ) (second : ℕ) (rs : List Record) → told_lines rest ≡ drop second (told_lines bytes) → 0 < length (told_lines rest) →
-    1 ≤ second → IsLog names bytes rs None → second - 1 < length rs
+    1 ≤ second → IsRecords false AtOne names bytes rs None → second - 1 < length rs
 not_over names bytes rest second rs left some first is =
     let more : 0 < length (drop second (told_lines bytes)) = omega (arith, ap length left) in
     omega (arith, length-drop second (told_lines bytes), more, is.0.count)
 
 -- one log ends
 ends : (names : List (List ℕ)) (one other rest other_rest : List ℕ) (second last : ℕ) (rs ss : List Record) → Stops second last rest other_rest →
-    IsLog names one rs None → IsLog names other ss None → Compared one other rest other_rest second rs ss → EndsFirst last rs ss
+    IsRecords false AtOne names one rs None → IsRecords false AtOne names other ss None → Compared one other rest other_rest second rs ss → EndsFirst last rs ss
 ends names one other rest other_rest second last rs ss stop is too so =
     let count = over names one rest second rs so.left stop.over so.inside is in
     let more = not_over names other other_rest second ss so.other_left stop.more so.some too in
@@ -147,7 +144,7 @@ turned one other rest other_rest second rs ss so = record {
 
 -- lines that say different records
 differ : (names : List (List ℕ)) (one other rest other_rest line other_line : List ℕ) (second : ℕ) (rs ss : List Record) →
-    Parts names second rest other_rest line other_line → IsLog names one rs None → IsLog names other ss None → Compared one other rest other_rest second rs ss →
+    Parts names second rest other_rest line other_line → IsRecords false AtOne names one rs None → IsRecords false AtOne names other ss None → Compared one other rest other_rest second rs ss →
     IsFirst second rs ss × ((line_at (told_lines one) second ≡ line) × (line_at (told_lines other) second ≡ other_line))
 differ names one other rest other_rest line other_line second rs ss parts is too so =
     let at = at_line names one rest parts.rest line second rs so.some so.left parts.begins is in
@@ -163,7 +160,7 @@ differ names one other rest other_rest line other_line second rs ss parts is too
 
 -- what the next lines show
 pub found : (names : List (List ℕ)) (one other rest other_rest : List ℕ) (second : ℕ) (d : Difference) (rs ss : List Record) →
-    IsStep names second rest other_rest (Found d) → IsLog names one rs None → IsLog names other ss None → Compared one other rest other_rest second rs ss →
+    IsStep names second rest other_rest (Found d) → IsRecords false AtOne names one rs None → IsRecords false AtOne names other ss None → Compared one other rest other_rest second rs ss →
     IsDifference one other rs ss d
 found names one other rest other_rest second Nowhere rs ss step is too so =
     let count = over names one rest second rs so.left step.0 so.inside is in

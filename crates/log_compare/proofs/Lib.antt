@@ -1,7 +1,6 @@
 pub mod Pieces
 pub mod Lists
 pub mod Cuts
-pub mod Entries
 pub mod Comparing
 pub mod Aspects
 pub mod Besides

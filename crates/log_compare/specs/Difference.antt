@@ -1,8 +1,8 @@
 -- The first difference of two logs.
 use Rattle.std.specs.Prelude.{◌≡◌, ℕ, ◌-◌, ◌<◌, ◌≤◌, List, length, take, slice_index_or}
 use Rattle.sig_types.specs.declared.record.Record.{Record}
-use Rattle.log_records.specs.Log.{line_at}
-use Rattle.log_records.specs.Watchers.{told_lines}
+use Rattle.log_read.specs.Log.{line_at}
+use Rattle.log_read.specs.Watchers.{told_lines}
 use Rattle.log_compare.specs.declared.difference.Difference.{Difference}
 use Rattle.log_compare.specs.declared.difference.Difference.TheVariants.{Nowhere, OneEnds, OtherEnds, In}
 

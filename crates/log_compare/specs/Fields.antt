@@ -1,5 +1,5 @@
 -- The fields of a line, as the program holds them.
-use Rattle.log_records.specs.Fields.{Fields}
+use Rattle.log_read.specs.Fields.{Fields}
 use Rattle.log_compare.specs.declared.fields.Fields.{Fields as Cut}
 
 -- their texts

@@ -1,8 +1,8 @@
 -- What the next lines of two logs show.
 use Rattle.std.specs.Prelude.{◌≡◌, ℕ, ◌-◌, ◌<◌, List, [], ◌∷◌, length}
 use Rattle.sig_types.specs.declared.record.Record.{Record}
-use Rattle.log_records.specs.Records.{IsEntry}
-use Rattle.log_records.specs.Watchers.{told_lines}
+use Rattle.log_read.specs.Records.{IsEntry}
+use Rattle.log_read.specs.Watchers.{told_lines}
 use Rattle.log_compare.specs.declared.difference.Difference.TheVariants.{Nowhere, OneEnds, OtherEnds, In}
 use Rattle.log_compare.specs.declared.difference.Step.{Step}
 use Rattle.log_compare.specs.declared.difference.Step.TheVariants.{Found, Same}

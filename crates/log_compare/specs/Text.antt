@@ -2,7 +2,7 @@
 use Rattle.std.specs.Prelude.{ℕ, ◌==◌, List, [], ◌∷◌, ◌++◌, codes, Option, None, Some, if◌then◌else◌}
 use Rattle.std.specs.Fmt.{decimal}
 use Rattle.std.specs.Str.{bytes_eq}
-use Rattle.log_records.specs.Fields.{Fields, fields_of}
+use Rattle.log_read.specs.Fields.{Fields, fields_of}
 use Rattle.log_compare.specs.declared.difference.Difference.{Difference}
 use Rattle.log_compare.specs.declared.difference.Difference.TheVariants.{Nowhere, OneEnds, OtherEnds, In}
 

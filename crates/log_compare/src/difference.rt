@@ -2,8 +2,9 @@
 ghost use Rattle.std.specs.Prelude.{◌≡◌, ◌<◌, ◌≤◌, ℕ, List, IfOk, None, true, false, length};
 ghost use Rattle.sig_io.specs.Draft.{Puts};
 ghost use Rattle.sig_types.specs.declared.record.Record.{Record};
-ghost use Rattle.log_records.specs.Log.{IsLog};
-ghost use Rattle.log_records.specs.Records.{IsEntry};
+ghost use Rattle.log_read.specs.declared.begin.Begin.{Begin};
+ghost use Rattle.log_read.specs.Readings.{IsRecords};
+ghost use Rattle.log_read.specs.Records.{IsEntry};
 ghost use Rattle.log_compare.specs.Difference.{IsDifference};
 ghost use Rattle.log_compare.specs.Stepping.{IsStep};
 ghost use Rattle.log_compare.specs.Text.{difference_text, ends_text};
@@ -12,7 +13,7 @@ use crate::alike::are_alike;
 use crate::fields::put_lines;
 use crate::lines::{behind_header, next_told};
 use crate::long::put_long;
-use log_records::read_record;
+use log_read::read_record;
 use sig_io::{Draft, Sink};
 use sig_types::{
     Frame, Memory, Picture, Record, Second, ShortName, StagePlace, StageRefusals, TurnRefusals,
@@ -141,7 +142,7 @@ pub fn first_difference<'a>(
     other: &'a [u8],
 ) -> Result<Difference<'a>, Memory>
     requires { length names.now ≤ 64 }
-    ensures { IfOk result (λ d. (rs ss : List Record) → IsLog names.now one.now rs None → IsLog names.now other.now ss None →
+    ensures { IfOk result (λ d. (rs ss : List Record) → IsRecords false Begin.AtOne names.now one.now rs None → IsRecords false Begin.AtOne names.now other.now ss None →
         IsDifference one.now other.now rs ss d) }
 {
     let mut pair = match Pair::new(alloc) {

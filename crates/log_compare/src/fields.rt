@@ -1,7 +1,7 @@
 // The fields of a line of a log, and what is told of two of them.
 ghost use Rattle.std.specs.Prelude.{◌≡◌, ◌≤◌, ℕ, None, Some, MatchOption, length};
 ghost use Rattle.sig_io.specs.Draft.{Puts};
-ghost use Rattle.log_records.specs.Fields.{fields_of};
+ghost use Rattle.log_read.specs.Fields.{fields_of};
 ghost use Rattle.log_compare.specs.Fields.{fields_in};
 ghost use Rattle.log_compare.specs.Text.{aspect_text, aspects_text, field_text, fields_text, lines_text, values_text};
 
@@ -28,7 +28,7 @@ pub struct Fields<'a> {
 }
 
 // The fields of a line, cut at its first five bars.
-#[tactic(auto, unfolding(log_records::specs::Fields::fields_of))]
+#[tactic(auto, unfolding(log_read::specs::Fields::fields_of))]
 fn fields_of(line: &[u8]) -> Option<Fields<'_>>
     ensures { MatchOption result (fields_of line.now ≡ None) (λ f. fields_of line.now ≡ Some (fields_in f)) }
 {

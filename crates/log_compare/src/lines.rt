@@ -1,10 +1,10 @@
 // The lines of a text, one after another.
 ghost use Rattle.std.specs.Prelude.{◌≡◌, ◌<◌, ◌≤◌, [], ◌∷◌, drop, length, None, Some, MatchOption};
 ghost use Rattle.sig_types.specs.Text.{fed_lines};
-ghost use Rattle.log_records.specs.Watchers.{told_lines};
+ghost use Rattle.log_read.specs.Watchers.{told_lines};
 ghost use Rattle.log_compare.specs.Stepping.{Begins};
 
-use log_records::is_watch;
+use log_read::is_watch;
 use sig_types::text::cut_at;
 
 /// The first line of a text that isn't empty, and what follows it.

@@ -1,5 +1,5 @@
 -- What is told of the turns that the guard refuses.
-use Rattle.std.proofs.Common.{◌≡◌, ◌∙◌, ℕ, zero, suc, ◌+◌, ◌-◌, ◌<◌, true, Option, List, [], ◌∷◌, ◌++◌, All, length, length-append, get_or, refl, arith, sym, ap, subst}
+use Rattle.std.proofs.Common.{◌≡◌, ◌∙◌, ℕ, zero, suc, ◌+◌, ◌-◌, ◌<◌, ◌≤◌, true, false, Option, List, [], ◌∷◌, ◌++◌, All, length, length-append, get_or, refl, arith, sym, ap, subst}
 use Rattle.std.proofs.lemmas.List.Elements.{All-nil, All-cons, All-head, All-tail}
 use Rattle.sig_types.specs.declared.refused.TurnRefusal.{TurnRefusal}
 use Rattle.sig_types.specs.Recorded.{IsTurn}
@@ -16,11 +16,14 @@ use Rattle.log_judge.specs.Found.{past_at, last_end_with}
 use Rattle.log_judge.specs.Stands.{past_of}
 use Rattle.log_judge.specs.Earliest.{lacking}
 use Rattle.log_judge.specs.Explained.{ended_now, finding_now, lacks_now, most_lacking}
-use Rattle.log_judge.specs.Laws.{at_rest, IsKept, RefusalsAreExplained, FreeIsFreeFrom}
+use Rattle.log_judge.specs.Laws.{at_rest, IsKept, IsKeptOf, RefusalsAreExplained, AnyPastSaysTheSame, FreeIsFreeFrom}
+use Rattle.log_judge.specs.declared.find.Terms.{Terms}
+use Rattle.sig_types.specs.declared.aspect.Aspect.TheVariants.{Red}
+use Rattle.std.proofs.lemmas.List.{get_or-append-add}
 use Rattle.log_judge.specs.Refused.{IsBorneOut}
 use Rattle.log_judge.proofs.Borne.{refusals_are_borne_out}
 use Rattle.log_judge.proofs.Keeping.{last_end-agree}
-use Rattle.log_judge.proofs.Told.{Knows, told}
+use Rattle.log_judge.proofs.Told.{Knows, Tells, told}
 
 -- what holds of each where two things do
 both_all : (P Q S : TurnRefusal → Type 0) (turns : List TurnRefusal) → ((turn : TurnRefusal) → P turn → Q turn → S turn) → All P turns → All Q turns → All S turns
@@ -46,6 +49,38 @@ knows r h pasts is kept = record {
   was = λ g. refl;
   pasts_are = kept;
 }
+
+-- a judge that has seen a part of it knows that
+knows_part : (r : Rules) (k : Terms) (h front : History) (pasts : List GroupPast) → k.rested ≡ false → IsHistory r.count (front ++ h) → 1 ≤ length h →
+    IsKeptOf r k h pasts → Knows r k h (front ++ h) (length front) (length h - 1) (last_picture h) pasts
+knows_part r k h front pasts unrested is some kept =
+    let both = length-append front h in
+    record {
+      end = record {
+        long = omega (arith, some);
+        part = record {
+          shows = λ g t lt. ap (λ (q : Picture). get_or q g Red) (sym (get_or-append-add front h t []));
+          fits = omega (arith, both);
+          whole = λ rested. absurd (let bad : true ≡ false = sym rested ∙ unrested in cc);
+        };
+        end = omega (arith, both, some);
+      };
+      history = is;
+      was = λ g. refl;
+      pasts_are = kept;
+    }
+
+pub any_past_says_the_same : AnyPastSaysTheSame
+any_past_says_the_same r h front p turn pasts tolerance is some kept named =
+    let k : Terms = record { rested = false; tolerance = tolerance } in
+    let tells : Tells false (finding_now r (record { rested = false; tolerance = tolerance }) (length h) (last_picture h) pasts p turn) (IsBorneOut r (front ++ h) p turn) =
+    subst (λ (t : ℕ). Tells false (finding_now r (record { rested = false; tolerance = tolerance }) t (last_picture h) pasts p turn) (IsBorneOut r (front ++ h) p turn)) here
+    (told r k h (front ++ h) (length front) (length h - 1) (last_picture h) p pasts turn (knows_part r k h front pasts refl is some kept) named.group
+    (λ i e. named.other i e)) in
+    (λ e. tells.yes e, λ e borne. tells.no e borne)
+  where
+    here : suc (length h - 1) ≡ length h
+    here = omega (arith, some)
 
 pub refusals_are_explained : RefusalsAreExplained
 refusals_are_explained r h wishes pasts is kept =

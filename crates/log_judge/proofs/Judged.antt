@@ -17,7 +17,7 @@ use Rattle.log_judge.specs.Explained.{short_now, missed_now}
 use Rattle.log_judge.proofs.Answers3.{Sure, sure_missed}
 use Rattle.log_judge.proofs.Lasts.{sure_last, last_end_later, last_end_none, last_end_rests, uncleared_by, uncleared_none, lt_shift}
 use Rattle.log_judge.proofs.Runs.{IsSince, since_is}
-use Rattle.log_judge.proofs.SafeNone.{IsPart, stays_in, begun, end_in}
+use Rattle.log_judge.proofs.Parts.{IsPart, stays_in, begun, end_in}
 
 -- A log whose last second is m is the end of the whole history, from second o on.
 pub record IsEnd (k : Terms) (h whole : History) (o m : ℕ) : Type 0 where

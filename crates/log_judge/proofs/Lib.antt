@@ -7,7 +7,13 @@ pub mod Keeping
 pub mod Within
 pub mod Borne
 pub mod Earliest
+pub mod Parts
+pub mod Openings
+pub mod HiddenNone
 pub mod SafeNone
+pub mod Back
+pub mod PastOne
+pub mod PastFound
 pub mod Answers3
 pub mod Lasts
 pub mod Judged

@@ -37,31 +37,31 @@ is_or_not Amber RedAmber = inr (λ h. cc)
 is_or_not Amber Green = inr (λ h. cc)
 is_or_not Amber Amber = inl refl
 
-from_red_amber : (y : Aspect) (s t : ℕ) → (y ≡ RedAmber → ⊥) → red_amber_from RedAmber y s t ≡ Some s
+pub from_red_amber : (y : Aspect) (s t : ℕ) → (y ≡ RedAmber → ⊥) → red_amber_from RedAmber y s t ≡ Some s
 from_red_amber Red s t h = refl
 from_red_amber RedAmber s t h = absurd (h refl)
 from_red_amber Green s t h = refl
 from_red_amber Amber s t h = refl
 
-from_amber : (y : Aspect) (s t : ℕ) → (y ≡ Amber → ⊥) → amber_from Amber y s t ≡ Some s
+pub from_amber : (y : Aspect) (s t : ℕ) → (y ≡ Amber → ⊥) → amber_from Amber y s t ≡ Some s
 from_amber Red s t h = refl
 from_amber RedAmber s t h = refl
 from_amber Green s t h = refl
 from_amber Amber s t h = absurd (h refl)
 
-from_green : (y : Aspect) (s : ℕ) → not (is_green y) ≡ true → green_from Green y s ≡ Some s
+pub from_green : (y : Aspect) (s : ℕ) → not (is_green y) ≡ true → green_from Green y s ≡ Some s
 from_green Red s h = refl
 from_green RedAmber s h = refl
 from_green Green s h = absurd (cc)
 from_green Amber s h = refl
 
-from_red : (y : Aspect) (s : ℕ) → is_on y ≡ true → red_from Red y s ≡ Some s
+pub from_red : (y : Aspect) (s : ℕ) → is_on y ≡ true → red_from Red y s ≡ Some s
 from_red Red s h = absurd (cc)
 from_red RedAmber s h = refl
 from_red Green s h = refl
 from_red Amber s h = absurd (cc)
 
-after_red_amber : (y : Aspect) → can_follow RedAmber y ≡ true → (y ≡ RedAmber → ⊥) → y ≡ Green
+pub after_red_amber : (y : Aspect) → can_follow RedAmber y ≡ true → (y ≡ RedAmber → ⊥) → y ≡ Green
 after_red_amber Red h ne = absurd (cc)
 after_red_amber RedAmber h ne = absurd (ne refl)
 after_red_amber Green h ne = refl
@@ -284,20 +284,20 @@ min_red_from r h g none lt u (suc m) turns starts before in_time stays =
         cc
 
 -- conflicts
-never_both : (r : Rules) (h : History) (g i k t : ℕ) → HasNone r at_rest h → g < r.count → i < r.count → is_pair r g i ≡ true →
+pub never_both : (r : Rules) (terms : Terms) (h : History) (g i k t : ℕ) → HasNone r terms h → g < r.count → i < r.count → is_pair r g i ≡ true →
     t + k ≡ length h - 1 → is_on (trace h g t) ≡ true → is_on (trace h i t) ≡ true → ⊥
-never_both r h g i zero t none lt lt' pair sum on on' =
+never_both r terms h g i zero t none lt lt' pair sum on on' =
     let at : t ≡ length h - 1 = omega (arith, sum) in
     let both : are_both_on (trace h g) (trace h i) (length h - 1) ≡ true =
     subst (λ (u : ℕ). are_both_on (trace h g) (trace h i) u ≡ true) at (and_from (is_on (trace h g t)) (is_on (trace h i t)) on on') in
     let bad : true ≡ false = conflict_none r true (trace h g) (trace h i) g i (length h - 1) (none.last.conflict g i lt lt') pair both in
     cc
-never_both r h g i (suc k) t none lt lt' pair sum on on' =
+never_both r terms h g i (suc k) t none lt lt' pair sum on on' =
     let both : are_both_on (trace h g) (trace h i) t ≡ true = and_from (is_on (trace h g t)) (is_on (trace h i t)) on on' in
     let over = conflict_none r (not (are_both_on (trace h g) (trace h i) (suc t))) (trace h g) (trace h i) g i t
     ((none.after t (omega (arith, sum))).conflict g i lt lt') pair both in
     let again = and_parts (is_on (trace h g (suc t))) (is_on (trace h i (suc t))) (was_not (are_both_on (trace h g) (trace h i) (suc t)) over) in
-    never_both r h g i k (suc t) none lt lt' pair (omega (arith, sum)) again.0 again.1
+    never_both r terms h g i k (suc t) none lt lt' pair (omega (arith, sum)) again.0 again.1
   where
     was_not : (b : Bool) → not b ≡ false → b ≡ true
     was_not true e = refl
@@ -312,11 +312,11 @@ apart_from r h i g z two_way none lt lt' between t in_time on on' = elim (cases_
       let bad : Some z ≡ None = sym here ∙ none_here in
       cc)
   | inr other ↦ elim other [
-    | inl below ↦ never_both r h i g (length h - 1 - t) t none lt lt'
+    | inl below ↦ never_both r at_rest h i g (length h - 1 - t) t none lt lt'
         (and_from (nat_lt i g) (is_some (r.between i g) || is_some (r.between g i)) (lt-ltb i g below)
         (or_left (is_some (r.between i g)) (is_some (r.between g i)) (ap is_some between)))
         (omega (arith, in_time)) on on'
-    | inr above ↦ never_both r h g i (length h - 1 - t) t none lt' lt
+    | inr above ↦ never_both r at_rest h g i (length h - 1 - t) t none lt' lt
         (and_from (nat_lt g i) (is_some (r.between g i) || is_some (r.between i g)) (lt-ltb g i above)
         (or_right (is_some (r.between g i)) (is_some (r.between i g)) (ap is_some between)))
         (omega (arith, in_time)) on' on

@@ -29,7 +29,7 @@ use Rattle.log_judge.specs.Found.{past_at, last_end_with}
 use Rattle.log_judge.specs.Stands.{past_of}
 use Rattle.log_judge.specs.Refused.{no_turn, so_far, IsBorneOut}
 use Rattle.log_judge.specs.Explained.{where_so, missed_now, ended_now, none_missed, so_far_now, lowest_on_now, is_at, end_finding, red_is_enough, start_finding, finding_now}
-use Rattle.log_judge.proofs.Answers3.{Sure, Fair, fair_of, sure_certainly, fair_unless, fair_both, fair_where}
+use Rattle.log_judge.proofs.Answers3.{Sure, sure_certainly, sure_unless, sure_both, sure_where}
 use Rattle.log_judge.proofs.Lasts.{least_agree, none_below, at_least, least_at}
 use Rattle.log_judge.proofs.Judged.{IsEnd, green_short, red_short, uncleared}
 use Rattle.log_judge.proofs.Named.{end_named, start_named, end_told, told_end, start_told, told_start}
@@ -41,8 +41,8 @@ pub record Knows (r : Rules) (k : Terms) (h whole : History) (o m : ℕ) (before
   pub was : (g : ℕ) → shown before g ≡ trace h g m
   pub pasts_are : (g : ℕ) → g < r.count → past_at pasts g ≡ past_of k (trace h g) m
 
-fair_no : (rested : Bool) → Fair rested Contradicted false
-fair_no rested = record { no = λ e. refl; yes = λ r e. absurd (cc); known = λ r e. absurd (cc) }
+sure_no : (rested : Bool) → Sure rested Contradicted false
+sure_no rested = record { no = λ e. refl; yes = λ e. absurd (cc); known = λ r e. absurd (cc) }
 
 -- the last second of the whole history
 last_at : (r : Rules) (k : Terms) (h whole : History) (o m : ℕ) (before : Picture) (pasts : List GroupPast) → Knows r k h whole o m before pasts →
@@ -55,30 +55,30 @@ shows r k h whole o m g before pasts knows =
     knows.was g ∙ knows.end.part.shows g m (omega (arith, knows.end.long)) ∙ ap (trace whole g) (sym (last_at r k h whole o m before pasts knows))
 
 -- an end
-pub end_fair : (r : Rules) (k : Terms) (h whole : History) (o m g : ℕ) (before : Picture) (pasts : List GroupPast) (asked : Rule) (other : Option GroupNo) →
+pub end_sure : (r : Rules) (k : Terms) (h whole : History) (o m g : ℕ) (before : Picture) (pasts : List GroupPast) (asked : Rule) (other : Option GroupNo) →
     Knows r k h whole o m before pasts → g < r.count →
-    Fair k.rested (end_finding r k (suc m) before pasts g asked other)
+    Sure k.rested (end_finding r k (suc m) before pasts g asked other)
     (end_named asked (group_number other) (is_green (trace whole g (length whole - 1))) (is_green_short r whole g))
-end_fair r k h whole o m g before pasts rule.Sequence None knows lt =
-    rw (sym (shows r k h whole o m g before pasts knows)) (fair_of _ _ _ (sure_certainly k.rested (not (is_green (shown before g)))))
-end_fair r k h whole o m g before pasts rule.MinGreen None knows lt =
+end_sure r k h whole o m g before pasts rule.Sequence None knows lt =
+    rw (sym (shows r k h whole o m g before pasts knows)) ((sure_certainly k.rested (not (is_green (shown before g)))))
+end_sure r k h whole o m g before pasts rule.MinGreen None knows lt =
     rw (sym (shows r k h whole o m g before pasts knows))
-    (fair_where k.rested (is_green (shown before g)) _ (is_green_short r whole g) (λ green.
-    rw (knows.pasts_are g lt) (fair_of _ _ _ (green_short r k h whole o m g knows.end knows.history lt (sym (knows.was g) ∙ green_is (shown before g) green)))))
-end_fair r k h whole o m g before pasts rule.MinRed None knows lt = fair_no k.rested
-end_fair r k h whole o m g before pasts rule.Conflict None knows lt = fair_no k.rested
-end_fair r k h whole o m g before pasts rule.Intergreen None knows lt = fair_no k.rested
-end_fair r k h whole o m g before pasts rule.Running None knows lt = fair_no k.rested
-end_fair r k h whole o m g before pasts rule.WrongStage None knows lt = fair_no k.rested
-end_fair r k h whole o m g before pasts rule.NoInterstage None knows lt = fair_no k.rested
-end_fair r k h whole o m g before pasts asked (Some i) knows lt = fair_no k.rested
+    (sure_where k.rested (is_green (shown before g)) _ (is_green_short r whole g) (λ green.
+    rw (knows.pasts_are g lt) ((green_short r k h whole o m g knows.end knows.history lt (sym (knows.was g) ∙ green_is (shown before g) green)))))
+end_sure r k h whole o m g before pasts rule.MinRed None knows lt = sure_no k.rested
+end_sure r k h whole o m g before pasts rule.Conflict None knows lt = sure_no k.rested
+end_sure r k h whole o m g before pasts rule.Intergreen None knows lt = sure_no k.rested
+end_sure r k h whole o m g before pasts rule.Running None knows lt = sure_no k.rested
+end_sure r k h whole o m g before pasts rule.WrongStage None knows lt = sure_no k.rested
+end_sure r k h whole o m g before pasts rule.NoInterstage None knows lt = sure_no k.rested
+end_sure r k h whole o m g before pasts asked (Some i) knows lt = sure_no k.rested
 
 -- the picture against which a start is decided
-tab_length : {A : Type 0} (f : ℕ → A) (n : ℕ) → length (tabulate f n) ≡ n
+pub tab_length : {A : Type 0} (f : ℕ → A) (n : ℕ) → length (tabulate f n) ≡ n
 tab_length f zero = refl
 tab_length f (suc n) = length-append (tabulate f n) (f n ∷ []) ∙ (let before = tab_length f n in omega (arith, before))
 
-tab_at : {A : Type 0} (f : ℕ → A) (n i : ℕ) (d : A) → i < n → get_or (tabulate f n) i d ≡ f i
+pub tab_at : {A : Type 0} (f : ℕ → A) (n i : ℕ) (d : A) → i < n → get_or (tabulate f n) i d ≡ f i
 tab_at f zero i d lt = absurd (omega (arith, lt))
 tab_at f (suc n) i d lt = (
     let long = tab_length f n in
@@ -144,22 +144,22 @@ missed_sure r k h whole o m g i before p pasts knows lt =
         ∙ so_far_ends (nat_le g i) (trace h i m) (shown p i)
 
 -- the intergreens from the groups below n
-none_fair : (r : Rules) (k : Terms) (h whole : History) (o m g n : ℕ) (before p : Picture) (pasts : List GroupPast) → Knows r k h whole o m before pasts →
+none_sure : (r : Rules) (k : Terms) (h whole : History) (o m g n : ℕ) (before p : Picture) (pasts : List GroupPast) → Knows r k h whole o m before pasts →
     n ≤ r.count →
-    Fair k.rested (none_missed r (suc m) before pasts p g (suc m + r.red_amber g) n)
+    Sure k.rested (none_missed r (suc m) before pasts p g (suc m + r.red_amber g) n)
     (none_below (λ i. is_uncleared r whole (so_far r whole p g) g i) n)
-none_fair r k h whole o m g zero before p pasts knows le = record { no = λ e. absurd (cc); yes = λ r e. refl; known = λ r e. absurd (cc) }
-none_fair r k h whole o m g (suc n) before p pasts knows le =
-    fair_both k.rested _ _ _ _ (none_fair r k h whole o m g n before p pasts knows (omega (arith, le)))
-    (fair_unless k.rested _ _ (missed_sure r k h whole o m g n before p pasts knows (omega (arith, le))))
+none_sure r k h whole o m g zero before p pasts knows le = record { no = λ e. absurd (cc); yes = λ e. refl; known = λ r e. absurd (cc) }
+none_sure r k h whole o m g (suc n) before p pasts knows le =
+    sure_both k.rested _ _ _ _ (none_sure r k h whole o m g n before p pasts knows (omega (arith, le)))
+    (sure_unless k.rested _ _ (missed_sure r k h whole o m g n before p pasts knows (omega (arith, le))))
 
-enough_fair : (r : Rules) (k : Terms) (h whole : History) (o m g : ℕ) (before : Picture) (pasts : List GroupPast) → Knows r k h whole o m before pasts →
-    g < r.count → shown before g ≡ Red → Fair k.rested (red_is_enough r k (suc m) pasts g) (not (is_red_short r whole g))
-enough_fair r k h whole o m g before pasts knows lt red =
-    rw (knows.pasts_are g lt) (fair_unless k.rested _ _ (red_short r k h whole o m g knows.end (sym (knows.was g) ∙ red)))
+enough_sure : (r : Rules) (k : Terms) (h whole : History) (o m g : ℕ) (before : Picture) (pasts : List GroupPast) → Knows r k h whole o m before pasts →
+    g < r.count → shown before g ≡ Red → Sure k.rested (red_is_enough r k (suc m) pasts g) (not (is_red_short r whole g))
+enough_sure r k h whole o m g before pasts knows lt red =
+    rw (knows.pasts_are g lt) (sure_unless k.rested _ _ (red_short r k h whole o m g knows.end (sym (knows.was g) ∙ red)))
 
-same_answer : (rested : Bool) (f : Finding) (c d : Bool) → c ≡ d → Fair rested f c → Fair rested f d
-same_answer rested f c d e fair = subst (λ (x : Bool). Fair rested f x) e fair
+same_answer : (rested : Bool) (f : Finding) (c d : Bool) → c ≡ d → Sure rested f c → Sure rested f d
+same_answer rested f c d e sure = subst (λ (x : Bool). Sure rested f x) e sure
 
 bool_same : (c d : Bool) → (c ≡ true → d ≡ true) → (d ≡ true → c ≡ true) → c ≡ d
 bool_same true true f g = refl
@@ -171,37 +171,37 @@ self_at : (i : ℕ) (o : Option ℕ) → o ≡ Some i → is_at o i ≡ true
 self_at i o e = rw (e, eq-eqb i i refl) refl
 
 -- a start
-pub start_fair : (r : Rules) (k : Terms) (h whole : History) (o m g : ℕ) (before p : Picture) (pasts : List GroupPast) (asked : Rule) (other : Option GroupNo) →
+pub start_sure : (r : Rules) (k : Terms) (h whole : History) (o m g : ℕ) (before p : Picture) (pasts : List GroupPast) (asked : Rule) (other : Option GroupNo) →
     Knows r k h whole o m before pasts → g < r.count → ((i : GroupNo) → other ≡ Some i → i.0 < r.count) →
-    Fair k.rested (start_finding r k (suc m) before pasts p g asked other)
+    Sure k.rested (start_finding r k (suc m) before pasts p g asked other)
     (start_named asked (group_number other) (is_red (trace whole g (length whole - 1))) (is_red_short r whole g)
     (least_below (λ i. is_in_conflict r (so_far r whole p g) g i) r.count)
     (least_below (λ i. is_uncleared r whole (so_far r whole p g) g i) r.count))
-start_fair r k h whole o m g before p pasts rule.Sequence None knows lt lt' =
-    rw (sym (shows r k h whole o m g before pasts knows)) (fair_of _ _ _ (sure_certainly k.rested (not (is_red (shown before g)))))
-start_fair r k h whole o m g before p pasts rule.MinRed None knows lt lt' =
+start_sure r k h whole o m g before p pasts rule.Sequence None knows lt lt' =
+    rw (sym (shows r k h whole o m g before pasts knows)) ((sure_certainly k.rested (not (is_red (shown before g)))))
+start_sure r k h whole o m g before p pasts rule.MinRed None knows lt lt' =
     rw (sym (shows r k h whole o m g before pasts knows))
-    (fair_where k.rested (is_red (shown before g)) _ (is_red_short r whole g) (λ red.
-    rw (knows.pasts_are g lt) (fair_of _ _ _ (red_short r k h whole o m g knows.end (sym (knows.was g) ∙ red_is (shown before g) red)))))
-start_fair r k h whole o m g before p pasts rule.MinGreen None knows lt lt' = fair_no k.rested
-start_fair r k h whole o m g before p pasts rule.Conflict None knows lt lt' = fair_no k.rested
-start_fair r k h whole o m g before p pasts rule.Intergreen None knows lt lt' = fair_no k.rested
-start_fair r k h whole o m g before p pasts rule.Running None knows lt lt' = fair_no k.rested
-start_fair r k h whole o m g before p pasts rule.WrongStage None knows lt lt' = fair_no k.rested
-start_fair r k h whole o m g before p pasts rule.NoInterstage None knows lt lt' = fair_no k.rested
-start_fair r k h whole o m g before p pasts rule.Conflict (Some i) knows lt lt' =
+    (sure_where k.rested (is_red (shown before g)) _ (is_red_short r whole g) (λ red.
+    rw (knows.pasts_are g lt) ((red_short r k h whole o m g knows.end (sym (knows.was g) ∙ red_is (shown before g) red)))))
+start_sure r k h whole o m g before p pasts rule.MinGreen None knows lt lt' = sure_no k.rested
+start_sure r k h whole o m g before p pasts rule.Conflict None knows lt lt' = sure_no k.rested
+start_sure r k h whole o m g before p pasts rule.Intergreen None knows lt lt' = sure_no k.rested
+start_sure r k h whole o m g before p pasts rule.Running None knows lt lt' = sure_no k.rested
+start_sure r k h whole o m g before p pasts rule.WrongStage None knows lt lt' = sure_no k.rested
+start_sure r k h whole o m g before p pasts rule.NoInterstage None knows lt lt' = sure_no k.rested
+start_sure r k h whole o m g before p pasts rule.Conflict (Some i) knows lt lt' =
     rw (sym (shows r k h whole o m g before pasts knows), sym (lowest_same r k h whole o m g before p pasts knows))
-    (fair_where k.rested (is_red (shown before g) && is_at (lowest_on_now r before p g) i.0) _ (not (is_red_short r whole g)) (λ both.
-    enough_fair r k h whole o m g before pasts knows lt (red_is (shown before g) (and_parts (is_red (shown before g)) (is_at (lowest_on_now r before p g) i.0) both).0)))
-start_fair r k h whole o m g before p pasts rule.Intergreen (Some i) knows lt lt' =
+    (sure_where k.rested (is_red (shown before g) && is_at (lowest_on_now r before p g) i.0) _ (not (is_red_short r whole g)) (λ both.
+    enough_sure r k h whole o m g before pasts knows lt (red_is (shown before g) (and_parts (is_red (shown before g)) (is_at (lowest_on_now r before p g) i.0) both).0)))
+start_sure r k h whole o m g before p pasts rule.Intergreen (Some i) knows lt lt' =
     rw (sym (shows r k h whole o m g before pasts knows), sym (lowest_same r k h whole o m g before p pasts knows))
-    (fair_where k.rested (is_red (shown before g) && is_none (lowest_on_now r before p g)) _ _ (λ both.
-    fair_both k.rested _ _ (not (is_red_short r whole g)) _
-    (enough_fair r k h whole o m g before pasts knows lt (red_is (shown before g) (and_parts (is_red (shown before g)) (is_none (lowest_on_now r before p g)) both).0))
+    (sure_where k.rested (is_red (shown before g) && is_none (lowest_on_now r before p g)) _ _ (λ both.
+    sure_both k.rested _ _ (not (is_red_short r whole g)) _
+    (enough_sure r k h whole o m g before pasts knows lt (red_is (shown before g) (and_parts (is_red (shown before g)) (is_none (lowest_on_now r before p g)) both).0))
     (same_answer k.rested _ (none_below q i.0 && q i.0) (is_at (least_below q r.count) i.0) here
-    (fair_both k.rested _ _ (none_below q i.0) (q i.0)
-    (none_fair r k h whole o m g i.0 before p pasts knows (omega (arith, inside)))
-    (fair_of _ _ _ (missed_sure r k h whole o m g i.0 before p pasts knows inside))))))
+    (sure_both k.rested _ _ (none_below q i.0) (q i.0)
+    (none_sure r k h whole o m g i.0 before p pasts knows (omega (arith, inside)))
+    ((missed_sure r k h whole o m g i.0 before p pasts knows inside))))))
   where
     q : ℕ → Bool
     q j = is_uncleared r whole (so_far r whole p g) g j
@@ -211,12 +211,12 @@ start_fair r k h whole o m g before p pasts rule.Intergreen (Some i) knows lt lt
 
     here : (none_below q i.0 && q i.0) ≡ is_at (least_below q r.count) i.0
     here = bool_same _ _ (λ e. self_at i.0 _ (least_at q r.count i.0 inside e)) (λ e. at_least q r.count i.0 inside e)
-start_fair r k h whole o m g before p pasts rule.Sequence (Some i) knows lt lt' = fair_no k.rested
-start_fair r k h whole o m g before p pasts rule.MinGreen (Some i) knows lt lt' = fair_no k.rested
-start_fair r k h whole o m g before p pasts rule.MinRed (Some i) knows lt lt' = fair_no k.rested
-start_fair r k h whole o m g before p pasts rule.Running (Some i) knows lt lt' = fair_no k.rested
-start_fair r k h whole o m g before p pasts rule.WrongStage (Some i) knows lt lt' = fair_no k.rested
-start_fair r k h whole o m g before p pasts rule.NoInterstage (Some i) knows lt lt' = fair_no k.rested
+start_sure r k h whole o m g before p pasts rule.Sequence (Some i) knows lt lt' = sure_no k.rested
+start_sure r k h whole o m g before p pasts rule.MinGreen (Some i) knows lt lt' = sure_no k.rested
+start_sure r k h whole o m g before p pasts rule.MinRed (Some i) knows lt lt' = sure_no k.rested
+start_sure r k h whole o m g before p pasts rule.Running (Some i) knows lt lt' = sure_no k.rested
+start_sure r k h whole o m g before p pasts rule.WrongStage (Some i) knows lt lt' = sure_no k.rested
+start_sure r k h whole o m g before p pasts rule.NoInterstage (Some i) knows lt lt' = sure_no k.rested
 
 -- Both ways: a statement is borne out where the answer of its kind is so.
 record Decides (c : Bool) (P : Type 0) : Type 0 where
@@ -243,25 +243,25 @@ starts_decide r whole p g asked other = record {
   is = λ e. start_told asked other _ _ _ _ e;
 }
 
--- What is said of a turn: a no is a no whatever was before, and at rest a yes is said exactly where the turn is borne out.
+-- What is said of a turn: a no is a no and a yes a yes, whatever was before; at rest a yes is said exactly where the turn is borne out.
 pub record Tells (rested : Bool) (f : Finding) (P : Type 0) : Type 0 where
   pub no : f ≡ Contradicted → P → ⊥
-  pub yes : rested ≡ true → f ≡ Borne → P
+  pub yes : f ≡ Borne → P
   pub all : rested ≡ true → P → f ≡ Borne
 
-tells_of : (rested : Bool) (f : Finding) (c : Bool) (P : Type 0) → Fair rested f c → Decides c P → Tells rested f P
-tells_of rested Borne c P fair d = record { no = λ e. absurd (cc); yes = λ r e. d.so (fair.yes r refl); all = λ r h. refl }
-tells_of rested Unknown c P fair d = record { no = λ e. absurd (cc); yes = λ r e. absurd (cc); all = λ r h. absurd (fair.known r refl) }
-tells_of rested Contradicted c P fair d = record {
-  no = λ e h. (let bad : true ≡ false = sym (d.is h) ∙ fair.no refl in cc);
-  yes = λ r e. absurd (cc);
-  all = λ r h. absurd (let bad : true ≡ false = sym (d.is h) ∙ fair.no refl in cc);
+tells_of : (rested : Bool) (f : Finding) (c : Bool) (P : Type 0) → Sure rested f c → Decides c P → Tells rested f P
+tells_of rested Borne c P sure d = record { no = λ e. absurd (cc); yes = λ e. d.so (sure.yes refl); all = λ r h. refl }
+tells_of rested Unknown c P sure d = record { no = λ e. absurd (cc); yes = λ e. absurd (cc); all = λ r h. absurd (sure.known r refl) }
+tells_of rested Contradicted c P sure d = record {
+  no = λ e h. (let bad : true ≡ false = sym (d.is h) ∙ sure.no refl in cc);
+  yes = λ e. absurd (cc);
+  all = λ r h. absurd (let bad : true ≡ false = sym (d.is h) ∙ sure.no refl in cc);
 }
 
 -- with the condition that the group did not turn
 tells_where : (rested b : Bool) (f : Finding) (P : Type 0) → Tells rested f P → Tells rested (where_so b f) ((b ≡ true) × P)
-tells_where rested true f P t = record { no = λ e h. t.no e h.1; yes = λ r e. (refl, t.yes r e); all = λ r h. t.all r h.1 }
-tells_where rested false f P t = record { no = λ e h. (let bad = h.0 in cc); yes = λ r e. absurd (cc); all = λ r h. absurd (let bad = h.0 in cc) }
+tells_where rested true f P t = record { no = λ e h. t.no e h.1; yes = λ e. (refl, t.yes e); all = λ r h. t.all r h.1 }
+tells_where rested false f P t = record { no = λ e h. (let bad = h.0 in cc); yes = λ e. absurd (cc); all = λ r h. absurd (let bad = h.0 in cc) }
 
 pub told : (r : Rules) (k : Terms) (h whole : History) (o m : ℕ) (before p : Picture) (pasts : List GroupPast) (turn : TurnRefusal) →
     Knows r k h whole o m before pasts → turn.group.0 < r.count → ((i : GroupNo) → turn.other ≡ Some i → i.0 < r.count) →
@@ -274,7 +274,7 @@ told r k h whole o m before p pasts turn knows lt lt' =
         (if b then end_finding r k (suc m) before pasts turn.group.0 turn.rule turn.other else start_finding r k (suc m) before pasts p turn.group.0 turn.rule turn.other)
         (IsSomeAnd (if b then end_breach r whole turn.group.0 else start_breach r whole (so_far r whole p turn.group.0) turn.group.0)
         (λ breach. (breach.rule ≡ turn.rule) × (breach.other ≡ group_number turn.other)))
-    go true = tells_of k.rested _ _ _ (end_fair r k h whole o m turn.group.0 before pasts turn.rule turn.other knows lt)
+    go true = tells_of k.rested _ _ _ (end_sure r k h whole o m turn.group.0 before pasts turn.rule turn.other knows lt)
         (ends_decide r whole turn.group.0 turn.rule (group_number turn.other))
-    go false = tells_of k.rested _ _ _ (start_fair r k h whole o m turn.group.0 before p pasts turn.rule turn.other knows lt lt')
+    go false = tells_of k.rested _ _ _ (start_sure r k h whole o m turn.group.0 before p pasts turn.rule turn.other knows lt lt')
         (starts_decide r whole (so_far r whole p turn.group.0) turn.group.0 turn.rule (group_number turn.other))

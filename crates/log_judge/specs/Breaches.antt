@@ -6,10 +6,12 @@ use Rattle.sig_types.specs.declared.numbers.GroupNo.{GroupNo}
 use Rattle.sig_types.specs.FirstRefused.{first_reason, when}
 use Rattle.sig_types.specs.Rules.{Rules}
 use Rattle.sig_types.specs.Turns.{History, trace, is_green, is_on}
-use Rattle.log_judge.specs.Past.{since, on_since, last_end}
+use Rattle.log_judge.specs.Past.{since, on_since, last_end, first_over, first_green}
 use Rattle.log_judge.specs.declared.breach.Breach.{Breach}
 use Rattle.log_judge.specs.declared.breach.Breach.TheVariants.{Step, Short, Long, Conflict, Intergreen}
 use Rattle.log_judge.specs.declared.find.Terms.{Terms}
+use Rattle.log_judge.specs.declared.opening.Opening.{Opening}
+use Rattle.log_judge.specs.Opening.{hidden_breach}
 
 -- an aspect may follow another, whatever the tables say
 abbrev pub can_follow : Aspect → Aspect → Bool
@@ -143,6 +145,15 @@ running_breach r k a g m Amber = long k g Amber (suc m) (r.amber g) (Some (since
 running_breach r k a g m Red = None
 running_breach r k a g m Green = None
 
+-- the latest second of a green that is still to come
+abbrev pub due_green : Rules → Terms → (ℕ → Aspect) → ℕ → ℕ → Option ℕ
+due_green r k a g m = if is_red_amber (a m) then Some (latest_green r k a g m) else None
+
+-- how group g begins, in a history whose last second is m
+abbrev pub opening_of : Rules → Terms → (ℕ → Aspect) → ℕ → ℕ → Opening
+opening_of r k a g m =
+    record { first = a 0; over = first_over a m; green = first_green a m; due = due_green r k a g m }
+
 -- The list:
 -- a breach, where there is one
 abbrev pub listed : Option Breach → List Breach
@@ -171,12 +182,13 @@ breaches_after r k h m =
     ++ (of_pairs (λ g i. conflict_breach r (not (are_both_on (trace h g) (trace h i) (suc m))) (trace h g) (trace h i) g i m) r.count
     ++ of_pairs (λ g i. intergreen_breach r k (trace h g) (trace h i) g i m) r.count)))
 
--- what the end after second m leaves
+-- what the end after second m leaves, and what the beginning hides
 unfoldable pub last_breaches : Rules → Terms → History → ℕ → List Breach
 last_breaches r k h m =
     gather (λ g. listed (running_breach r k (trace h g) g m (trace h g m))) r.count
     ++ (of_pairs (λ g i. conflict_breach r true (trace h g) (trace h i) g i m) r.count
-    ++ of_pairs (λ g i. pending_breach r k (trace h g) (trace h i) g i m) r.count)
+    ++ (of_pairs (λ g i. pending_breach r k (trace h g) (trace h i) g i m) r.count
+    ++ of_pairs (λ g i. hidden_breach r k g i (suc m) (opening_of r k (trace h g) g m) (opening_of r k (trace h i) i m)) r.count))
 
 -- all breaches that are complete within the history
 unfoldable pub breaches_within : Rules → Terms → History → List Breach

@@ -26,10 +26,10 @@ both Unknown Borne = Unknown
 both Unknown Unknown = Unknown
 both Unknown Contradicted = Contradicted
 
--- this is not so, as far as is known
+-- this is not so
 abbrev pub unless : Finding → Finding
 unless Borne = Contradicted
-unless Unknown = Borne
+unless Unknown = Unknown
 unless Contradicted = Borne
 
 -- it is known whether this is so
@@ -56,7 +56,7 @@ missed_now due (Some z) (Some b) = certainly (nat_lt due (b + z))
 abbrev pub ended_now : ℕ → Picture → List GroupPast → Picture → ℕ → Option ℕ
 ended_now t before pasts p i = last_end_with t (shown before i) (shown p i) (past_at pasts i).last_end
 
--- the intergreen of no group below n is missed by a green of g in second due, as far as is known
+-- the intergreen of no group below n is missed by a green of g in second due
 abbrev pub none_missed : Rules → ℕ → Picture → List GroupPast → Picture → ℕ → ℕ → ℕ → Finding
 none_missed r t before pasts p g due zero = Borne
 none_missed r t before pasts p g due (suc n) =
@@ -88,7 +88,7 @@ end_finding r k t before pasts g rule.WrongStage None = Contradicted
 end_finding r k t before pasts g rule.NoInterstage None = Contradicted
 end_finding r k t before pasts g named (Some i) = Contradicted
 
--- the red of g is long enough for a start, as far as is known
+-- the red of g is long enough for a start
 abbrev pub red_is_enough : Rules → Terms → ℕ → List GroupPast → ℕ → Finding
 red_is_enough r k t pasts g = unless (short_now k t (past_at pasts g).since (r.minimum_red g))
 

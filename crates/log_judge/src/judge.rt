@@ -7,12 +7,16 @@ ghost use Rattle.sig_tables.specs.SiteRules.{rules_of};
 ghost use Rattle.sig_tables.specs.TimesTable.{row_of};
 ghost use Rattle.log_judge.specs.Breaches.{listed, gather, of_pairs, breaches_after, last_breaches, can_follow as can_follow_spec, is_known as is_known_spec, no};
 ghost use Rattle.log_judge.specs.Explained.{ended_now};
-ghost use Rattle.log_judge.specs.Found.{PastFits, past_at, next_past as next_past_spec, sequence_found, green_found, red_found, conflict_found, intergreen_found, running_found, pending_found};
+ghost use Rattle.log_judge.specs.Opening.{soon_before as soon_before_spec, too_soon_after};
+ghost use Rattle.log_judge.specs.Found.{opening_now, hidden_found, PastFits, past_at, next_past as next_past_spec, sequence_found, green_found, red_found, conflict_found, intergreen_found, running_found, pending_found};
 
 use crate::breach::Breach;
 use crate::find::{
     Terms, amber_from, can_follow, green_from, is_known, is_red_amber, long, other_time,
     red_amber_from, red_from, short, too_soon, turns_green,
+};
+use crate::opening::{
+    Latest, Opening, ended_before, green_before, green_behind, is_amber, soon_after,
 };
 use crate::past::{GroupPast, last_end_with, next_past};
 use sig_guard::{is_on, same_aspect};
@@ -25,9 +29,11 @@ pub struct Judge {
     pub(crate) terms: Terms,
     seconds: u32,
     picture: Picture,
+    first: Picture,
     pasts: [GroupPast; 64],
     ghost sized: { length pasts ≡ 64 },
     ghost groups_at_most: { length picture ≤ 64 },
+    ghost same_groups: { length first ≡ length picture },
     ghost at_most: { seconds ≤ 604802 },
     ghost tolerance_at_most: { terms.tolerance ≤ 9 },
     ghost fit: { (g : ℕ) → g < length picture → PastFits (past_at pasts g) seconds },
@@ -355,6 +361,127 @@ impl Judge {
     }
 }
 
+// What the beginning hides.
+impl Judge {
+    ghost use Rattle.log_judge.specs.Stands.{groups_of};
+
+    // How a group began.
+    #[tactic(auto, unfolding(crate::specs::Stands::groups_of))]
+    fn opening(&self, times: &Times, intergreens: &Intergreens, g: u8) -> Opening
+        requires group { g < groups_of self.now }
+        requires times { length times.now ≡ groups_of self.now }
+        ensures opening { result ≡ opening_now (rules_of times.now intergreens.now) self.now.terms self.now.seconds self.now.first self.now.picture
+            self.now.pasts g }
+        ensures over { ForSome result.over (λ t. t ≤ 604802) }
+        ensures green { ForSome result.green (λ t. t ≤ 604802) }
+        ensures due { ForSome result.due (λ t. t ≤ 605066) }
+    {
+        let past = self.pasts[g as usize];
+        let red_amber = u32::from(times.red_amber(GroupNo(g)));
+        let latest = (past.since + red_amber + self.terms.tolerance).max(self.seconds);
+        Opening {
+            first: self.first.get(g),
+            over: past.over,
+            green: past.green,
+            due: if is_red_amber(self.picture.get(g)) {
+                Some(latest)
+            } else {
+                None
+            },
+        }
+    }
+
+    // A green of a group that came too soon after the end before second 0 of another one with this opening.
+    #[tactic(auto, unfolding(crate::specs::Stands::groups_of))]
+    fn soon_after(
+        &self,
+        times: &Times,
+        intergreens: &Intergreens,
+        g: u8,
+        i: u8,
+        green: Option<Latest>,
+        other: Opening,
+    ) -> Option<Breach>
+        requires group { g < groups_of self.now }
+        requires other_group { i < groups_of self.now }
+        requires times { length times.now ≡ groups_of self.now }
+        requires intergreens { intergreens.now.count ≡ groups_of self.now }
+        requires second { ForSome green (λ x. x.second ≤ 605066) }
+        requires before { ForSome green (λ x. x.before ≤ 510) }
+        ensures { result ≡ too_soon_after (rules_of times.now intergreens.now) self.now.terms g i self.now.seconds green other
+            ((rules_of times.now intergreens.now).between i g) }
+    {
+        match intergreens.between(GroupNo(i), GroupNo(g)) {
+            None => None,
+            Some(between) => {
+                let red_amber = u32::from(times.red_amber(GroupNo(g)));
+                let least = u32::from(between).max(red_amber.saturating_sub(self.terms.tolerance));
+                let most = u32::from(times.amber(GroupNo(i))) + self.terms.tolerance;
+                soon_after(g, i, least, green, ended_before(most, other, self.seconds))
+            }
+        }
+    }
+
+    // The green before second 0 of a group with this opening came too soon.
+    #[tactic(auto, unfolding(crate::specs::Stands::groups_of))]
+    fn soon_before(
+        &self,
+        times: &Times,
+        intergreens: &Intergreens,
+        g: u8,
+        i: u8,
+        own: Opening,
+        other: Opening,
+    ) -> Option<Breach>
+        requires group { g < groups_of self.now }
+        requires other_group { i < groups_of self.now }
+        requires times { length times.now ≡ groups_of self.now }
+        requires intergreens { intergreens.now.count ≡ groups_of self.now }
+        ensures { result ≡ soon_before_spec (rules_of times.now intergreens.now) self.now.terms g i self.now.seconds own other }
+    {
+        let minimum = u32::from(times.min(GroupNo(g)));
+        let amber = u32::from(times.amber(GroupNo(g))).saturating_sub(self.terms.tolerance);
+        let green = green_before(minimum, amber, own.over, own.first);
+        self.soon_after(times, intergreens, g, i, green, other)
+    }
+
+    // An intergreen that the log cannot have kept, from an end before it.
+    #[tactic(auto, unfolding(crate::specs::Stands::groups_of))]
+    fn hidden_breach(
+        &self,
+        times: &Times,
+        intergreens: &Intergreens,
+        g: u8,
+        i: u8,
+    ) -> Option<Breach>
+        requires group { g < groups_of self.now }
+        requires other { i < groups_of self.now }
+        requires times { length times.now ≡ groups_of self.now }
+        requires intergreens { intergreens.now.count ≡ groups_of self.now }
+        ensures { result ≡ hidden_found (rules_of times.now intergreens.now) self.now.terms self.now.seconds self.now.first self.now.picture
+            self.now.pasts g i }
+    {
+        if self.terms.rested {
+            return None;
+        }
+        let own = self.opening(times, intergreens, g);
+        let other = self.opening(times, intergreens, i);
+        let behind = !is_amber(own.first)
+            || (g < i
+                && self
+                    .soon_before(times, intergreens, i, g, other, own)
+                    .is_some());
+        if behind {
+            let before = self.soon_before(times, intergreens, g, i, own, other);
+            if before.is_some() {
+                return before;
+            }
+        }
+        let green = green_behind(own.green, own.due);
+        self.soon_after(times, intergreens, g, i, green, other)
+    }
+}
+
 // The lists of all groups, and of all pairs.
 impl Judge {
     ghost use Rattle.log_judge.specs.Stands.{StandsFor, terms_of, groups_of, seconds_of};
@@ -597,6 +724,44 @@ impl Judge {
         Ok(())
     }
 
+    #[tactic(auto, unfolding(crate::specs::Stands::groups_of))]
+    fn find_hidden_of(
+        &self,
+        times: &Times,
+        intergreens: &Intergreens,
+        g: u8,
+        out: &mut Vec<Breach>,
+    ) -> Result<(), Memory>
+        requires group { g < groups_of self.now }
+        requires times { length times.now ≡ groups_of self.now }
+        requires intergreens { intergreens.now.count ≡ groups_of self.now }
+        ensures { OnOk result (out.new.items ≡ out.old.items ++ gather (λ i. listed (hidden_found (rules_of times.now intergreens.now) self.now.terms
+            self.now.seconds self.now.first self.now.picture self.now.pasts g i)) (length self.now.picture)) }
+    {
+        for i in 0..self.picture.len() {
+            put(out, self.hidden_breach(times, intergreens, g, i))?;
+        }
+        Ok(())
+    }
+
+    #[tactic(auto, unfolding(crate::specs::Stands::groups_of))]
+    fn find_hidden(
+        &self,
+        times: &Times,
+        intergreens: &Intergreens,
+        out: &mut Vec<Breach>,
+    ) -> Result<(), Memory>
+        requires times { length times.now ≡ groups_of self.now }
+        requires intergreens { intergreens.now.count ≡ groups_of self.now }
+        ensures { OnOk result (out.new.items ≡ out.old.items ++ of_pairs (λ g i. hidden_found (rules_of times.now intergreens.now) self.now.terms
+            self.now.seconds self.now.first self.now.picture self.now.pasts g i) (length self.now.picture)) }
+    {
+        for g in 0..self.picture.len() {
+            self.find_hidden_of(times, intergreens, g, out)?;
+        }
+        Ok(())
+    }
+
     /// Puts behind `out` the breaches that are complete with this picture of the next second: by rule, group and other.
     #[tactic(auto, unfolding(crate::specs::Stands::StandsFor, crate::specs::Stands::groups_of, crate::specs::Stands::terms_of, crate::specs::Stands::seconds_of))]
     pub fn find(
@@ -626,7 +791,7 @@ impl Judge {
     }
 
     /// Puts behind `out` the breaches that the end of the log leaves: what lasted too long already, conflicts that go on, and greens
-    /// that come too soon.
+    /// that come too soon; and behind them the greens too soon after an end that the beginning hides.
     #[tactic(auto, unfolding(crate::specs::Stands::StandsFor, crate::specs::Stands::groups_of, crate::specs::Stands::terms_of, crate::specs::Stands::seconds_of))]
     pub fn find_last(
         &self,
@@ -645,6 +810,7 @@ impl Judge {
         self.find_running(times, out)?;
         self.find_last_conflicts(times, intergreens, out)?;
         self.find_pending(times, intergreens, out)?;
+        self.find_hidden(times, intergreens, out)?;
         Ok(())
     }
 }
@@ -667,14 +833,28 @@ fn keep_all(pasts: &mut [GroupPast], before: &Picture, after: &Picture, now: u32
     }
 }
 
+// Keeps the picture of second 0.
+fn keep_first(first: &mut Picture, picture: &Picture, now: u32)
+    requires size { length picture.now ≡ length first.old }
+    ensures size { length first.new ≡ length first.old }
+    ensures first { now ≡ 0 → first.new ≡ picture.now }
+    ensures later { 0 < now → first.new ≡ first.old }
+{
+    if now == 0 {
+        *first = picture.copy();
+    }
+}
+
 // The pasts of groups of which only a last end is known.
 fn no_pasts(last_end: Option<u32>) -> [GroupPast; 64]
-    ensures { result ≡ replicate 64 (record { since = 0; on_since = 0; last_end = last_end }) }
+    ensures { result ≡ replicate 64 (record { since = 0; on_since = 0; last_end = last_end; over = None; green = None }) }
 {
     [GroupPast {
         since: 0,
         on_since: 0,
         last_end,
+        over: None,
+        green: None,
     }; 64]
 }
 
@@ -698,6 +878,7 @@ impl Judge {
             },
             seconds: 0,
             picture: Picture::all_red(groups),
+            first: Picture::all_red(groups),
             pasts: no_pasts(None),
         }
     }
@@ -719,6 +900,7 @@ impl Judge {
             },
             seconds: 1,
             picture: Picture::all_red(groups),
+            first: Picture::all_red(groups),
             pasts: no_pasts(Some(0)),
         }
     }
@@ -734,6 +916,7 @@ impl Judge {
         ensures stands { (h : History) → StandsFor self.old h → StandsFor self.new (h ++ picture.now ∷ []) }
     {
         keep_all(&mut self.pasts, &self.picture, picture, self.seconds);
+        keep_first(&mut self.first, picture, self.seconds);
         self.picture = picture.copy();
         self.seconds += 1;
     }

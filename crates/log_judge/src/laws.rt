@@ -1,5 +1,5 @@
 //! What follows from the definition of breaches, for every history: each law is a function whose contract states it.
-ghost use Rattle.log_judge.specs.Laws.{NoBreachIsSafe, PartsHaveNone, RefusalsAreExplained, FreeIsFreeFrom};
+ghost use Rattle.log_judge.specs.Laws.{NoBreachIsSafe, PartsHaveNone, NoBreachHasPast, RefusalsAreExplained, AnyPastSaysTheSame, FreeIsFreeFrom};
 ghost use Rattle.log_judge.specs.Refused.{RefusalsAreBorneOut, EarliestAfterAmber, EarliestAfterRedAmber, EarliestEnd, EarliestStart, EarliestCleared};
 ghost use Rattle.log_judge.specs.Earliest.{EarliestFree};
 
@@ -11,6 +11,11 @@ pub fn no_breach_is_safe()
 /// No part of a safe history has a breach.
 pub fn parts_have_none()
     ensures { PartsHaveNone }
+{}
+
+/// A part of a log without a breach has a past with which it is safe.
+pub fn no_breach_has_past()
+    ensures { NoBreachHasPast }
 {}
 
 /// The pictures of a run of the guard and its tables bear out each turn that it refuses.
@@ -41,6 +46,11 @@ pub fn earliest_free()
 /// What a judge tells of a log of the guard's run, from its beginning on: each turn that the guard refuses is called borne out.
 pub fn refusals_are_explained()
     ensures { RefusalsAreExplained }
+{}
+
+/// What a judge tells of a refused turn from a part of a log is so whatever was before it.
+pub fn any_past_says_the_same()
+    ensures { AnyPastSaysTheSame }
 {}
 
 /// The second that is told as the first free one of a refused start is the one before which some intergreen stands in the way.

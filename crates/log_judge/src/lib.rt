@@ -7,6 +7,7 @@ mod breach;
 mod find;
 mod judge;
 pub mod laws;
+mod opening;
 mod past;
 mod protocol;
 mod whole;

@@ -19,7 +19,7 @@ use sig_types::{Aspect, GroupNo, Picture, Rule, TurnRefusal};
 /// Whether the pictures and the tables bear a refusal out.
 #[derive(Clone, Copy, PartialEq, Eq)]
 pub enum Finding {
-    /// They do, as far as they go.
+    /// They do, whatever was before the log.
     Borne,
     /// What would tell it lies before the log.
     Unknown,
@@ -84,13 +84,13 @@ fn both(this: Finding, that: Finding) -> Finding
     }
 }
 
-// That it isn't so, as far as is known.
+// That it isn't so.
 fn unless(this: Finding) -> Finding
     ensures { result ≡ unless_spec this }
 {
     match this {
         Finding::Borne => Finding::Contradicted,
-        Finding::Unknown => Finding::Borne,
+        Finding::Unknown => Finding::Unknown,
         Finding::Contradicted => Finding::Borne,
     }
 }
@@ -570,7 +570,11 @@ pub fn explain(
     // At rest it is borne out exactly where it is told so.
     ensures at_rest { (h : History) → StandsFor judge.now h → (terms_of judge.now).rested ≡ true → IsHistory (groups_of judge.now) h →
         (result.finding ≡ Finding.Borne) ↔ IsBorneOut (rules_of times.now intergreens.now) h picture.now turn }
-    // Whatever was before the log, it is not borne out where it is told so.
+    // Whatever was before the log, it is borne out where it is told so,
+    ensures borne { (h front : History) → StandsFor judge.now h → (terms_of judge.now).rested ≡ false →
+        IsHistory (groups_of judge.now) (front ++ h) → result.finding ≡ Finding.Borne →
+        IsBorneOut (rules_of times.now intergreens.now) (front ++ h) picture.now turn }
+    // and not borne out where that is told.
     ensures contradicted { (h front : History) → StandsFor judge.now h → (terms_of judge.now).rested ≡ false →
         IsHistory (groups_of judge.now) (front ++ h) → result.finding ≡ Finding.Contradicted →
         IsBorneOut (rules_of times.now intergreens.now) (front ++ h) picture.now turn → ⊥ }

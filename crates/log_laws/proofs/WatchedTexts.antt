@@ -22,8 +22,10 @@ use Rattle.junction_run.specs.Loading.{Playing}
 use Rattle.junction_run.specs.Records.{log_of, records_of}
 use Rattle.junction_live.specs.Answer.{IsWholeText}
 use Rattle.junction_live.specs.Sights.{IsSight, Sight, watches_from}
-use Rattle.log_records.specs.Log.{LinesTell}
-use Rattle.log_records.specs.Watchers.{is_watch, told_lines}
+use Rattle.log_read.specs.declared.begin.Begin.TheVariants.{AtOne}
+use Rattle.log_read.specs.Log.{Tells}
+use Rattle.log_read.specs.Readings.{records_by}
+use Rattle.log_read.specs.Watchers.{is_watch, told_lines}
 use Rattle.log_view.specs.Laws.{AreOfRun, IsLoggedRun}
 use Rattle.log_view.proofs.LogsBack.{watcher_is_behind_log}
 use Rattle.log_laws.specs.Laws.{IsReadWhole}
@@ -149,7 +151,7 @@ module _ (watchers : ℕ) (playing : Playing) (frames : List Counts) (text : Lis
 pub read_as : (playing : Playing) (frames : List Counts) (log text : List ℕ) → told_lines text ≡ told_lines log → IsReadWhole playing frames log →
     IsReadWhole playing frames text
 read_as playing frames log text same is = record {
-  is_log = subst (λ (lines : List (List ℕ)). LinesTell playing.site.plan.names lines (records_of playing frames) None) (sym same) is.is_log;
+  is_log = subst (λ (lines : List (List ℕ)). Tells (records_by false playing.site.plan.names) AtOne lines (records_of playing frames) None) (sym same) is.is_log;
   alone = λ names read refused said.
-      is.alone names read refused (subst (λ (lines : List (List ℕ)). LinesTell names lines read refused) same said);
+      is.alone names read refused (subst (λ (lines : List (List ℕ)). Tells (records_by false names) AtOne lines read refused) same said);
 }

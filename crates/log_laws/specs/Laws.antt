@@ -1,5 +1,5 @@
 -- What is read of the logs that runs write.
-use Rattle.std.specs.Prelude.{◌≡◌, ℕ, ◌<◌, ◌≤◌, ◌^◌, List, length, All, Option, None, IfSome, Ok}
+use Rattle.std.specs.Prelude.{false, ◌≡◌, ℕ, ◌<◌, ◌≤◌, ◌^◌, List, length, All, Option, None, IfSome, Ok}
 use Rattle.std.specs.Io.KnownBytes.{append_known}
 use Rattle.sig_io.specs.Outside.{Contents}
 use Rattle.sig_types.specs.declared.record.Record.{Record}
@@ -11,8 +11,9 @@ use Rattle.junction_run.specs.Form.{Form, Play, SiteWords, Source}
 use Rattle.junction_run.specs.Loading.{Loaded, Loads, LoadsSource, Playing, plays}
 use Rattle.junction_run.specs.Records.{records_of}
 use Rattle.junction_run.specs.SafeLogs.{CameToAnEnd}
-use Rattle.log_records.specs.declared.refusal.LogWhy.{LogWhy}
-use Rattle.log_records.specs.Log.{IsLog}
+use Rattle.log_read.specs.declared.refusal.LogWhy.{LogWhy}
+use Rattle.log_read.specs.Readings.{IsRecords}
+use Rattle.log_read.specs.declared.begin.Begin.TheVariants.{AtOne}
 use Rattle.log_view.specs.Laws.{IsLoggedRun}
 
 -- the counts of 64 detectors, each of 32 bits
@@ -34,8 +35,8 @@ LoadedRunsAreLogged =
 -- Who reads this text line by line finds, under the names of the plan's groups, exactly the records of the run over these frames,
 -- and no line to refuse; and nothing else is an answer to it.
 pub record IsReadWhole (playing : Playing) (frames : List Counts) (text : List ℕ) : Type 0 where
-  pub is_log : IsLog playing.site.plan.names text (records_of playing frames) None
-  pub alone : (names : List (List ℕ)) (read : List Record) (refused : Option (ℕ × LogWhy)) → IsLog names text read refused →
+  pub is_log : IsRecords false AtOne playing.site.plan.names text (records_of playing frames) None
+  pub alone : (names : List (List ℕ)) (read : List Record) (refused : Option (ℕ × LogWhy)) → IsRecords false AtOne names text read refused →
       (names ≡ playing.site.plan.names) × (read ≡ records_of playing frames) × (refused ≡ None)
 
 -- what `run` and `exec` write is read whole, where they came to an end: it is a log of a run of what their files give

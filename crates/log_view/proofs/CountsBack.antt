@@ -11,7 +11,7 @@ use Rattle.sig_types.specs.Counts.{Counts}
 use Rattle.signal_log.specs.Log.{count_text, counted_from, or_dash}
 use Rattle.signal_log.proofs.CountTexts.{count_text_without}
 use Rattle.signal_log.proofs.Without.{decimal_without}
-use Rattle.log_records.specs.Fields.{count_in, counted_items, frame_in, with_count}
+use Rattle.log_read.specs.Fields.{count_in, counted_items, frame_in, with_count}
 use Rattle.log_view.proofs.CutTexts.{AreItems, IsParted, colon_no_digit, cut_again, parted_items, space_no_digit}
 use Rattle.log_view.proofs.NumberTexts.{number_within}
 

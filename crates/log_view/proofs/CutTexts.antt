@@ -1,5 +1,5 @@
 -- Texts of several parts, cut where they were joined.
-use Rattle.std.proofs.Common.{◌≡◌, ◌∙◌, ℕ, true, false, List, [], ◌∷◌, ◌++◌, codes, Some, refl, ap, arith, append_assoc, nat_eq, eq-eqb}
+use Rattle.std.proofs.Common.{◌≡◌, ◌∙◌, ℕ, true, false, List, [], ◌∷◌, ◌++◌, codes, Some, refl, ap, arith, append_assoc, nat_eq}
 use Rattle.std.specs.Prelude.{◌==◌}
 use Rattle.std.specs.List.{All, flat_map}
 use Rattle.std.specs.Str.{bytes_eq}
@@ -11,23 +11,21 @@ use Rattle.sig_types.specs.LogForm.{spaced}
 use Rattle.sig_types.specs.Text.{cut_at}
 use Rattle.signal_log.specs.Log.{or_dash, spaced_items}
 use Rattle.signal_log.proofs.Without.{NoDigit, Without}
-use Rattle.log_records.specs.Fields.{parted}
+use Rattle.log_read.specs.Fields.{parted}
+use Rattle.log_read.proofs.RecordForms.{cut_again as cut_at_stop}
+
+lacks : (b : ℕ) (xs : List ℕ) → Without b xs → All (λ c. (c == b) ≡ false) xs
+lacks b [] w = All-nil (λ (c : ℕ). (c == b) ≡ false)
+lacks b (x ∷ xs) w = All-cons (λ (c : ℕ). (c == b) ≡ false) x xs (ne_eqb x b w.0) (lacks b xs w.1)
 
 -- a text is cut at its first stop
 pub cut_again : (stop : ℕ) (front rest : List ℕ) → Without stop front → cut_at stop (front ++ stop ∷ rest) ≡ Some (front, rest)
-cut_again stop [] rest none = let here : nat_eq stop stop ≡ true = eq-eqb stop stop refl in rw here refl
-cut_again stop (b ∷ bs) rest none =
-    let here : nat_eq b stop ≡ false = ne_eqb b stop none.0 in
-    rw (here, cut_again stop bs rest none.1) refl
+cut_again stop front rest none = cut_at_stop stop front rest (lacks stop front none)
 
 -- no item has this byte
 abbrev pub AllWithout : ℕ → List (List ℕ) → Type 0
 AllWithout b [] = Unit {0}
 AllWithout b (x ∷ xs) = Without b x × AllWithout b xs
-
-lacks : (b : ℕ) (xs : List ℕ) → Without b xs → All (λ c. (c == b) ≡ false) xs
-lacks b [] w = All-nil (λ (c : ℕ). (c == b) ≡ false)
-lacks b (x ∷ xs) w = All-cons (λ (c : ℕ). (c == b) ≡ false) x xs (ne_eqb x b w.0) (lacks b xs w.1)
 
 -- items that are joined by spaces are parted again
 pub parted_again : (x : List ℕ) (xs : List (List ℕ)) → Without 32 x → AllWithout 32 xs → parted (x ++ flat_map spaced xs) ≡ x ∷ xs

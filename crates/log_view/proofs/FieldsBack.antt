@@ -1,9 +1,7 @@
 -- The fields of a record: what is written of a place, a picture and a fault is read as these.
-use Rattle.std.proofs.Common.{◌≡◌, ◌∙◌, ℕ, ◌≤◌, List, [], ◌∷◌, ◌++◌, codes, length, map, Option, Some, None, refl, ap, arith, append_assoc, eq-eqb}
+use Rattle.std.proofs.Common.{◌≡◌, ◌∙◌, ℕ, ◌≤◌, List, ◌∷◌, ◌++◌, codes, Option, Some, None, refl, ap, arith, append_assoc}
 use Rattle.std.specs.Fmt.{decimal}
 use Rattle.std.specs.Option.{ForSome}
-use Rattle.std.proofs.lemmas.List.{length-map}
-use Rattle.sig_types.specs.declared.aspect.Aspect.TheVariants.{Red, RedAmber, Green, Amber}
 use Rattle.sig_types.specs.declared.kinds.FaultKind.{FaultKind}
 use Rattle.sig_types.specs.declared.kinds.FaultKind.TheVariants.{Budget, Overflow, ZeroDivisor, Index, Number}
 use Rattle.sig_types.specs.declared.numbers.StageNo.{StageNo}
@@ -11,11 +9,9 @@ use Rattle.sig_types.specs.declared.numbers.StagePlace.{StagePlace}
 use Rattle.sig_types.specs.declared.numbers.StagePlace.TheVariants.{NoPlan, Stage, Inter}
 use Rattle.sig_types.specs.declared.refused.Fault.{Fault}
 use Rattle.sig_types.specs.Limits.{last_line}
-use Rattle.sig_types.specs.LogForm.{letter}
-use Rattle.sig_types.specs.Turns.{Picture}
 use Rattle.signal_log.specs.Log.{fault_name, fault_text, place_text}
 use Rattle.signal_log.proofs.Without.{decimal_without}
-use Rattle.log_records.specs.Fields.{fault_in, inter_in, picture_in, place_in, some_fault, spelled, stage_in}
+use Rattle.log_read.specs.Fields.{fault_in, inter_in, place_in, some_fault, stage_in}
 use Rattle.log_view.specs.Laws.{IsPlace, IsStage}
 use Rattle.log_view.proofs.CutTexts.{cut_again, dash_no_digit, plus_no_digit}
 use Rattle.log_view.proofs.NumberTexts.{number_within}
@@ -49,18 +45,6 @@ place_again NoPlan is = refl
 place_again (Stage s) is = rw (stage_again s is) refl
 place_again (Inter a b t) is =
     ap inter_in (inter_shape (decimal a.0) (decimal b.0) (decimal t)) ∙ inter_again a b t is.0 is.1 is.2
-
--- ---- the picture
-
-spelled_again : (p : Picture) → spelled (map letter p) ≡ Some p
-spelled_again [] = refl
-spelled_again (Red ∷ p) = rw (spelled_again p) refl
-spelled_again (RedAmber ∷ p) = rw (spelled_again p) refl
-spelled_again (Green ∷ p) = rw (spelled_again p) refl
-spelled_again (Amber ∷ p) = rw (spelled_again p) refl
-
-pub picture_again : (groups : ℕ) (p : Picture) → length p ≡ groups → picture_in groups (map letter p) ≡ Some p
-picture_again groups p size = rw (length-map p letter, eq-eqb (length p) groups size) (spelled_again p)
 
 -- ---- the fault
 

@@ -7,7 +7,7 @@ use Rattle.std.proofs.lemmas.List.{append-nil, length_push}
 use Rattle.pua_model.specs.Plan.{are_apart, are_names, stands_in as stands_after}
 use Rattle.sig_types.specs.LogForm.{header_line, spaced}
 use Rattle.sig_types.specs.Text.{is_name, same_name}
-use Rattle.log_records.specs.Fields.{listed_names, named_items, names_in, stands_in, with_name}
+use Rattle.log_read.specs.Fields.{listed_names, named_items, names_in, stands_in, with_name}
 use Rattle.log_view.specs.Laws.{AreGroups}
 use Rattle.log_view.proofs.CutTexts.{parted_again}
 use Rattle.log_view.proofs.NameTexts.{name_without, names_without, same_back}

@@ -1,7 +1,6 @@
 pub mod Marks
 pub mod Drawing
 pub mod Covering
-pub mod Ranges
 pub mod Showable
 pub mod Reading
 pub mod Blocks

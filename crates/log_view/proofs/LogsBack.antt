@@ -1,5 +1,5 @@
 -- A log that was written is read back, whole.
-use Rattle.std.proofs.Common.{◌≡◌, ◌∙◌, ℕ, ◌+◌, ◌≤◌, true, List, [], ◌∷◌, ◌++◌, codes, drop, length, map, Option, Some, None, refl, sym, ap, subst, arith, append_assoc}
+use Rattle.std.proofs.Common.{false, ◌≡◌, ◌∙◌, ℕ, ◌+◌, ◌≤◌, true, List, [], ◌∷◌, ◌++◌, codes, drop, length, map, Option, Some, None, refl, sym, ap, subst, arith, append_assoc}
 use Rattle.std.proofs.lemmas.List.{append-nil}
 use Rattle.std.specs.Fmt.{decimal}
 use Rattle.std.specs.Option.{option_and_then}
@@ -12,18 +12,23 @@ use Rattle.signal_log.proofs.Lengths.{header_is_short, lines_are_short}
 use Rattle.signal_log.proofs.LogLines.{lines_have_no_feed}
 use Rattle.signal_log.proofs.Plain.{decimal_plain, no_bar, plain_without}
 use Rattle.signal_log.proofs.Without.{Without}
-use Rattle.log_records.specs.declared.refusal.LogWhy.{LogWhy}
-use Rattle.log_records.specs.Fields.{Fields, cut_fifth, cut_first, cut_fourth, cut_second, cut_third, fields_of}
-use Rattle.log_records.specs.Log.{HasRecords, IsLog}
-use Rattle.log_records.specs.Records.{IsEntry, record_reason}
-use Rattle.log_records.specs.Watchers.{told_lines}
-use Rattle.log_records.proofs.LogLaws.{one_answer, one_header}
-use Rattle.log_records.proofs.Steps.{step_ended, step_header, step_record}
-use Rattle.log_records.proofs.WatcherLemmas.{header_unwatched, line_first, nothing_told, record_unwatched, watch_cuts}
+use Rattle.log_read.specs.declared.refusal.LogWhy.{LogWhy}
+use Rattle.log_read.specs.Fields.{Fields, cut_fifth, cut_first, cut_fourth, cut_second, cut_third, fields_of, names_in}
+use Rattle.log_read.specs.Log.{HasEntries, Reading}
+use Rattle.log_read.specs.Readings.{IsRecords, records_by}
+use Rattle.log_read.specs.declared.begin.Begin.TheVariants.{AtOne}
+use Rattle.log_read.specs.Records.{IsEntry}
+use Rattle.log_read.specs.Watchers.{told_lines}
+use Rattle.log_read.proofs.Entries.{not_refused}
+use Rattle.log_read.proofs.LogLaws.{one_found, one_header}
+use Rattle.log_read.proofs.LogLemmas.{ended, none_read, step_entry, step_header}
+use Rattle.log_read.proofs.RecordForms.{picture_again}
+use Rattle.log_read.proofs.TakenLemmas.{all_taken, left_behind, stands_at}
+use Rattle.log_read.proofs.WatcherLemmas.{header_unwatched, line_first, nothing_told, record_unwatched, watch_cuts}
 use Rattle.log_view.specs.Laws.{AreGroups, AreOfRun, IsLoggedRun, IsOfRun, OnlyWrittenIsRead, WatcherIsBehindLog, WrittenIsRead}
 use Rattle.log_view.proofs.CountsBack.{frame_again}
 use Rattle.log_view.proofs.CutTexts.{cut_again}
-use Rattle.log_view.proofs.FieldsBack.{fault_again, picture_again, place_again}
+use Rattle.log_view.proofs.FieldsBack.{fault_again, place_again}
 use Rattle.log_view.proofs.HeaderBack.{header_again}
 use Rattle.log_view.proofs.NumberTexts.{number_within}
 use Rattle.log_view.proofs.RefusedBack.{refused_again}
@@ -85,12 +90,6 @@ line_entry names k r groups few is = record {
   fault = fault_again r.fault is.fault;
 }
 
--- a line that says a record isn't refused
-not_refused : (names : List (List ℕ)) (k : ℕ) (line : List ℕ) (r : Record) → IsEntry names k line r →
-    record_reason names k line ≡ None
-unfolding record_reason
-not_refused names k line r is = rw (is.cut, is.due, is.place, is.picture, is.frame, is.refused, is.fault) refl
-
 -- ---- the log
 
 -- the lines of records, each with its line feed
@@ -111,29 +110,40 @@ log_is names rs =
     append_assoc (header_line names) (10 ∷ []) (records_text names rs)
     ∙ ap (λ l. header_line names ++ 10 ∷ l) (records_are names rs)
 
+-- the records of the groups that the header names
+abbrev by_header : List (List ℕ) → Reading Record
+by_header names = records_by false names
+
 -- the records from number n on, where the lines before them were read
 read_on : (names : List (List ℕ)) (bytes : List ℕ) (n : ℕ) (done rs : List Record) → AreGroups names → 1 ≤ n →
     n + length rs ≤ 604802 →
     AreOfRun (length names) n rs →
-    told_lines (lines_text names rs) ≡ drop n (told_lines bytes) → HasRecords names (told_lines bytes) n done →
-    IsLog names bytes (done ++ rs) None
+    told_lines (lines_text names rs) ≡ drop n (told_lines bytes) → HasEntries (by_header names) 1 (told_lines bytes) n done →
+    IsRecords false AtOne names bytes (done ++ rs) None
 read_on names bytes n done [] groups some few are rest read =
-    rw (append-nil done) (step_ended names bytes n done (told_lines []) some rest read nothing_told)
+    let none = all_taken (told_lines bytes) n (told_lines []) rest nothing_told in
+    rw (append-nil done) (ended (by_header names) 1 (told_lines bytes) n done read none some)
 read_on names bytes n done (r ∷ rs) groups some few are rest read =
     let line : List ℕ = record_line names r in
+    let left = told_lines (line ++ 10 ∷ lines_text names rs) in
     let entry = line_entry names n r groups (omega arith) are.0 in
     let next : told_lines (line ++ 10 ∷ lines_text names rs) ≡ line ∷ told_lines (lines_text names rs) =
     line_first (line ++ 10 ∷ lines_text names rs) line true (lines_text names rs)
     record { no_feed = (lines_have_no_feed names groups.names_are).1 r; cut = refl } (record_unwatched names n line r entry) in
     let short : length line ≤ 262144 = lines_are_short names r groups.names_are groups.few are.0.parts are.0.bounded in
-    let more = step_record names bytes n done (told_lines (line ++ 10 ∷ lines_text names rs)) line (told_lines (lines_text names rs)) r some
-    (omega arith) rest read next short
+    let stands = stands_at (told_lines bytes) n left rest line (told_lines (lines_text names rs)) next (omega arith) short in
+    let more = step_entry (by_header names) 1 (told_lines bytes) n n line done r read some stands (omega (arith, some))
     (not_refused names n line r entry) entry in
-    subst (λ (all : List Record). IsLog names bytes all None) (append_assoc done (r ∷ []) rs)
-    (read_on names bytes (n + 1) (done ++ r ∷ []) rs groups (omega arith) (omega arith) are.1 more.rest more.accepted)
+    subst (λ (all : List Record). IsRecords false AtOne names bytes all None) (append_assoc done (r ∷ []) rs)
+    (read_on names bytes (n + 1) (done ++ r ∷ []) rs groups (omega arith) (omega arith) are.1
+    (left_behind (told_lines bytes) n left rest line (told_lines (lines_text names rs)) next) more)
+
+-- a header isn't refused
+header_right : (names : List (List ℕ)) (line : List ℕ) → names_in line ≡ Some names → (by_header names).header line ≡ None
+header_right names line is = rw is refl
 
 lines_read : (names : List (List ℕ)) (rs : List Record) → IsLoggedRun names rs →
-    IsLog names (header_line names ++ 10 ∷ lines_text names rs) rs None
+    IsRecords false AtOne names (header_line names ++ 10 ∷ lines_text names rs) rs None
 lines_read names rs run =
     let bytes : List ℕ = header_line names ++ 10 ∷ lines_text names rs in
     let groups = run.groups in
@@ -141,20 +151,23 @@ lines_read names rs run =
     let next : told_lines bytes ≡ header_line names ∷ told_lines (lines_text names rs) =
     line_first bytes (header_line names) true (lines_text names rs)
     record { no_feed = (lines_have_no_feed names groups.names_are).0; cut = refl } (header_unwatched names (header_line names) header) in
-    let more = step_header names bytes (told_lines bytes) (header_line names) (told_lines (lines_text names rs)) refl next
-    (header_is_short names groups.names_are groups.few) header in
-    read_on names bytes 1 [] rs groups (omega arith) (omega (arith, run.few)) run.records_are more.rest more.accepted
+    let stands = stands_at (told_lines bytes) 0 (told_lines bytes) refl (header_line names) (told_lines (lines_text names rs)) next (omega arith)
+    (header_is_short names groups.names_are groups.few) in
+    let more = step_header (by_header names) 1 (told_lines bytes) (header_line names) [] (none_read (by_header names) 1 (told_lines bytes)) stands
+    (header_right names (header_line names) header) header in
+    read_on names bytes 1 [] rs groups (omega arith) (omega (arith, run.few)) run.records_are
+    (left_behind (told_lines bytes) 0 (told_lines bytes) refl (header_line names) (told_lines (lines_text names rs)) next) more
 
 pub written_is_read : WrittenIsRead
 written_is_read names rs run =
-    subst (λ (bytes : List ℕ). IsLog names bytes rs None) (sym (log_is names rs)) (lines_read names rs run)
+    subst (λ (bytes : List ℕ). IsRecords false AtOne names bytes rs None) (sym (log_is names rs)) (lines_read names rs run)
 
 pub only_written_is_read : OnlyWrittenIsRead
 only_written_is_read names others rs read refused run said =
-    let one = one_answer names others (log_text names rs) rs read None refused (written_is_read names rs run) said in
-    let whole : IsLog others (log_text names rs) read None =
-    subst (λ (o : Option (ℕ × LogWhy)). IsLog others (log_text names rs) read o) (sym one.1) said in
-    (sym (one_header names others (log_text names rs) rs read (written_is_read names rs run) whole), sym one.0, sym one.1)
+    let one = one_found AtOne names others (log_text names rs) rs read None refused (written_is_read names rs run) said in
+    let whole : IsRecords false AtOne others (log_text names rs) read None =
+    subst (λ (o : Option (ℕ × LogWhy)). IsRecords false AtOne others (log_text names rs) read o) (sym one.1) said in
+    (sym (one_header AtOne names others (log_text names rs) rs read (written_is_read names rs run) whole), sym one.0, sym one.1)
 
 -- ---- what stands behind the log
 

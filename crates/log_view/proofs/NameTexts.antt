@@ -9,7 +9,7 @@ use Rattle.sig_types.specs.Text.{is_digit, is_letter, is_name, is_word, lower, s
 use Rattle.sig_types.specs.declared.numbers.GroupNo.{GroupNo}
 use Rattle.signal_log.specs.Log.{name_of}
 use Rattle.signal_log.proofs.Without.{Without}
-use Rattle.log_records.specs.Fields.{place_of}
+use Rattle.log_read.specs.Fields.{place_of}
 use Rattle.log_view.proofs.CutTexts.{AllWithout}
 
 -- a byte that is no letter and no digit

@@ -6,11 +6,12 @@ use Rattle.std.proofs.lemmas.List.{get_or_append_left}
 use Rattle.std.proofs.Math.Seq.{get_or-append_seam}
 use Rattle.sig_io.specs.Outside.{Contents}
 use Rattle.sig_types.specs.declared.record.Record.{Record}
-use Rattle.log_records.specs.declared.records.LogRecords.{LogRecords}
-use Rattle.log_records.specs.declared.refusal.LogStop.{LogStop}
-use Rattle.log_records.specs.declared.refusal.LogStop.TheVariants as log
-use Rattle.log_records.specs.Answers.{AnswersNext, Reads, Stops, name_of, names_of, record_given, records_given}
-use Rattle.log_records.specs.Records.{IsEntry}
+use Rattle.log_read.specs.declared.records.LogRecords.{LogRecords}
+use Rattle.log_read.specs.declared.refusal.LogStop.{LogStop}
+use Rattle.log_read.specs.declared.refusal.LogStop.TheVariants as log
+use Rattle.log_read.specs.RecordAnswers.{AnswersNext, Reads, Stops, begin_of, name_of, names_given, names_of, record_given, records_given}
+use Rattle.log_read.specs.Records.{IsEntry}
+use Rattle.log_read.specs.declared.begin.Begin.TheVariants.{AtOne}
 use Rattle.log_svg.specs.declared.diagram.Diagram.{Diagram}
 use Rattle.log_view.specs.declared.form.Window.{Window}
 use Rattle.log_view.specs.Answers.{EndsEarly, IsDiagramOf, IsUndrawn}
@@ -62,34 +63,34 @@ draw_next told name old new window d e is named names given next said take cover
     }
 
 -- why a log isn't drawn
-pub undrawn : (names : List (List ℕ)) (bytes : List ℕ) (records : List Record) (to : ℕ) (stop : LogStop) → Stops names bytes records stop → IsUndrawn bytes to (stop_of stop)
+pub undrawn : (names : List (List ℕ)) (bytes : List ℕ) (records : List Record) (to : ℕ) (stop : LogStop) → Stops false AtOne names bytes records stop → IsUndrawn bytes to (stop_of stop)
 undrawn names bytes records to log.Memory is = tt
 undrawn names bytes records to log.Fault is = tt
 undrawn names bytes records to (log.At line why) is = (names, (records, is))
 
-pub undrawn_next : (told : Option Contents) (name : List ℕ) (old new : LogRecords) (window : Window) (d : Diagram) (stop : LogStop) → name_of old ≡ name →
+pub undrawn_next : (told : Option Contents) (name : List ℕ) (old new : LogRecords) (window : Window) (d : Diagram) (stop : LogStop) → name_of old ≡ name → begin_of old ≡ AtOne → names_given old ≡ false →
     ForSome told (λ file. AnswersNext (file (name_of old)) old new (Err stop)) → HasDrawn told name old window d → ForSome told (λ file. IsUndrawn (file name) window.to (stop_of stop))
-undrawn_next told name old new window d stop named next drawn file is =
-    undrawn (names_of old) (file name) drawn.records window.to stop (rw named at (next file is drawn.records (rw (← named) at (drawn.reads file is))))
+undrawn_next told name old new window d stop named one found next drawn file is =
+    undrawn (names_of old) (file name) drawn.records window.to stop (rw (named, one, found) at (next file is drawn.records (rw (← named) at (drawn.reads file is))))
 
-pub ends_early : (told : Option Contents) (name : List ℕ) (old new : LogRecords) (window : Window) (d : Diagram) (count : ℕ) → name_of old ≡ name → count ≡ records_given new →
+pub ends_early : (told : Option Contents) (name : List ℕ) (old new : LogRecords) (window : Window) (d : Diagram) (count : ℕ) → name_of old ≡ name → begin_of old ≡ AtOne → names_given old ≡ false → count ≡ records_given new →
     records_given new ≡ records_given old → count < window.to → ForSome told (λ file. AnswersNext (file (name_of old)) old new (Ok false)) → HasDrawn told name old window d →
     ForSome told (λ file. EndsEarly (file name) window.to count)
-ends_early told name old new window d count named given same early next drawn file is =
+ends_early told name old new window d count named one found given same early next drawn file is =
     let end = next file is drawn.records (rw (← named) at (drawn.reads file is)) in
-    (names_of old, (drawn.records, (rw named at end.0, omega (arith, drawn.count, given, same), early)))
+    (names_of old, (drawn.records, (rw (named, one, found) at end.0, omega (arith, drawn.count, given, same), early)))
 
-pub draw_whole : (told : Option Contents) (name : List ℕ) (old new : LogRecords) (window : Window) (d : Diagram) (count : ℕ) → IsWindow window → name_of old ≡ name → count ≡ records_given new →
+pub draw_whole : (told : Option Contents) (name : List ℕ) (old new : LogRecords) (window : Window) (d : Diagram) (count : ℕ) → IsWindow window → name_of old ≡ name → begin_of old ≡ AtOne → names_given old ≡ false → count ≡ records_given new →
     records_given new ≡ records_given old → window.to ≤ count → ForSome told (λ file. AnswersNext (file (name_of old)) old new (Ok false)) → HasDrawn told name old window d →
     ForSome told (λ file. IsDiagramOf (file name) window d)
-draw_whole told name old new window d count window_is named given same whole next drawn file is =
+draw_whole told name old new window d count window_is named one found given same whole next drawn file is =
     let end = next file is drawn.records (rw (← named) at (drawn.reads file is)) in
     let long : window.to ≤ length drawn.records = omega (arith, drawn.count, given, same, whole) in
     let past : d.chart.past ≡ window.to + 1 = omega (arith, drawn.drawn.past_is, long, window_is.order) in
     record {
       names = names_of old;
       records = drawn.records;
-      log = rw named at end.0;
+      log = rw (named, one, found) at end.0;
       long = long;
       gathered = record {
         names_are = drawn.drawn.names_are;

@@ -16,8 +16,8 @@ use Rattle.sig_types.specs.declared.refused.TurnRefusal.{TurnRefusal}
 use Rattle.sig_types.specs.Recorded.{IsTurn}
 use Rattle.signal_log.specs.Log.{name_of, or_dash, other_of, other_text, refused_texts, rule_name, stage_refusal_text, turn_text}
 use Rattle.signal_log.proofs.Without.{Without, decimal_without, without-append, without_along, without_by_test}
-use Rattle.log_records.specs.declared.refused.Refusal.TheVariants.{Command, Turn}
-use Rattle.log_records.specs.Fields.{command_in, command_rule, refusal_in, refused_in, refused_items, turn_in, with_refusal}
+use Rattle.log_read.specs.declared.refused.Refusal.TheVariants.{Command, Turn}
+use Rattle.log_read.specs.Fields.{command_in, command_rule, refusal_in, refused_in, refused_items, turn_in, with_refusal}
 use Rattle.log_view.specs.Laws.{AreGroups, IsOfCommands, IsOfTurns, IsRefusedCommand}
 use Rattle.log_view.proofs.CutTexts.{AreItems, IsParted, are_items-append, colon_no_digit, cut_again, dash_no_digit, parted_items, space_no_digit}
 use Rattle.log_view.proofs.FieldsBack.{stage_again}

@@ -1,8 +1,9 @@
 -- What a call of `log_report` answers.
-use Rattle.std.specs.Prelude.{◌≡◌, ℕ, ◌<◌, ◌≤◌, List, length, Some, None, Result, Ok, Err}
+use Rattle.std.specs.Prelude.{false, ◌≡◌, ℕ, ◌<◌, ◌≤◌, List, length, Some, None, Result, Ok, Err}
 use Rattle.sig_types.specs.declared.record.Record.{Record}
-use Rattle.log_records.specs.declared.refusal.LogWhy.{LogWhy}
-use Rattle.log_records.specs.Log.{IsLog}
+use Rattle.log_read.specs.declared.refusal.LogWhy.{LogWhy}
+use Rattle.log_read.specs.Readings.{IsRecords}
+use Rattle.log_read.specs.declared.begin.Begin.TheVariants.{AtOne}
 use Rattle.log_view.specs.declared.form.Window.{Window}
 use Rattle.log_view.specs.declared.stop.Stop.{Stop}
 use Rattle.log_view.specs.declared.stop.Stop.TheVariants.{Memory, Words, TooManySeconds, ReadFault, WriteFault, Line, LogEnds}
@@ -12,12 +13,12 @@ use Rattle.log_view.specs.Gathered.{IsGathered}
 
 -- the log is refused at this line for this reason
 abbrev pub IsRefusedAt : List ℕ → ℕ → LogWhy → Type 0
-IsRefusedAt bytes line why = (names : List (List ℕ)) × ((records : List Record) × IsLog names bytes records (Some (line, why)))
+IsRefusedAt bytes line why = (names : List (List ℕ)) × ((records : List Record) × IsRecords false AtOne names bytes records (Some (line, why)))
 
 -- all lines of the log are accepted, and it ends before second `to` with this one
 abbrev pub EndsEarly : List ℕ → ℕ → ℕ → Type 0
 EndsEarly bytes to last =
-    (names : List (List ℕ)) × ((records : List Record) × (IsLog names bytes records None × (length records ≡ last) × (last < to)))
+    (names : List (List ℕ)) × ((records : List Record) × (IsRecords false AtOne names bytes records None × (length records ≡ last) × (last < to)))
 
 -- reading may stop so
 abbrev pub IsOfReading : Stop → Type 0
@@ -43,7 +44,7 @@ IsUndrawn bytes to (LogEnds last) = EndsEarly bytes to last
 pub record IsDiagramOf (bytes : List ℕ) (window : Window) (d : Diagram) : Type 0 where
   pub names : List (List ℕ)
   pub records : List Record
-  pub log : IsLog names bytes records None
+  pub log : IsRecords false AtOne names bytes records None
   pub long : window.to ≤ length records
   pub gathered : IsGathered names records window.from window.to (shown_in d)
 

@@ -7,7 +7,7 @@ use Rattle.sig_types.specs.Turns.{History}
 use Rattle.log_chart.specs.declared.cover.Cover.{Cover}
 use Rattle.log_chart.specs.Spans.{AreSpans, IsChart}
 use Rattle.log_cover.specs.Covers.{IsCover}
-use Rattle.log_records.specs.Records.{IsEntry}
+use Rattle.log_read.specs.Records.{IsEntry}
 use Rattle.record_sums.specs.Told.{AgreesTo, fronts_by, rears_by, told}
 use Rattle.log_svg.specs.declared.diagram.Diagram.{Diagram}
 use Rattle.log_view.specs.Gathered.{faults_in, fronts_in, history_of, places_of, refusals_in, window_in}

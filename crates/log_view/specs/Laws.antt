@@ -14,9 +14,10 @@ use Rattle.sig_types.specs.Limits.{last_line}
 use Rattle.sig_types.specs.Recorded.{IsRecord}
 use Rattle.signal_log.specs.Laws.{IsBounded}
 use Rattle.signal_log.specs.Log.{log_text}
-use Rattle.log_records.specs.declared.refusal.LogWhy.{LogWhy}
-use Rattle.log_records.specs.Log.{IsLog}
-use Rattle.log_records.specs.Watchers.{is_watch, told_lines}
+use Rattle.log_read.specs.declared.refusal.LogWhy.{LogWhy}
+use Rattle.log_read.specs.Readings.{IsRecords}
+use Rattle.log_read.specs.declared.begin.Begin.TheVariants.{AtOne}
+use Rattle.log_read.specs.Watchers.{is_watch, told_lines}
 
 -- names of the groups of a plan: 1 to 64, of which none stands twice, in any case
 pub record AreGroups (names : List (List ℕ)) : Type 0 where
@@ -91,14 +92,14 @@ pub record IsLoggedRun (names : List (List ℕ)) (records : List Record) : Type 
 -- second, its stage or interstage, its aspects, its counts, what was refused with rule and groups, and its fault.
 abbrev pub WrittenIsRead : Type 0
 WrittenIsRead = (names : List (List ℕ)) (records : List Record) → IsLoggedRun names records →
-    IsLog names (log_text names records) records None
+    IsRecords false AtOne names (log_text names records) records None
 
 -- Nothing else is read of it: whatever names, records and refused line are an answer to its text, they are these names and these
 -- records, and no line is refused.
 abbrev pub OnlyWrittenIsRead : Type 0
 OnlyWrittenIsRead =
     (names others : List (List ℕ)) (records read : List Record) (refused : Option (ℕ × LogWhy)) → IsLoggedRun names records →
-    IsLog others (log_text names records) read refused → (others ≡ names) × (read ≡ records) × (refused ≡ None)
+    IsRecords false AtOne others (log_text names records) read refused → (others ≡ names) × (read ≡ records) × (refused ≡ None)
 
 -- Behind such a log a watcher's line changes nothing of the lines that tell it, whatever stands behind that line.
 abbrev pub WatcherIsBehindLog : Type 0

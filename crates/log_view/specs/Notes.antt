@@ -1,10 +1,9 @@
 -- How a call that stopped ends, and its note.
 use Rattle.std.specs.Prelude.{ℕ, List, ◌++◌, codes, Option, None, Some}
 use Rattle.std.specs.Fmt.{decimal}
-use Rattle.log_records.specs.declared.refusal.LogWhy.{LogWhy}
-use Rattle.log_records.specs.declared.refusal.LogWhy.TheVariants as why
-use Rattle.log_records.specs.declared.refusal.LogStop.{LogStop}
-use Rattle.log_records.specs.declared.refusal.LogStop.TheVariants as log
+use Rattle.log_read.specs.Whys.{why_name}
+use Rattle.log_read.specs.declared.refusal.LogStop.{LogStop}
+use Rattle.log_read.specs.declared.refusal.LogStop.TheVariants as log
 use Rattle.log_view.specs.declared.named.FormName.{FormName}
 use Rattle.log_view.specs.declared.stop.Status.{Status}
 use Rattle.log_view.specs.declared.stop.Status.TheVariants as status
@@ -37,19 +36,6 @@ stop_of log.Memory = Memory
 stop_of log.Fault = ReadFault
 stop_of (log.At line why) = Line line why
 
--- the name of a reason
-abbrev pub reason_name : LogWhy → List ℕ
-reason_name why.Header = codes "Header"
-reason_name why.Fields = codes "Fields"
-reason_name why.Second = codes "Second"
-reason_name why.Stage = codes "Stage"
-reason_name why.Aspects = codes "Aspects"
-reason_name why.Counts = codes "Counts"
-reason_name why.Refused = codes "Refused"
-reason_name why.Fault = codes "Fault"
-reason_name why.LineTooLong = codes "LineTooLong"
-reason_name why.TooManySeconds = codes "TooManySeconds"
-
 -- what would be words of a form: those of the form that is begun, with what they may be, and else what the usage tells
 abbrev pub right_words : Option FormName → List ℕ
 right_words None = codes "see log_report --help"
@@ -62,7 +48,7 @@ stop_words words Words = codes "Words: " ++ right_words (form_begun words)
 stop_words words TooManySeconds = codes "TooManySeconds 3600"
 stop_words words ReadFault = log_named words ++ codes ": ReadFault"
 stop_words words WriteFault = codes "WriteFault"
-stop_words words (Line line why) = log_named words ++ codes ":" ++ decimal line ++ codes ": " ++ reason_name why
+stop_words words (Line line why) = log_named words ++ codes ":" ++ decimal line ++ codes ": " ++ why_name why
 stop_words words (LogEnds last) = log_named words ++ codes ": LogEnds " ++ decimal last
 
 -- a note, with the name of the program before it and its line feed

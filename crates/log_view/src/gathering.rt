@@ -20,7 +20,7 @@ use crate::form::Window;
 use crate::stop::{Stop, stop_of};
 use log_chart::{Chart, Cover, add_stay};
 use log_cover::{no_covers, take_frame};
-use log_records::LogRecords;
+use log_read::{Begin, LogRecords};
 use log_svg::{Diagram, FaultMark, FrontMark, RefusalMark, Refused};
 use sig_io::Files;
 use sig_types::{
@@ -288,7 +288,7 @@ pub fn gather<F: Files>(
     ensures later { F.faults files.old ≤ F.faults files.new }
     ensures cause { result ≡ Err Stop.ReadFault → Rose (F.faults files.old) (F.faults files.new) }
 {
-    let mut records = match LogRecords::open(alloc, files, log) {
+    let mut records = match LogRecords::open(alloc, files, log, Begin::AtOne) {
         Ok(records) => records,
         Err(stop) => return Err(stop_of(stop)),
     };

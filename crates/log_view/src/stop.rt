@@ -4,11 +4,11 @@ ghost use Rattle.std.specs.Fmt.{decimal};
 ghost use Rattle.std.specs.Io.KnownBytes.{append_known};
 ghost use Rattle.std.specs.List.{flat_map};
 ghost use Rattle.sig_io.specs.Outside.{Rose};
-ghost use Rattle.log_view.specs.Notes.{exit_number, note_of, reason_name, right_words, status_of, stop_note, stop_of};
+ghost use Rattle.log_view.specs.Notes.{exit_number, note_of, right_words, status_of, stop_note, stop_of};
 
 use crate::named::{FormName, form_begun, form_limits, form_words, log_named};
 use itoa::Buffer;
-use log_records::{LogStop, LogWhy};
+use log_read::{LogStop, LogWhy, why_name};
 use sig_io::{Sink, put_each};
 
 /// Why a call ended before all was done.
@@ -84,24 +84,6 @@ pub fn status_of(stop: &Stop) -> Status
         Stop::WriteFault => Status::WriteFault,
         Stop::Line { line: _, why: _ } => Status::Refused,
         Stop::LogEnds(_) => Status::Refused,
-    }
-}
-
-// The name of a reason.
-fn reason_name(why: LogWhy) -> &'static [u8]
-    ensures { result.now ≡ reason_name why }
-{
-    match why {
-        LogWhy::Header => b"Header",
-        LogWhy::Fields => b"Fields",
-        LogWhy::Second => b"Second",
-        LogWhy::Stage => b"Stage",
-        LogWhy::Aspects => b"Aspects",
-        LogWhy::Counts => b"Counts",
-        LogWhy::Refused => b"Refused",
-        LogWhy::Fault => b"Fault",
-        LogWhy::LineTooLong => b"LineTooLong",
-        LogWhy::TooManySeconds => b"TooManySeconds",
     }
 }
 
@@ -192,7 +174,7 @@ pub fn write_stop<N: Sink>(notes: &mut N, words: &[String], stop: &Stop)
         Stop::TooManySeconds => write_pieces(notes, &[b"log_report: TooManySeconds 3600\n"]),
         Stop::ReadFault => write_unread(notes, log_named(words)),
         Stop::WriteFault => write_pieces(notes, &[b"log_report: WriteFault\n"]),
-        Stop::Line { line, why } => write_line(notes, log_named(words), line, reason_name(why)),
+        Stop::Line { line, why } => write_line(notes, log_named(words), line, why_name(why)),
         Stop::LogEnds(last) => write_end(notes, log_named(words), last),
     }
 }

@@ -68,6 +68,7 @@ ends groups from to records r old over is most same =
         sums = rw (take-append-le to records (r ∷ []) most) record {
           seconds_are = is.sums.seconds_are;
           groups_are = is.sums.groups_are;
+          size = is.sums.size;
           detectors_are = is.sums.detectors_are;
           places_are = is.sums.places_are;
           commands_are = is.sums.commands_are;

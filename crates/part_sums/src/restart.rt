@@ -76,7 +76,8 @@ fn restart_groups(groups: &mut [GroupSums; 64])
 
 // The same of all detectors.
 fn restart_detectors(detectors: &mut [DetectorSums; 64])
-    ensures { (f r : ℕ → ℕ) (from n p : ℕ) (d : DetectorSums) → p < 64 → AreDetectorSums f r from n (slice_index_or detectors.old p d) →
+    ensures size { length detectors.new ≡ 64 }
+    ensures each { (f r : ℕ → ℕ) (from n p : ℕ) (d : DetectorSums) → p < 64 → AreDetectorSums f r from n (slice_index_or detectors.old p d) →
         AreDetectorSums f r (n + 1) n (slice_index_or detectors.new p d) }
 {
     for place in 0..64usize {

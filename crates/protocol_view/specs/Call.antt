@@ -15,8 +15,9 @@ use Rattle.judge_notes.specs.declared.stop.JudgeStop.{JudgeStop}
 use Rattle.judge_notes.specs.declared.stop.JudgeStop.TheVariants as stop
 use Rattle.judge_notes.specs.Notes.{stop_note}
 use Rattle.judge_notes.specs.Statuses.{status_of}
-use Rattle.log_parts.specs.Answers.{IsFirst}
-use Rattle.log_parts.specs.Log.{IsPart}
+use Rattle.log_read.specs.Answers.{IsFirst}
+use Rattle.log_read.specs.Readings.{IsPictures}
+use Rattle.log_read.specs.declared.begin.Begin.TheVariants.{Anywhere}
 use Rattle.log_protocol.specs.Texts.{page_text}
 use Rattle.protocol_view.specs.Form.{Asked, form_of}
 use Rattle.protocol_view.specs.Gathered.{IsUnread}
@@ -27,9 +28,9 @@ pub record IsTextOf (asked : Asked) (file : Contents) (text : List ℕ) : Type 0
   pub site : Site
   pub loaded : site_of asked.site file ≡ Ok site
   pub pictures : List Picture
-  pub log : IsPart site.plan.names (file asked.log) pictures None
+  pub log : IsPictures Anywhere site.plan.names (file asked.log) pictures None
   pub first : ℕ
-  pub first_is : IsFirst (file asked.log) pictures first
+  pub first_is : IsFirst Anywhere (file asked.log) pictures first
   pub text_is : text ≡ page_text asked.style first site.plan.names site.rules pictures
 
 -- why the log is not read to its end, of which the site is loaded

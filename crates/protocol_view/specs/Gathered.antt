@@ -3,24 +3,23 @@ use Rattle.std.specs.Prelude.{◌≡◌, ℕ, List, None, Some, Result, Ok, Err}
 use Rattle.sig_types.specs.Turns.{Picture}
 use Rattle.judge_notes.specs.declared.stop.JudgeStop.{JudgeStop}
 use Rattle.judge_notes.specs.declared.stop.JudgeStop.TheVariants.{Words, Memory, Site, ReadFault, RefusedLine, WriteFault}
-use Rattle.judge_notes.specs.declared.stop.LineWhy.{LineWhy}
-use Rattle.judge_notes.specs.declared.stop.LineWhy.TheVariants as why
-use Rattle.log_parts.specs.Answers.{IsFirst}
-use Rattle.log_parts.specs.Log.{IsPart}
+use Rattle.log_read.specs.declared.refusal.LogWhy.{LogWhy}
+use Rattle.log_read.specs.Answers.{IsFirst}
+use Rattle.log_read.specs.Readings.{IsPictures}
+use Rattle.log_read.specs.declared.begin.Begin.TheVariants.{Anywhere}
 use Rattle.log_protocol.specs.Page.{IsPageOf}
 use Rattle.protocol_view.specs.declared.gathering.Gathered.{Gathered}
 
 -- the page of all pictures of a log with these bytes, of groups with these names, and the second of the first one
 pub record IsGathered (names : List (List ℕ)) (bytes : List ℕ) (gathered : Gathered) : Type 0 where
   pub pictures : List Picture
-  pub log : IsPart names bytes pictures None
+  pub log : IsPictures Anywhere names bytes pictures None
   pub page : IsPageOf gathered.page pictures
-  pub first : IsFirst bytes pictures gathered.first
+  pub first : IsFirst Anywhere bytes pictures gathered.first
 
 -- the first line that is refused, of a log of which the pictures are read, is this one for this reason
-abbrev pub IsRefusedAt : List (List ℕ) → List ℕ → ℕ → LineWhy → Type 0
-IsRefusedAt names bytes line (why.Picture reason) = (pictures : List Picture) × IsPart names bytes pictures (Some (line, reason))
-IsRefusedAt names bytes line (why.Record reason) = ⊥
+abbrev pub IsRefusedAt : List (List ℕ) → List ℕ → ℕ → LogWhy → Type 0
+IsRefusedAt names bytes line reason = (pictures : List Picture) × IsPictures Anywhere names bytes pictures (Some (line, reason))
 
 -- why a log with this word and these bytes is not read to its end
 abbrev pub IsUnread : List (List ℕ) → List ℕ → List ℕ → JudgeStop → Type 0

@@ -4,13 +4,13 @@ ghost use Rattle.std.specs.Option.{ForSome};
 ghost use Rattle.sig_io.specs.Outside.{Rose};
 ghost use Rattle.sig_types.specs.Turns.{Picture};
 ghost use Rattle.pua_model.specs.Plan.{groups_in};
-ghost use Rattle.log_parts.specs.Answers.{Refuses};
+ghost use Rattle.log_read.specs.Answers.{Refuses};
 ghost use Rattle.log_protocol.specs.Page.{groups_of};
 ghost use Rattle.protocol_view.specs.Gathered.{IsGathering, IsLogFault, IsOfLog, IsUnread};
 
-use judge_notes::{JudgeStop, LineWhy};
-use log_parts::{LogPart, LogRefusal};
+use judge_notes::JudgeStop;
 use log_protocol::Page;
+use log_read::{Begin, LogPictures, LogRefusal};
 use pua_model::Plan;
 use sig_io::Files;
 use std::alloc::Global;
@@ -26,18 +26,14 @@ pub struct Gathered {
 
 // Why a log is read no further.
 fn stop_of<'a>(refusal: LogRefusal, word: &'a str) -> JudgeStop<'a>
-    ensures unread { (names : List (List ℕ)) (bytes : List ℕ) (pictures : List Picture) → Refuses names bytes pictures refusal →
+    ensures unread { (names : List (List ℕ)) (bytes : List ℕ) (pictures : List Picture) → Refuses Begin.Anywhere names bytes pictures refusal →
         IsUnread names word.now bytes result }
     ensures of_log { IsOfLog result }
     ensures fault { IsLogFault {A = Unit {0}} (Err result) → refusal ≡ LogRefusal.Fault }
 {
     match refusal {
         LogRefusal::Fault => JudgeStop::ReadFault(word),
-        LogRefusal::At { line, why } => JudgeStop::RefusedLine {
-            word,
-            line,
-            why: LineWhy::Picture(why),
-        },
+        LogRefusal::At { line, why } => JudgeStop::RefusedLine { word, line, why },
     }
 }
 
@@ -56,7 +52,7 @@ pub fn gather<'a, F: Files>(
     ensures later { F.faults files.old ≤ F.faults files.new }
     ensures cause { IsLogFault result → Rose (F.faults files.old) (F.faults files.new) }
 {
-    let mut part = match LogPart::make(alloc, log) {
+    let mut part = match LogPictures::make(alloc, log, Begin::Anywhere) {
         Ok(part) => part,
         Err(_memory) => return Err(JudgeStop::Memory),
     };

@@ -1,92 +1,125 @@
--- The readers agree on whole logs.
-use Rattle.std.proofs.Common.{◌≡◌, ◌∙◌, ℕ, zero, suc, ◌+◌, ◌<◌, ◌≤◌, List, [], ◌∷◌, length, None, Some, inl, inr, refl, sym, ap, subst, arith, get_or}
-use Rattle.std.proofs.lemmas.Bool.{cases_lt}
+-- The readings agree on whole logs.
+use Rattle.std.proofs.Common.{◌≡◌, ◌∙◌, ℕ, zero, suc, ◌+◌, ◌-◌, ◌<◌, ◌≤◌, Bool, true, false, not, List, [], ◌∷◌, length, None, Option, Some, is_none, inl, inr, refl, sym, ap, subst, arith, get_or, nat_le}
+use Rattle.std.specs.Prelude.{if◌then◌else◌, ◌&&◌}
+use Rattle.std.specs.Option.{option_and_then}
+use Rattle.std.proofs.lemmas.Bool.{cases_lt, le-leb, lt-leb}
 use Rattle.std.proofs.lemmas.List.{get_or-map, length-map}
+use Rattle.sig_types.specs.FirstRefused.{when}
 use Rattle.sig_types.specs.declared.record.Record.{Record}
+use Rattle.sig_types.specs.Text.{cut_at, number_of, within}
 use Rattle.sig_types.specs.Turns.{Picture}
-use Rattle.log_lines.specs.Form.{picture_in}
-use Rattle.log_lines.specs.Log.{LinesTell as LinesTellPictures, line_at, line_reason}
-use Rattle.log_lines.proofs.LogLemmas.{ended, header_right, record_right}
-use Rattle.log_records.specs.Log.{HasRecords, LinesTell, line_reason as record_line_reason}
-use Rattle.log_records.specs.Records.{IsEntry}
-use Rattle.log_records.specs.Watchers.{told_lines}
-use Rattle.log_records.proofs.LogLemmas.{too_long, too_many}
-use Rattle.log_records.proofs.WatcherLemmas.{unwatched_told}
+use Rattle.log_read.specs.declared.begin.Begin.{Begin}
+use Rattle.log_read.specs.declared.begin.Begin.TheVariants.{AtOne, Anywhere}
+use Rattle.log_read.specs.declared.refusal.LogWhy.{LogWhy}
+use Rattle.log_read.specs.declared.refusal.LogWhy.TheVariants as why
+use Rattle.log_read.specs.Form.{is_header, picture_in}
+use Rattle.log_read.specs.Log.{HasEntries, LinesTell, Tells, begins, form_reason, line_at, line_reason}
+use Rattle.log_read.specs.Readings.{Heads, pictures_by, records_by}
+use Rattle.log_read.specs.Records.{IsEntry}
+use Rattle.log_read.specs.Seconds.{first_told, or_one}
+use Rattle.log_read.specs.Watchers.{told_lines}
+use Rattle.log_read.proofs.LogLaws.{some_lines}
+use Rattle.log_read.proofs.LogLemmas.{by_form, ended, too_long, too_many}
+use Rattle.log_read.proofs.WatcherLemmas.{unwatched_told}
 use Rattle.record_laws.specs.Laws.{FirstPicturesAgree, PicturesAgree, UnwatchedPicturesAgree, pictures_of}
 use Rattle.record_laws.proofs.Headers.{header_same}
 use Rattle.record_laws.proofs.Lines.{picture_same}
-
--- ---- a line that is no record too many, and not too long
-
-few_lines : (names : List (List ℕ)) (k : ℕ) (line : List ℕ) → record_line_reason names k line ≡ None → k < 604802
-few_lines names k line e = elim (cases_lt k 604802) [
-  | inl few ↦ few
-  | inr many ↦ let why = too_many names k line many in absurd cc
-]
-
-short_line : (names : List (List ℕ)) (k : ℕ) (line : List ℕ) → record_line_reason names k line ≡ None → length line ≤ 262144
-short_line names k line e = elim (cases_lt 262144 (length line)) [
-  | inl long ↦ let why = too_long names k line (few_lines names k line e) long in absurd cc
-  | inr short ↦ short
-]
-
--- ---- line by line
 
 -- a record, where there is one
 some_record : (rs : List Record) (k : ℕ) → k < length rs → Record
 some_record [] k lt = absurd (omega (arith, lt))
 some_record (r ∷ rs) k lt = r
 
-module _ (names lines : List (List ℕ)) (n : ℕ) (records : List Record) (read : HasRecords names lines n records) where
-  picture_at : (k j : ℕ) → k + 1 ≡ j → k < length records → (d : Record) →
-      picture_in (length names) j (line_at lines j) ≡ Some (get_or records k d).picture
-  picture_at k j next lt d =
-      let inside : j < n = omega (arith, next, lt, read.count) in
-      let few = few_lines names j (line_at lines j) (read.accepted j inside) in
-      picture_same names j (line_at lines j) (get_or records k d) (omega (arith, few))
-      (subst (λ (i : ℕ). IsEntry names i (line_at lines i) (get_or records k d)) next (read.records_are k d lt))
+-- a header by its groups
+header_of : (given : Bool) (names : List (List ℕ)) (line : List ℕ) → Heads given names line → is_header names line ≡ true
+header_of true names line is = is
+header_of false names line is = header_same names line is
 
-  accepted_at : (k : ℕ) → k < n → line_reason names k (line_at lines k) ≡ None
+module _ (given : Bool) (first : ℕ) (names lines : List (List ℕ)) (n : ℕ) (records : List Record) (small : first ≤ 999999999)
+    (read : HasEntries (records_by given names) first lines n records) where
+  few_lines : (k : ℕ) (line : List ℕ) → line_reason (records_by given names) first k line ≡ None → k < 604802
+  few_lines k line e = elim (cases_lt k 604802) [
+    | inl few ↦ few
+    | inr many ↦ let why = too_many (records_by given names) first k line many in absurd cc
+  ]
+
+  short_line : (k : ℕ) (line : List ℕ) → line_reason (records_by given names) first k line ≡ None → length line ≤ 262144
+  short_line k line e = elim (cases_lt 262144 (length line)) [
+    | inl long ↦ let why = too_long (records_by given names) first k line (few_lines k line e) long in absurd cc
+    | inr short ↦ short
+  ]
+
+  picture_at : (k : ℕ) → k < length records → (d : Record) → picture_in (length names) (first + k) (line_at lines (k + 1)) ≡ Some (get_or records k d).picture
+  picture_at k lt d =
+      let few = few_lines (k + 1) (line_at lines (k + 1)) (read.accepted (k + 1) (omega (arith, lt, read.count))) in
+      picture_same names (first + k) (line_at lines (k + 1)) (get_or records k d) (omega (arith, few, small)) (read.entries_are k d lt)
+
+  -- a line that no limit refuses is judged by its form
+  formed : (k : ℕ) → k < n → form_reason (pictures_by names) first k (line_at lines k) ≡ None →
+      line_reason (pictures_by names) first k (line_at lines k) ≡ None
+  formed k lt right =
+      let here = read.accepted k lt in
+      by_form (pictures_by names) first k (line_at lines k) (few_lines k (line_at lines k) here) (short_line k (line_at lines k) here) ∙ right
+
+  accepted_at : (k : ℕ) → k < n → line_reason (pictures_by names) first k (line_at lines k) ≡ None
   accepted_at zero lt =
-      header_right names (line_at lines 0) (short_line names 0 (line_at lines 0) (read.accepted 0 lt))
-      (header_same names (line_at lines 0) (read.names_are (omega (arith, lt))))
+      formed zero lt (ap (λ b. when (not b) why.Header) (header_of given names (line_at lines 0) (read.headed (omega (arith, lt)))))
   accepted_at (suc k) lt =
-      let line = line_at lines (suc k) in
-      let here = read.accepted (suc k) lt in
       let inside : k < length records = omega (arith, lt, read.count) in
-      let d = some_record records k inside in
-      record_right names (suc k) line (get_or records k d).picture (omega arith) (few_lines names (suc k) line here)
-      (short_line names (suc k) line here) (picture_at k (suc k) (omega arith) inside d)
+      let next : k + 1 ≡ suc k = omega arith in
+      formed (suc k) lt (ap (λ (o : Option Picture). when (is_none o) why.Line)
+      (rw next at (picture_at k inside (some_record records k inside))))
 
-  shown_at : (k : ℕ) → k < length (pictures_of records) →
-      picture_in (length names) (k + 1) (line_at lines (k + 1)) ≡ Some (get_or (pictures_of records) k [])
-  shown_at k lt =
+  shown_at : (k : ℕ) (d : Picture) → k < length (pictures_of records) →
+      picture_in (length names) (first + k) (line_at lines (k + 1)) ≡ Some (get_or (pictures_of records) k d)
+  shown_at k d lt =
       let inside : k < length records = omega (arith, lt, length-map records (λ (r : Record). r.picture)) in
-      let d = some_record records k inside in
-      picture_at k (k + 1) refl inside d ∙ ap (λ (p : Picture). Some p) (sym (get_or-map (λ (r : Record). r.picture) records k d [] inside))
+      let r = some_record records k inside in
+      picture_at k inside r ∙ ap (λ (p : Picture). Some p) (sym (get_or-map (λ (r : Record). r.picture) records k r d inside))
 
 pub first_agree : FirstPicturesAgree
-first_agree names lines n records read = record {
+first_agree given first names lines n records small read = record {
   inside = read.inside;
-  accepted = accepted_at names lines n records read;
+  headed = λ some. header_of given names (line_at lines 0) (read.headed some);
+  accepted = accepted_at given first names lines n records small read;
   count = length-map records (λ (r : Record). r.picture) ∙ read.count;
-  pictures_are = shown_at names lines n records read;
+  entries_are = shown_at given first names lines n records small read;
 }
 
 -- ---- to the end
 
--- a log without a line has no header
-some_line : (names lines : List (List ℕ)) (records : List Record) → LinesTell names lines records None → 1 ≤ length lines
-some_line names [] records told = absurd cc
-some_line names (line ∷ more) records told = omega arith
+-- a first second is of nine digits
+range_by : (n : ℕ) → or_one (within 1 999999999 (Some n)) ≤ 999999999
+range_by n = elim (cases_lt n 1) [
+  | inl low ↦ rw (lt-leb 1 n low) (omega arith)
+  | inr from ↦ elim (cases_lt 999999999 n) [
+    | inl high ↦ rw (le-leb 1 n from, lt-leb n 999999999 high) (omega arith)
+    | inr to ↦ rw (le-leb 1 n from, le-leb n 999999999 to) to
+  ]
+]
+
+number_small : (o : Option ℕ) → or_one (within 1 999999999 o) ≤ 999999999
+number_small None = omega arith
+number_small (Some n) = range_by n
+
+told_small : (o : Option (List ℕ × List ℕ)) → or_one (option_and_then (λ p. within 1 999999999 (number_of p.0)) o) ≤ 999999999
+told_small None = omega arith
+told_small (Some p) = number_small (number_of p.0)
+
+begins_small : (begin : Begin) (lines : List (List ℕ)) → begins begin lines ≤ 999999999
+unfolding first_told
+begins_small AtOne lines = omega arith
+begins_small Anywhere lines = told_small (cut_at 124 (line_at lines 1))
 
 pub agree : PicturesAgree
-agree names bytes records told =
+agree given begin names bytes records told =
     let lines = told_lines bytes in
-    ended names lines (length lines) (pictures_of records) (first_agree names lines (length lines) records told.0) (omega arith)
-    (some_line names lines records told)
+    let first = begins begin lines in
+    ended (pictures_by names) first lines (length lines) (pictures_of records)
+    (first_agree given first names lines (length lines) records (begins_small begin lines) told.0) (omega arith)
+    (some_lines (records_by given names) first lines told.1)
 
 pub unwatched_agree : UnwatchedPicturesAgree
-unwatched_agree names bytes records each told =
-    subst (λ (lines : List (List ℕ)). LinesTellPictures names lines (pictures_of records) None) (unwatched_told bytes each)
-    (agree names bytes records told)
+unwatched_agree given begin names bytes records each told =
+    subst (λ (lines : List (List ℕ)). Tells (pictures_by names) begin lines (pictures_of records) None) (unwatched_told bytes each)
+    (agree given begin names bytes records told)

@@ -7,9 +7,9 @@ use Rattle.std.proofs.lemmas.List.Splits.{join_with_byte-slice_split, length-sli
 use Rattle.sig_types.specs.LogForm.{header_line, spaced}
 use Rattle.sig_types.specs.Text.{is_name, strip}
 use Rattle.sig_types.proofs.Fronts.{strip_found}
-use Rattle.log_lines.specs.Form.{is_header}
-use Rattle.log_records.specs.Fields.{listed_names, names_in, stands_in, with_name}
-use Rattle.log_records.proofs.Cuts.{and_then_is, some_is}
+use Rattle.log_read.specs.Form.{is_header}
+use Rattle.log_read.specs.Fields.{listed_names, names_in, stands_in, with_name}
+use Rattle.log_read.proofs.Cuts.{and_then_is, some_is}
 
 same_bytes : (xs : List ℕ) → bytes_eq xs xs ≡ true
 same_bytes [] = refl

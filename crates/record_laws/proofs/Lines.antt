@@ -7,20 +7,10 @@ use Rattle.sig_types.specs.declared.record.Record.{Record}
 use Rattle.sig_types.specs.Text.{cut_at, number_of, strip, within}
 use Rattle.sig_types.proofs.Fronts.{strip_again}
 use Rattle.code_file.proofs.Numerals.{number_found}
-use Rattle.log_lines.specs.Form.{after_bar, aspect_of, before_bar, picture_in, picture_of, shown_first, spelled}
-use Rattle.log_lines.proofs.RecordForms.{cut_is}
-use Rattle.log_records.specs.Fields.{picture_in as picture_by, spelled as spelled_by}
-use Rattle.log_records.specs.Records.{IsEntry}
-use Rattle.log_records.proofs.Cuts.{is_cut}
-
--- ---- letters are aspects in the same way
-
-same_spelled : (letters : List ℕ) → spelled letters ≡ spelled_by letters
-same_spelled [] = refl
-same_spelled (b ∷ bs) = ap (λ o. shown_first (option_zip (aspect_of b) o)) (same_spelled bs)
-
-same_picture : (groups : ℕ) (letters : List ℕ) → picture_of groups letters ≡ picture_by groups letters
-same_picture groups letters = ap (λ o. if length letters == groups then o else None) (same_spelled letters)
+use Rattle.log_read.specs.Form.{after_bar, before_bar, picture_in, picture_of}
+use Rattle.log_read.proofs.RecordForms.{cut_is}
+use Rattle.log_read.specs.Records.{IsEntry}
+use Rattle.log_read.proofs.Cuts.{is_cut}
 
 -- ---- the number
 
@@ -54,4 +44,4 @@ picture_same names k line r small entry =
     (behind_number k line entry.fields.second cut.places cut.first entry.due small)
     ∙ ap (λ o. option_and_then (picture_of groups) (option_and_then before_bar (option_map (λ p. p.1) o))) cut.second
     ∙ ap (λ o. option_and_then (picture_of groups) (option_map (λ p. p.0) o)) cut.third
-    ∙ same_picture groups entry.fields.aspects ∙ entry.picture
+    ∙ entry.picture

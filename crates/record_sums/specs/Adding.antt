@@ -27,6 +27,7 @@ pub record AddsUp (groups from : ℕ) (records : List Record) (x : LogSums) : Ty
   pub seconds_are : x.seconds ≡ length records
   pub groups_are : (g : ℕ) (d : GroupSums) → g < groups → (a : ℕ → Aspect) → AgreesTo a (told (shown_by g) Red records) (length records) →
       AreGroupSums a from (length records) (slice_index_or x.groups g d)
+  pub size : length x.detectors ≡ 64
   pub detectors_are : (p : ℕ) (d : DetectorSums) → p < 64 → (f r : ℕ → ℕ) → AgreesTo f (told (fronts_by p) 0 records) (length records) →
       AgreesTo r (told (rears_by p) 0 records) (length records) → AreDetectorSums f r from (length records) (slice_index_or x.detectors p d)
   pub places_are : AddTallies place_code places_by from records x.places.items

@@ -19,6 +19,7 @@ pub record AreSums (groups from : ℕ) (records : List Record) (x : LogSums) : T
   pub seconds_are : x.seconds ≡ length records
   pub groups_are : (g : ℕ) (d : GroupSums) → g < groups →
       AreGroupSums (told (shown_by g) Red records) from (length records) (slice_index_or x.groups g d)
+  pub size : length x.detectors ≡ 64
   pub detectors_are : (p : ℕ) (d : DetectorSums) → p < 64 →
       AreDetectorSums (told (fronts_by p) 0 records) (told (rears_by p) 0 records) from (length records) (slice_index_or x.detectors p d)
   pub places_are : AreTallies place_code (told places_by [] records) from (length records) x.places.items

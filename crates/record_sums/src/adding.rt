@@ -40,7 +40,8 @@ fn show_groups(groups: &mut [GroupSums; 64], from: u32, second: u32, picture: &P
 
 // Takes what the detectors count in a second.
 fn show_detectors(detectors: &mut [DetectorSums; 64], from: u32, second: u32, frame: &Frame)
-    ensures { (f r : ℕ → ℕ) (n p : ℕ) (d : DetectorSums) → second ≡ n + 1 → second < 2 ^ 31 → p < 64 →
+    ensures size { length detectors.new ≡ 64 }
+    ensures each { (f r : ℕ → ℕ) (n p : ℕ) (d : DetectorSums) → second ≡ n + 1 → second < 2 ^ 31 → p < 64 →
         f second ≡ count_in fronts (p + 1) frame.now → r second ≡ count_in rears (p + 1) frame.now →
         AreDetectorSums f r from n (slice_index_or detectors.old p d) → AreDetectorSums f r from second (slice_index_or detectors.new p d) }
 {

@@ -1,5 +1,5 @@
 // What the records of a log add up to.
-ghost use Rattle.std.specs.Prelude.{◌≡◌, ◌<◌, ◌≤◌, ℕ, [], List, IfOk, slice_index_or};
+ghost use Rattle.std.specs.Prelude.{◌≡◌, ◌<◌, ◌≤◌, ℕ, [], List, IfOk, length, slice_index_or};
 ghost use Rattle.sig_types.specs.declared.aspect.Aspect.{Aspect};
 ghost use Rattle.log_sums.specs.declared.detector.DetectorSums.{DetectorSums};
 ghost use Rattle.log_sums.specs.declared.group.GroupSums.{GroupSums};
@@ -52,7 +52,8 @@ fn no_groups() -> [GroupSums; 64]
 
 // The sums of 64 detectors over no second.
 fn no_detectors() -> [DetectorSums; 64]
-    ensures { (p : ℕ) (d : DetectorSums) (f r : ℕ → ℕ) (from : ℕ) → p < 64 → AreDetectorSums f r from 0 (slice_index_or result p d) }
+    ensures size { length result ≡ 64 }
+    ensures each { (p : ℕ) (d : DetectorSums) (f r : ℕ → ℕ) (from : ℕ) → p < 64 → AreDetectorSums f r from 0 (slice_index_or result p d) }
 {
     [DetectorSums::none(); 64]
 }

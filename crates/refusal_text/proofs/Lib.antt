@@ -7,3 +7,4 @@ pub mod Found
 pub mod SumLines
 pub mod Texts
 pub mod Run
+pub mod AnyPast

@@ -1,5 +1,5 @@
 -- What a call answers.
-use Rattle.std.specs.Prelude.{◌≡◌, ℕ, List, Option, None, Some, Result, Ok, Err}
+use Rattle.std.specs.Prelude.{true, ◌≡◌, ℕ, List, Option, None, Some, Result, Ok, Err}
 use Rattle.std.specs.Option.{ForSome}
 use Rattle.std.specs.Io.KnownBytes.{append_known}
 use Rattle.sig_io.specs.Draft.{IsCut}
@@ -15,7 +15,8 @@ use Rattle.judge_notes.specs.declared.stop.JudgeStop.{JudgeStop}
 use Rattle.judge_notes.specs.declared.stop.JudgeStop.TheVariants as stop
 use Rattle.judge_notes.specs.Notes.{stop_note}
 use Rattle.judge_notes.specs.Statuses.{status_of}
-use Rattle.record_parts.specs.Log.{IsPart}
+use Rattle.log_read.specs.Readings.{IsRecords}
+use Rattle.log_read.specs.declared.begin.Begin.TheVariants.{Anywhere}
 use Rattle.refusal_text.specs.Text.{refusals_text}
 use Rattle.refusal_view.specs.Form.{Asked, form_of}
 use Rattle.refusal_view.specs.Found.{IsUnread}
@@ -26,7 +27,7 @@ pub record IsTextOf (asked : Asked) (file : Contents) (text : List ℕ) : Type 0
   pub site : Site
   pub loaded : site_of asked.site file ≡ Ok site
   pub records : List Record
-  pub log : IsPart site.plan.names (file asked.log) records None
+  pub log : IsRecords true Anywhere site.plan.names (file asked.log) records None
   pub text_is : text ≡ refusals_text asked.csv site.plan.names site.rules asked.from asked.to records
 
 -- why the log is not read to its end, of which the site is loaded

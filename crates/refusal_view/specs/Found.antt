@@ -1,25 +1,24 @@
 -- What the reading of a log gives.
-use Rattle.std.specs.Prelude.{◌≡◌, ℕ, List, None, Some, Result, Ok, Err}
+use Rattle.std.specs.Prelude.{true, ◌≡◌, ℕ, List, None, Some, Result, Ok, Err}
 use Rattle.sig_types.specs.declared.record.Record.{Record}
 use Rattle.sig_types.specs.Rules.{Rules}
 use Rattle.judge_notes.specs.declared.stop.JudgeStop.{JudgeStop}
 use Rattle.judge_notes.specs.declared.stop.JudgeStop.TheVariants.{Words, Memory, Site, ReadFault, RefusedLine, WriteFault}
-use Rattle.judge_notes.specs.declared.stop.LineWhy.{LineWhy}
-use Rattle.judge_notes.specs.declared.stop.LineWhy.TheVariants as why
-use Rattle.record_parts.specs.Log.{IsPart}
+use Rattle.log_read.specs.declared.refusal.LogWhy.{LogWhy}
+use Rattle.log_read.specs.Readings.{IsRecords}
+use Rattle.log_read.specs.declared.begin.Begin.TheVariants.{Anywhere}
 use Rattle.refusal_text.specs.declared.finder.Refusals.{Refusals}
 use Rattle.refusal_text.specs.Kept.{HasFound}
 
 -- what is kept of all records of a log with these bytes, of groups with these names
 pub record AreFound (names : List (List ℕ)) (r : Rules) (bytes : List ℕ) (from to : ℕ) (refusals : Refusals) : Type 0 where
   pub records : List Record
-  pub log : IsPart names bytes records None
+  pub log : IsRecords true Anywhere names bytes records None
   pub found : HasFound refusals r from to records
 
 -- the first line that is refused, of a log of which the records are read, is this one for this reason
-abbrev pub IsRefusedAt : List (List ℕ) → List ℕ → ℕ → LineWhy → Type 0
-IsRefusedAt names bytes line (why.Picture reason) = ⊥
-IsRefusedAt names bytes line (why.Record reason) = (records : List Record) × IsPart names bytes records (Some (line, reason))
+abbrev pub IsRefusedAt : List (List ℕ) → List ℕ → ℕ → LogWhy → Type 0
+IsRefusedAt names bytes line reason = (records : List Record) × IsRecords true Anywhere names bytes records (Some (line, reason))
 
 -- why a log with this word and these bytes is not read to its end
 abbrev pub IsUnread : List (List ℕ) → List ℕ → List ℕ → JudgeStop → Type 0

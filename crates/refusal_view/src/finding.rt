@@ -1,23 +1,23 @@
 // The refusals of a log.
-ghost use Rattle.std.specs.Prelude.{◌≡◌, ◌≤◌, Err, IfErr, List, ℕ, length};
+ghost use Rattle.std.specs.Prelude.{true, ◌≡◌, ◌≤◌, Err, IfErr, List, ℕ, length};
 ghost use Rattle.std.specs.Option.{ForSome};
 ghost use Rattle.sig_io.specs.Outside.{Rose};
 ghost use Rattle.sig_types.specs.declared.record.Record.{Record};
 ghost use Rattle.pua_model.specs.Plan.{groups_in};
 ghost use Rattle.sig_tables.specs.SiteRules.{rules_of};
-ghost use Rattle.record_parts.specs.Answers.{Stops};
+ghost use Rattle.log_read.specs.RecordAnswers.{Stops};
 ghost use Rattle.refusal_view.specs.Found.{IsFinding, IsLogFault, IsOfLog, IsUnread};
 
-use judge_notes::{JudgeStop, LineWhy};
+use judge_notes::JudgeStop;
+use log_read::{Begin, LogRecords, LogStop};
 use log_site::SiteTables;
-use record_parts::{LogStop, RecordPart};
 use refusal_text::Refusals;
 use sig_io::Files;
 use std::alloc::Global;
 
 // Why a log is read no further.
 fn stop_of<'a>(stop: LogStop, word: &'a str) -> JudgeStop<'a>
-    ensures unread { (names : List (List ℕ)) (bytes : List ℕ) (records : List Record) → Stops names bytes records stop →
+    ensures unread { (names : List (List ℕ)) (bytes : List ℕ) (records : List Record) → Stops true Begin.Anywhere names bytes records stop →
         IsUnread names word.now bytes result }
     ensures of_log { IsOfLog result }
     ensures fault { IsLogFault {A = Unit {0}} (Err result) → stop ≡ LogStop.Fault }
@@ -25,11 +25,7 @@ fn stop_of<'a>(stop: LogStop, word: &'a str) -> JudgeStop<'a>
     match stop {
         LogStop::Memory => JudgeStop::Memory,
         LogStop::Fault => JudgeStop::ReadFault(word),
-        LogStop::At { line, why } => JudgeStop::RefusedLine {
-            word,
-            line,
-            why: LineWhy::Record(why),
-        },
+        LogStop::At { line, why } => JudgeStop::RefusedLine { word, line, why },
     }
 }
 
@@ -52,7 +48,7 @@ pub fn find_refusals<'a, F: Files>(
     ensures later { F.faults files.old ≤ F.faults files.new }
     ensures cause { IsLogFault result → Rose (F.faults files.old) (F.faults files.new) }
 {
-    let mut part = match RecordPart::open(alloc, files, &tables.plan, log) {
+    let mut part = match LogRecords::open_by(alloc, files, &tables.plan, log, Begin::Anywhere) {
         Ok(part) => part,
         Err(stop) => return Err(stop_of(stop, log)),
     };

@@ -7,3 +7,5 @@ pub mod Pairs
 pub mod SiteRules
 pub mod IntergreenTable
 pub mod Held
+pub mod Limits
+pub mod Amounts

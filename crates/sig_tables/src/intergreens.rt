@@ -11,7 +11,7 @@ use std::marker::Model;
 #[derive(Drop)]
 pub struct Intergreens {
     groups: u8,
-    cells: Vec<Option<u8>>,
+    cells: Vec<Option<u16>>,
 }
 
 impl Model for Intergreens {
@@ -34,9 +34,21 @@ pub(crate) fn place_of(from: GroupNo, to: GroupNo) -> usize
     64 * from.0 as usize + to.0 as usize
 }
 
+// The seconds of a cell.
+fn narrow(cell: Option<u16>) -> Option<u8>
+    requires { IfSome cell (λ z. z ≤ 99) }
+    ensures seconds { result ≡ cell }
+    ensures at_most { IfSome result (λ z. z ≤ 99) }
+{
+    match cell {
+        Some(seconds) => Some(seconds as u8),
+        None => None,
+    }
+}
+
 impl Intergreens {
     // The intergreens of these cells.
-    pub(crate) fn of(groups: u8, cells: Vec<Option<u8>>) -> Intergreens
+    pub(crate) fn of(groups: u8, cells: Vec<Option<u16>>) -> Intergreens
         requires { ArePairs (record { count = groups; cells = cells.items }) }
         ensures { result ≡ record { count = groups; cells = cells.items } }
     {
@@ -51,6 +63,14 @@ impl Intergreens {
         self.groups
     }
 
+    // The cells.
+    pub(crate) fn cells(&self) -> &[Option<u16>]
+        ensures cells { result.now ≡ self.now.cells }
+        ensures pairs { ArePairs self.now }
+    {
+        &self.cells
+    }
+
     /// The intergreen from an end of the one group to a green of the other, 0 to 99 seconds; None exactly where the table
     /// doesn't list the pair, so that the two don't conflict.
     #[tactic(auto, unfolding(crate::specs::Pairs::cell_of))]
@@ -60,6 +80,6 @@ impl Intergreens {
         ensures seconds { result ≡ between self.now from.0 to.0 }
         ensures at_most { IfSome result (λ z. z ≤ 99) }
     {
-        self.cells[place_of(from, to)]
+        narrow(self.cells[place_of(from, to)])
     }
 }

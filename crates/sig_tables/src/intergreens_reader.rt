@@ -25,18 +25,18 @@ use std::alloc::{AllocError, Global};
 struct Entry {
     from: GroupNo,
     to: GroupNo,
-    seconds: u8,
+    seconds: u16,
 }
 
 // The seconds of a record, where they are a number in its range.
 #[tactic(auto, unfolding(crate::specs::IntergreenTable::seconds_in))]
-fn seconds_in(row: &ByteRecord) -> Option<u8>
+fn seconds_in(row: &ByteRecord) -> Option<u16>
     requires { length (fields_of row.now) ≡ 3 }
     ensures seconds { result ≡ seconds_in (fields_of row.now) }
     ensures at_most { IfSome result (λ z. z ≤ 99) }
 {
     let seconds = number(field(row, 2), 0, 99)?;
-    Some(seconds as u8)
+    Some(seconds as u16)
 }
 
 // The groups of a record and its seconds.
@@ -66,7 +66,7 @@ fn entry_of(row: &ByteRecord, plan: &Plan) -> Result<Entry, TableWhy>
 }
 
 // The entry of a record that is accepted after those whose seconds stand in the cells.
-fn judge_entry(cells: &[Option<u8>], row: &ByteRecord, plan: &Plan) -> Result<Entry, TableWhy>
+fn judge_entry(cells: &[Option<u16>], row: &ByteRecord, plan: &Plan) -> Result<Entry, TableWhy>
     requires size { length cells.now ≡ 4096 }
     requires at_most { groups_in plan.now ≤ 64 }
     ensures refused { IfErr result (λ why. (rows : List Row) (pairs : List (GroupNo × GroupNo)) →
@@ -94,18 +94,18 @@ fn judge_entry(cells: &[Option<u8>], row: &ByteRecord, plan: &Plan) -> Result<En
 // The cells of the pairs read so far, and these pairs in the order of their records.
 #[derive(Drop)]
 struct Listed {
-    cells: Vec<Option<u8>>,
+    cells: Vec<Option<u16>>,
     pairs: Vec<(GroupNo, GroupNo)>,
 }
 
 // `places` cells, all empty.
-fn no_cells(alloc: Global, places: usize) -> Result<Vec<Option<u8>>, TableRefusal>
+fn no_cells(alloc: Global, places: usize) -> Result<Vec<Option<u16>>, TableRefusal>
     ensures size { IfOk result (λ v. length v.items ≡ places) }
     ensures empty { IfOk result (λ v. (k : ℕ) → slice_index_or v.items k None ≡ None) }
     ensures empties { IfOk result (λ v. empties v.items ≡ places) }
     ensures memory { IfErr result (λ e. e ≡ TableRefusal.Memory) }
 {
-    let cells: Result<Vec<Option<u8>>, AllocError> = vec![in alloc; None; places];
+    let cells: Result<Vec<Option<u16>>, AllocError> = vec![in alloc; None; places];
     match cells {
         Ok(cells) => Ok(cells),
         Err(_) => Err(TableRefusal::Memory),

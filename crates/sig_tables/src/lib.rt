@@ -4,9 +4,11 @@
 //! says: it has as many groups as the plan, and group g of the one is group g of the other.
 #![tactic(auto)]
 
+mod amount;
 mod header;
 mod intergreens;
 mod intergreens_reader;
+mod limits;
 mod records;
 mod refusal;
 mod times;
@@ -14,6 +16,7 @@ mod times_reader;
 
 pub use intergreens::Intergreens;
 pub use intergreens_reader::read_intergreens;
+pub use limits::Limits;
 pub use refusal::{TableRefusal, TableWhy};
 pub use times::{Times, TimesRow};
 pub use times_reader::read_times;

@@ -5,7 +5,7 @@ use Rattle.std.specs.Io.KnownBytes.{append_known}
 use Rattle.sig_io.specs.Draft.{IsCut}
 use Rattle.sig_io.specs.Outside.{Contents, Rose}
 use Rattle.sig_io.specs.Seen.{Seen}
-use Rattle.log_records.specs.declared.refusal.LogWhy.TheVariants.{Header}
+use Rattle.log_read.specs.declared.refusal.LogWhy.TheVariants.{Header}
 use Rattle.log_site.specs.Loading.{Site, ReachedInSite, site_of}
 use Rattle.log_site.specs.Stop.{IsLoadStop}
 use Rattle.log_site.specs.Stop as loading
@@ -13,7 +13,6 @@ use Rattle.judge_notes.specs.declared.status.Status.{Status}
 use Rattle.judge_notes.specs.declared.status.Status.TheVariants.{Done}
 use Rattle.judge_notes.specs.declared.stop.JudgeStop.{JudgeStop}
 use Rattle.judge_notes.specs.declared.stop.JudgeStop.TheVariants as judge
-use Rattle.judge_notes.specs.declared.stop.LineWhy.TheVariants.{Record}
 use Rattle.log_svg.specs.declared.diagram.Diagram.{Diagram}
 use Rattle.log_svg.specs.Diagram.{diagram_text}
 use Rattle.log_svg.specs.ShownIn.{shown_in}
@@ -55,7 +54,7 @@ IsJudged asked file judge.Memory = ⊥
 IsJudged asked file (judge.Site why) = IsLoadStop (ReachedInSite asked.site file) why (site_of asked.site file)
 IsJudged asked file (judge.ReadFault word) = ⊥
 IsJudged asked file (judge.RefusedLine word line why) =
-    (word.now ≡ asked.log) × (line ≡ 1) × (why ≡ Record Header) × HasOtherGroups asked file
+    (word.now ≡ asked.log) × (line ≡ 1) × (why ≡ Header) × HasOtherGroups asked file
 IsJudged asked file judge.WriteFault = ⊥
 
 -- where a call stops: nothing is written, but where the sink fails while the text is written

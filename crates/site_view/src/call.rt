@@ -17,8 +17,8 @@ ghost use Rattle.site_view.specs.Parts.{look_by};
 use crate::form::{SiteForm, form_of};
 use crate::parts::{has_groups, minimums_of, take_names};
 use crate::stop::{DiagramStop, status_of, write_stop};
-use judge_notes::{JudgeStop, LineWhy, Status};
-use log_records::LogWhy;
+use judge_notes::{JudgeStop, Status};
+use log_read::LogWhy;
 use log_site::{SiteTables, take_site};
 use log_svg::{Diagram, Look};
 use log_view::{Stop, gather, write_diagram};
@@ -28,12 +28,12 @@ use std::alloc::Global;
 
 // The stop of a log of other groups than the plan's.
 fn other_groups<'a>(log: &'a str) -> DiagramStop<'a>
-    ensures { result ≡ DiagramStop.Judged (JudgeStop.RefusedLine log.entry 1 (LineWhy.Record LogWhy.Header)) }
+    ensures { result ≡ DiagramStop.Judged (JudgeStop.RefusedLine log.entry 1 LogWhy.Header) }
 {
     DiagramStop::Judged(JudgeStop::RefusedLine {
         word: log,
         line: 1,
-        why: LineWhy::Record(LogWhy::Header),
+        why: LogWhy::Header,
     })
 }
 

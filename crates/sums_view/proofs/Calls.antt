@@ -1,8 +1,8 @@
 -- What is written of what is asked for.
 use Rattle.std.proofs.Common.{◌≡◌, ◌⊎◌, inl, inr, ℕ, List, Option, Some, None, Result, Ok, Err, sym, subst}
-use Rattle.log_records.specs.Fields.{names_in}
-use Rattle.log_records.specs.Log.{line_at}
-use Rattle.log_records.specs.Watchers.{told_lines}
+use Rattle.log_read.specs.Fields.{names_in}
+use Rattle.log_read.specs.Log.{line_at}
+use Rattle.log_read.specs.Watchers.{told_lines}
 use Rattle.sig_io.specs.Outside.{Contents}
 use Rattle.log_view.specs.declared.stop.Stop.{Stop}
 use Rattle.log_view.specs.declared.stop.Stop.TheVariants.{Memory, Words, TooManySeconds, ReadFault, WriteFault, Line, LogEnds}

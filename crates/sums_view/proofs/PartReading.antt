@@ -6,14 +6,15 @@ use Rattle.std.specs.declared.alloc.Global.{Global}
 use Rattle.std.specs.Option.{ForSome}
 use Rattle.sig_io.specs.Outside.{Contents}
 use Rattle.sig_types.specs.declared.record.Record.{Record}
-use Rattle.log_records.specs.declared.records.LogRecords.{LogRecords}
-use Rattle.log_records.specs.declared.refusal.LogStop.{LogStop}
-use Rattle.log_records.specs.Answers.{AnswersNext, Reads, name_of, names_of, record_given, records_given}
-use Rattle.log_records.specs.Records.{IsEntry}
+use Rattle.log_read.specs.declared.records.LogRecords.{LogRecords}
+use Rattle.log_read.specs.declared.refusal.LogStop.{LogStop}
+use Rattle.log_read.specs.declared.begin.Begin.TheVariants.{AtOne}
+use Rattle.log_read.specs.RecordAnswers.{AnswersNext, Reads, begin_of as begins_so, name_of, names_given, names_of, record_given, records_given}
+use Rattle.log_read.specs.Records.{IsEntry}
+use Rattle.log_read.proofs.Ranges.{recorded}
 use Rattle.log_view.specs.declared.stop.Stop.{Stop}
 use Rattle.log_view.specs.declared.stop.Stop.TheVariants.{Memory}
 use Rattle.log_view.specs.Notes.{stop_of}
-use Rattle.log_view.proofs.Ranges.{picture_size}
 use Rattle.log_sums.specs.declared.group.GroupSums.{GroupSums}
 use Rattle.record_sums.specs.declared.serves.Serve.{Serve}
 use Rattle.record_sums.specs.declared.sums.LogSums.{LogSums}
@@ -55,7 +56,7 @@ pub parts_next : (files : Option Contents) (first old new : LogRecords) (from ea
 parts_next files first old new from each to serves before after few some named same kept given most next said take_it so_far =
     let entry = said.1 in
     let groups : length (record_given new).picture ≡ length (names_of first) =
-    picture_size (length (names_of new)) entry.fields.aspects (record_given new).picture entry.picture ∙ ap length (kept ∙ same) in
+    (recorded (names_of new) (records_given new) said.0 (record_given new) entry).picture ∙ ap length (kept ∙ same) in
     record {
       records = so_far.records ++ record_given new ∷ [];
       count = omega (arith, given, so_far.count, length-append so_far.records (record_given new ∷ []));
@@ -66,28 +67,28 @@ parts_next files first old new from each to serves before after few some named s
 
 -- the end of the log
 pub parts_whole : (files : Option Contents) (first old new : LogRecords) (from each to : ℕ) (serves : List Serve) (parts : PartSums) (given : Result (Vec LogSums Global) Stop) → 1 ≤ each →
-    name_of old ≡ name_of first → names_of old ≡ names_of first → ForSome files (λ file. AnswersNext (file (name_of old)) old new (Ok false)) →
+    name_of old ≡ name_of first → names_of old ≡ names_of first → begins_so old ≡ AtOne → names_given old ≡ false → ForSome files (λ file. AnswersNext (file (name_of old)) old new (Ok false)) →
     IfOk given (λ v. (groups from each to : ℕ) (serves : List Serve) (records : List Record) → 1 ≤ each →
     PartsUpTo groups from each to serves records parts → AreParts groups from each to serves records v.items) → IfErr given (λ stop. stop ≡ Memory) →
     PartsSoFar files first old from each to serves parts →
     ForSome files (λ file. Reads first (file (name_of first)) [] → IsParting (names_of first) (file (name_of first)) from each to serves given)
-parts_whole files first old new from each to serves parts (Ok v) some named same next all memory so_far file is begun =
+parts_whole files first old new from each to serves parts (Ok v) some named same one found next all memory so_far file is begun =
     let end = next file is so_far.records (rw (← named) at (so_far.reads file is begun)) in
     record {
       records = so_far.records;
-      log = rw (named, same) at end.0;
+      log = rw (named, same, one, found) at end.0;
       parts_are = all (length (names_of first)) from each to serves so_far.records some so_far.parts_are;
     }
-parts_whole files first old new from each to serves parts (Err stop) some named same next all memory so_far file is begun =
+parts_whole files first old new from each to serves parts (Err stop) some named same one found next all memory so_far file is begun =
     subst (IsUnsummed (file (name_of first))) (sym memory) tt
 
 -- a line that is refused, or a read that failed
-pub unread_parts : (files : Option Contents) (first old new : LogRecords) (from each to : ℕ) (serves : List Serve) (parts : PartSums) (stop : LogStop) → name_of old ≡ name_of first →
+pub unread_parts : (files : Option Contents) (first old new : LogRecords) (from each to : ℕ) (serves : List Serve) (parts : PartSums) (stop : LogStop) → name_of old ≡ name_of first → begins_so old ≡ AtOne → names_given old ≡ false →
     ForSome files (λ file. AnswersNext (file (name_of old)) old new (Err stop)) → PartsSoFar files first old from each to serves parts →
     ForSome files (λ file. Reads first (file (name_of first)) [] → IsUnsummed (file (name_of first)) (stop_of stop))
-unread_parts files first old new from each to serves parts stop named next so_far file is begun =
+unread_parts files first old new from each to serves parts stop named one found next so_far file is begun =
     unread (names_of old) (file (name_of first)) so_far.records stop
-    (rw named at (next file is so_far.records (rw (← named) at (so_far.reads file is begun))))
+    (rw (named, one, found) at (next file is so_far.records (rw (← named) at (so_far.reads file is begun))))
 
 -- the sums of a group are small
 small_of : (groups from to : ℕ) (records : List Record) (x : LogSums) → length records ≤ 604801 → AreSumsOf groups from to records x →

@@ -1,21 +1,23 @@
 -- The records of a log, while it is read.
-use Rattle.std.proofs.Common.{◌≡◌, ◌∙◌, ℕ, ◌+◌, ◌<◌, ◌≤◌, true, false, List, [], ◌∷◌, ◌++◌, get_or, length, take, Option, Some, Ok, Err, refl, sym, ap, arith, length-append}
+use Rattle.std.proofs.Common.{◌≡◌, ◌∙◌, ℕ, ◌+◌, ◌<◌, ◌≤◌, true, false, List, [], ◌∷◌, ◌++◌, get_or, length, take, Option, Some, Ok, Err, refl, sym, ap, arith, length-append, subst}
 use Rattle.std.proofs.lemmas.List.{length-take}
 use Rattle.std.specs.Prelude.{All, slice_index_or}
 use Rattle.std.specs.Option.{ForSome}
 use Rattle.sig_io.specs.Outside.{Contents}
 use Rattle.sig_types.specs.declared.aspect.Aspect.TheVariants.{Red}
 use Rattle.sig_types.specs.declared.record.Record.{Record}
-use Rattle.log_records.specs.declared.records.LogRecords.{LogRecords}
-use Rattle.log_records.specs.declared.refusal.LogStop.{LogStop}
-use Rattle.log_records.specs.declared.refusal.LogStop.TheVariants as log
-use Rattle.log_records.specs.Answers.{AnswersNext, Reads, Stops, name_of, names_of, record_given, records_given}
-use Rattle.log_records.specs.Fields.{names_in}
-use Rattle.log_records.specs.Log.{line_at}
-use Rattle.log_records.specs.Records.{IsEntry}
-use Rattle.log_records.specs.Watchers.{told_lines}
+use Rattle.log_read.specs.declared.records.LogRecords.{LogRecords}
+use Rattle.log_read.specs.declared.refusal.LogStop.{LogStop}
+use Rattle.log_read.specs.declared.refusal.LogStop.TheVariants as log
+use Rattle.log_read.specs.declared.begin.Begin.TheVariants.{AtOne}
+use Rattle.log_read.specs.RecordAnswers.{AnswersNext, Reads, Stops, begin_of, name_of, names_given, names_of, record_given, records_given}
+use Rattle.log_read.specs.Fields.{names_in}
+use Rattle.log_read.specs.Readings.{Heads}
+use Rattle.log_read.specs.Log.{line_at}
+use Rattle.log_read.specs.Records.{IsEntry}
+use Rattle.log_read.specs.Watchers.{told_lines}
+use Rattle.log_read.proofs.Ranges.{recorded}
 use Rattle.log_view.specs.Notes.{stop_of}
-use Rattle.log_view.proofs.Ranges.{picture_size}
 use Rattle.log_sums.specs.declared.group.GroupSums.{GroupSums}
 use Rattle.record_sums.specs.declared.sums.LogSums.{LogSums}
 use Rattle.record_sums.specs.Adding.{AddsUpTo}
@@ -54,7 +56,7 @@ pub read_next : (files : Option Contents) (first old new : LogRecords) (from to 
 read_next files first old new from to before after named same kept given most next said take_it so_far =
     let entry = said.1 in
     let groups : length (record_given new).picture ≡ length (names_of first) =
-    picture_size (length (names_of new)) entry.fields.aspects (record_given new).picture entry.picture ∙ ap length (kept ∙ same) in
+    (recorded (names_of new) (records_given new) said.0 (record_given new) entry).picture ∙ ap length (kept ∙ same) in
     record {
       records = so_far.records ++ record_given new ∷ [];
       count = omega (arith, given, so_far.count, length-append so_far.records (record_given new ∷ []));
@@ -65,36 +67,36 @@ read_next files first old new from to before after named same kept given most ne
 
 -- the end of the log
 pub read_whole : (files : Option Contents) (first old new : LogRecords) (from to : ℕ) (sums : LogSums) → name_of old ≡ name_of first →
-    names_of old ≡ names_of first → ForSome files (λ file. AnswersNext (file (name_of old)) old new (Ok false)) →
+    names_of old ≡ names_of first → begin_of old ≡ AtOne → names_given old ≡ false → ForSome files (λ file. AnswersNext (file (name_of old)) old new (Ok false)) →
     ((groups from to : ℕ) (records : List Record) (x : LogSums) → AddsUpTo groups from to records x → AreSumsOf groups from to records x) →
     SoFar files first old from to sums →
     ForSome files (λ file. Reads first (file (name_of first)) [] → AreSumsIn (names_of first) (file (name_of first)) from to sums)
-read_whole files first old new from to sums named same next law so_far file is begun =
+read_whole files first old new from to sums named same one found next law so_far file is begun =
     let end = next file is so_far.records (rw (← named) at (so_far.reads file is begun)) in
     record {
       records = so_far.records;
-      log = rw (named, same) at end.0;
+      log = rw (named, same, one, found) at end.0;
       summed = law (length (names_of first)) from to so_far.records sums so_far.sums_are;
     }
 
 -- why a log is not added up
-pub unread : (names : List (List ℕ)) (bytes : List ℕ) (records : List Record) (stop : LogStop) → Stops names bytes records stop → IsUnsummed bytes (stop_of stop)
+pub unread : (names : List (List ℕ)) (bytes : List ℕ) (records : List Record) (stop : LogStop) → Stops false AtOne names bytes records stop → IsUnsummed bytes (stop_of stop)
 unread names bytes records log.Memory is = tt
 unread names bytes records log.Fault is = tt
 unread names bytes records (log.At line why) is = (names, (records, is))
 
 -- the first line of a log that was opened names its groups
-pub head_named : (r : LogRecords) (bytes : List ℕ) → Reads r bytes [] → names_in (line_at (told_lines bytes) 0) ≡ Some (names_of r)
-unfolding Reads names_of
-head_named r bytes is = is.accepted.names_are r.some
+pub head_named : (r : LogRecords) (bytes : List ℕ) → names_given r ≡ false → Reads r bytes [] → names_in (line_at (told_lines bytes) 0) ≡ Some (names_of r)
+unfolding Reads names_of names_given
+head_named r bytes found is = subst (λ g. Heads g r.names.items (line_at (told_lines bytes) 0)) found (is.accepted.headed r.some)
 
 -- a line that is refused, or a read that failed
-pub unread_next : (files : Option Contents) (first old new : LogRecords) (from to : ℕ) (sums : LogSums) (stop : LogStop) → name_of old ≡ name_of first →
+pub unread_next : (files : Option Contents) (first old new : LogRecords) (from to : ℕ) (sums : LogSums) (stop : LogStop) → name_of old ≡ name_of first → begin_of old ≡ AtOne → names_given old ≡ false →
     ForSome files (λ file. AnswersNext (file (name_of old)) old new (Err stop)) → SoFar files first old from to sums →
     ForSome files (λ file. Reads first (file (name_of first)) [] → IsUnsummed (file (name_of first)) (stop_of stop))
-unread_next files first old new from to sums stop named next so_far file is begun =
+unread_next files first old new from to sums stop named one found next so_far file is begun =
     unread (names_of old) (file (name_of first)) so_far.records stop
-    (rw named at (next file is so_far.records (rw (← named) at (so_far.reads file is begun))))
+    (rw (named, one, found) at (next file is so_far.records (rw (← named) at (so_far.reads file is begun))))
 
 -- the sums of a group are small
 small_of : (groups from to : ℕ) (records : List Record) (x : LogSums) → length records ≤ 604801 → AddsUpTo groups from to records x →

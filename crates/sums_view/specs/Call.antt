@@ -9,9 +9,9 @@ use Rattle.log_view.specs.declared.stop.Status.{Status}
 use Rattle.log_view.specs.declared.stop.Stop.{Stop}
 use Rattle.log_view.specs.declared.stop.Stop.TheVariants.{Memory, Words, TooManySeconds, ReadFault, WriteFault, Line, LogEnds}
 use Rattle.log_view.specs.Call.{IsNoted, status_by}
-use Rattle.log_records.specs.Fields.{names_in}
-use Rattle.log_records.specs.Log.{line_at}
-use Rattle.log_records.specs.Watchers.{told_lines}
+use Rattle.log_read.specs.Fields.{names_in}
+use Rattle.log_read.specs.Log.{line_at}
+use Rattle.log_read.specs.Watchers.{told_lines}
 use Rattle.record_sums.specs.declared.serves.Serve.{Serve}
 use Rattle.record_sums.specs.declared.sums.LogSums.{LogSums}
 use Rattle.record_sums.specs.Serves.{serves_of}

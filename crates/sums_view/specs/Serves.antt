@@ -3,7 +3,7 @@ use Rattle.std.specs.Prelude.{ℕ, ◌-◌, ◌==◌, Bool, false, true, List, [
 use Rattle.std.specs.List.{slice_split}
 use Rattle.std.specs.Option.{option_and_then, option_map}
 use Rattle.sig_types.specs.Text.{cut_at, is_name, number_of, within}
-use Rattle.log_records.specs.Fields.{place_of}
+use Rattle.log_read.specs.Fields.{place_of}
 use Rattle.record_sums.specs.declared.serves.Serve.{Serve}
 
 -- the chosen detectors and one more, where that is there and wasn't chosen yet

@@ -1,8 +1,9 @@
 -- What the reading of a log gives.
-use Rattle.std.specs.Prelude.{ℕ, List, length, None, Result, Ok, Err, Vec}
+use Rattle.std.specs.Prelude.{false, ℕ, List, length, None, Result, Ok, Err, Vec}
 use Rattle.std.specs.declared.alloc.Global.{Global}
 use Rattle.sig_types.specs.declared.record.Record.{Record}
-use Rattle.log_records.specs.Log.{IsLog}
+use Rattle.log_read.specs.Readings.{IsRecords}
+use Rattle.log_read.specs.declared.begin.Begin.TheVariants.{AtOne}
 use Rattle.log_view.specs.declared.stop.Stop.{Stop}
 use Rattle.log_view.specs.declared.stop.Stop.TheVariants.{Memory, Words, TooManySeconds, ReadFault, WriteFault, Line, LogEnds}
 use Rattle.log_view.specs.Answers.{IsRefusedAt}
@@ -14,7 +15,7 @@ use Rattle.part_sums.specs.Parts.{AreParts}
 -- what the seconds from `from` to `to` of a log with these bytes add up to, of groups with these names; all its lines are accepted
 pub record AreSumsIn (names : List (List ℕ)) (bytes : List ℕ) (from to : ℕ) (sums : LogSums) : Type 0 where
   pub records : List Record
-  pub log : IsLog names bytes records None
+  pub log : IsRecords false AtOne names bytes records None
   pub summed : AreSumsOf (length names) from to records sums
 
 -- why a log with these bytes is not added up
@@ -36,7 +37,7 @@ IsSumming names bytes from to (Err stop) = IsUnsummed bytes stop
 -- names and detectors that serve them; all its lines are accepted.
 pub record ArePartsIn (names : List (List ℕ)) (bytes : List ℕ) (from each to : ℕ) (serves : List Serve) (parts : List LogSums) : Type 0 where
   pub records : List Record
-  pub log : IsLog names bytes records None
+  pub log : IsRecords false AtOne names bytes records None
   pub parts_are : AreParts (length names) from each to serves records parts
 
 -- what the adding up of parts answers

@@ -14,7 +14,7 @@ use crate::form::{SumsForm, form_of};
 use crate::parting::add_up_parts;
 use crate::serve::serves_for;
 use crate::summing::add_up;
-use log_records::LogRecords;
+use log_read::{Begin, LogRecords};
 use log_view::{Status, Stop, status_of, stop_of, write_stop};
 use record_sums::LogSums;
 use sig_io::{Draft, Files, Sink};
@@ -121,7 +121,7 @@ fn do_whole<F: Files, O: Sink>(
     ensures read { result ≡ Err Stop.ReadFault → Rose (F.faults files.old) (F.faults files.new) }
     ensures write { result ≡ Err Stop.WriteFault → Rose (O.faults out.old) (O.faults out.new) }
 {
-    let mut records = match LogRecords::open(alloc, files, form.log) {
+    let mut records = match LogRecords::open(alloc, files, form.log, Begin::AtOne) {
         Ok(records) => records,
         Err(stop) => return Err(stop_of(stop)),
     };
@@ -152,7 +152,7 @@ fn do_parts<F: Files, O: Sink>(
     ensures read { result ≡ Err Stop.ReadFault → Rose (F.faults files.old) (F.faults files.new) }
     ensures write { result ≡ Err Stop.WriteFault → Rose (O.faults out.old) (O.faults out.new) }
 {
-    let mut records = match LogRecords::open(alloc, files, form.log) {
+    let mut records = match LogRecords::open(alloc, files, form.log, Begin::AtOne) {
         Ok(records) => records,
         Err(stop) => return Err(stop_of(stop)),
     };

@@ -1,8 +1,9 @@
 // The sums of the parts of a log.
-ghost use Rattle.std.specs.Prelude.{◌≡◌, ◌≤◌, ◌<◌, ◌+◌, ◌^◌, ℕ, List, [], true, Err, IfErr, IfOk, length};
+ghost use Rattle.std.specs.Prelude.{◌≡◌, ◌≤◌, ◌<◌, ◌+◌, ◌^◌, ℕ, List, [], true, false, Err, IfErr, IfOk, length};
 ghost use Rattle.std.specs.Option.{ForSome};
 ghost use Rattle.sig_io.specs.Outside.{Rose};
-ghost use Rattle.log_records.specs.Answers.{Reads, is_live, name_of, names_of, records_given};
+ghost use Rattle.log_read.specs.declared.begin.Begin.{Begin};
+ghost use Rattle.log_read.specs.RecordAnswers.{Reads, begin_of, is_live, name_of, names_given, names_of, records_given};
 ghost use Rattle.log_view.specs.Answers.{IsOfReading};
 ghost use Rattle.sig_types.specs.declared.record.Record.{Record};
 ghost use Rattle.record_sums.specs.declared.serves.Serve.{Serve};
@@ -11,7 +12,7 @@ ghost use Rattle.part_sums.specs.Parts.{AreParts};
 ghost use Rattle.sums_text.specs.Parts.{AreAllTextual};
 ghost use Rattle.sums_view.specs.Summed.{IsParting};
 
-use log_records::LogRecords;
+use log_read::LogRecords;
 use log_view::{Stop, stop_of};
 use part_sums::{PartSums, take_part};
 use record_sums::{LogSums, Serve};
@@ -41,6 +42,8 @@ pub fn add_up_parts<F: Files>(
     serves: &[Serve],
     files: &mut F,
 ) -> Result<Vec<LogSums>, Stop>
+    requires begin { begin_of records.old ≡ Begin.AtOne }
+    requires found { names_given records.old ≡ false }
     requires live { is_live records.old ≡ true }
     requires none { records_given records.old ≡ 0 }
     requires few { length (names_of records.old) ≤ 64 }

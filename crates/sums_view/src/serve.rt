@@ -2,7 +2,7 @@
 ghost use Rattle.std.specs.Prelude.{◌≡◌, ◌≤◌, ◌<◌, None, Some, Option, MatchOption, IfOk, IfSome, IfErr, Err, ◌⊎◌, List, [], true, false, length, map, replicate, string_bytes};
 ghost use Rattle.std.specs.List.{position};
 ghost use Rattle.std.specs.Str.{bytes_eq};
-ghost use Rattle.log_records.specs.Fields.{place_of};
+ghost use Rattle.log_read.specs.Fields.{place_of};
 ghost use Rattle.sums_view.specs.Serves.{detector_items, detectors_in, serve_for, serve_in, serve_words, serves_for, with_detector};
 
 use log_view::Stop;

@@ -1,14 +1,15 @@
 // The sums of a log.
-ghost use Rattle.std.specs.Prelude.{◌≡◌, ◌≤◌, ◌<◌, ◌+◌, ◌^◌, ℕ, List, [], true, Err, IfErr, IfOk, length};
+ghost use Rattle.std.specs.Prelude.{◌≡◌, ◌≤◌, ◌<◌, ◌+◌, ◌^◌, ℕ, List, [], true, false, Err, IfErr, IfOk, length};
 ghost use Rattle.std.specs.Option.{ForSome};
 ghost use Rattle.sig_io.specs.Outside.{Rose};
-ghost use Rattle.log_records.specs.Answers.{Reads, is_live, name_of, names_of, records_given};
+ghost use Rattle.log_read.specs.declared.begin.Begin.{Begin};
+ghost use Rattle.log_read.specs.RecordAnswers.{Reads, begin_of, is_live, name_of, names_given, names_of, records_given};
 ghost use Rattle.log_view.specs.Answers.{IsOfReading};
 ghost use Rattle.record_sums.specs.Serves.{serves_of};
 ghost use Rattle.sums_text.specs.Words.{AreTextual};
 ghost use Rattle.sums_view.specs.Summed.{IsSumming};
 
-use log_records::LogRecords;
+use log_read::LogRecords;
 use log_view::{Stop, stop_of};
 use record_sums::laws::sums_are_of_records;
 use record_sums::{LogSums, Serve, take_record};
@@ -25,6 +26,8 @@ pub fn add_up<F: Files>(
     serves: &[Serve],
     files: &mut F,
 ) -> Result<LogSums, Stop>
+    requires begin { begin_of records.old ≡ Begin.AtOne }
+    requires found { names_given records.old ≡ false }
     requires live { is_live records.old ≡ true }
     requires none { records_given records.old ≡ 0 }
     requires few { length (names_of records.old) ≤ 64 }

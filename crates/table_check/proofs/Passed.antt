@@ -11,6 +11,7 @@ use Rattle.sig_tables.specs.Records.{Row, is_header, table_rows}
 use Rattle.sig_tables.specs.Refusals.{Refusal, numbered}
 use Rattle.sig_tables.proofs.Rows.{begins_with}
 use Rattle.table_check.specs.declared.rows.Rows.{Rows}
+use Rattle.table_check.specs.Passed.{HasPassed}
 use Rattle.table_check.specs.Read.{HasRead}
 use Rattle.table_check.specs.Refused.{headers_in, record_reason, refused_each, refused_records, refused_rows, told}
 use Rattle.table_check.specs.Seen.{HasSeenBy}
@@ -28,19 +29,6 @@ each_pushed judge before (r ∷ rows) row =
 -- the records that were read, and those that were not
 pub text_begins : (r : Rows) (text : List ℕ) (rows : List Row) → HasRead r text rows → (more : List Row) × (table_rows text ≡ rows ++ more)
 text_begins r text rows has = (_, begins_with text rows r.reader.state has.rest has.reached)
-
--- what is held between two records: the header and the records before number n were read
-pub record HasPassed (plan : Option PlanOf) (table : Table) (text : List ℕ) (r : Rows) (fields n : ℕ) (seen : List Bool)
-    (refused : List Refusal) : Type 0 where
-  pub header : Row
-  pub before : List Row
-  pub read : HasRead r text (header ∷ before)
-  pub right : is_header (headers_in table) header ≡ true
-  pub fields_are : length header ≡ fields
-  pub number : n ≡ length before + 2
-  pub sees : HasSeenBy plan table before seen
-  pub size : length seen ≡ 4096
-  pub refused_are : refused ≡ refused_each (numbered (record_reason plan table fields)) [] before
 
 -- the header was read
 pub begun : (plan : Option PlanOf) (table : Table) (text : List ℕ) (r : Rows) (fields : ℕ) (seen : List Bool) (header : Row)

@@ -1,4 +1,5 @@
 pub mod Faults
+pub mod Passed
 pub mod Read
 pub mod Refused
 pub mod Seen

@@ -1,6 +1,8 @@
 // All refused records of a table.
-ghost use Rattle.std.specs.Prelude.{◌≡◌, ◌++◌, IfOk, OnOk, replicate, false};
+ghost use Rattle.std.specs.Prelude.{◌≡◌, ◌++◌, [], ℕ, List, IfOk, OnOk, replicate, false};
 ghost use Rattle.sig_types.specs.FirstRefused.{with_line};
+ghost use Rattle.table_check.specs.Passed.{HasPassed};
+ghost use Rattle.table_check.specs.Read.{HasRead};
 ghost use Rattle.table_check.specs.Refused.{refused_records, told};
 
 use crate::header::is_header;
@@ -35,6 +37,52 @@ fn put_refused(
     Ok(())
 }
 
+// Puts each record behind the header that is refused, up to the last one that is looked at. It owns nothing, so that it has nothing
+// to free on its ways out.
+fn put_each(
+    rows: &mut Rows<'_>,
+    seen: &mut [bool],
+    refused: &mut Vec<(u32, TableWhy)>,
+    plan: &Option<Plan>,
+    table: Table,
+    fields: usize,
+) -> Result<(), AllocError>
+    requires { (text : List ℕ) × HasPassed plan.now table text rows.old fields 2 seen.old refused.old.items }
+    ensures { OnOk result ((text : List ℕ) → HasPassed plan.now table text rows.old fields 2 seen.old refused.old.items →
+        refused.new.items ≡ refused_records table plan.now text) }
+{
+    for number in 2..LAST + 1 {
+        if !rows.next()? {
+            return Ok(());
+        }
+        let why = record_reason(seen, plan, table, fields, &rows.row);
+        put_refused(refused, number, why)?;
+    }
+    Ok(())
+}
+
+// Puts each record that is refused, or the header where record 1 is none.
+fn put_all(
+    alloc: Global,
+    rows: &mut Rows<'_>,
+    refused: &mut Vec<(u32, TableWhy)>,
+    plan: &Option<Plan>,
+    table: Table,
+) -> Result<(), AllocError>
+    requires read { (text : List ℕ) × HasRead rows.old text [] }
+    requires none { refused.old.items ≡ [] }
+    ensures { OnOk result ((text : List ℕ) → HasRead rows.old text [] → refused.new.items ≡ refused_records table plan.now text) }
+{
+    if !rows.next()? || !is_header(table, &rows.row) {
+        refused.push((1, TableWhy::Header))?;
+        return Ok(());
+    }
+    let fields = rows.row.len();
+    let mut seen = no_places(alloc)?;
+    put_each(rows, &mut seen, refused, plan, table, fields)?;
+    Ok(())
+}
+
 /// Each record of a table that is refused, in their order: its number, record 1 being the header, and why. The first one is the
 /// header, where record 1 is none, and then no other is looked at. By a plan a record is judged as the table's reader judges it,
 /// after all records before it; without one by its fields and numbers alone. Records behind the 5,000th are not looked at.
@@ -48,18 +96,6 @@ pub fn refused_records(
 {
     let mut rows = Rows::open(alloc, text);
     let mut refused = Vec::new(alloc);
-    if !rows.next()? || !is_header(table, &rows.row) {
-        refused.push((1, TableWhy::Header))?;
-        return Ok(refused);
-    }
-    let fields = rows.row.len();
-    let mut seen = no_places(alloc)?;
-    for number in 2..LAST + 1 {
-        if !rows.next()? {
-            return Ok(refused);
-        }
-        let why = record_reason(&mut seen, plan, table, fields, &rows.row);
-        put_refused(&mut refused, number, why)?;
-    }
+    put_all(alloc, &mut rows, &mut refused, plan, table)?;
     Ok(refused)
 }

@@ -17,7 +17,7 @@ use vap_code::{Code, Instr};
 use vap_compile::compile;
 use vap_lex::tokens;
 use vap_parse::parse;
-use vap_vm::{PassEnd, Steps, Unseen, Vm, World};
+use vap_vm::{PassEnd, Steps, Vm, World};
 
 // Detectors 1 to 64, of which one reads a number and the others 0. Each command is given to number 1 alone.
 #[derive(Drop)]
@@ -116,7 +116,7 @@ fn first_failing_second<L: Ledger>(
             given: Command::ClearFronts(DetNo(before + 1)),
         };
         vm.begin_second();
-        let ended = vm.pass(&world, &mut steps, &mut Unseen);
+        let ended = vm.pass(&world, &mut steps);
         if ended != end(second.fault) || vm.commands() != second.commands {
             return Ok(Some(before + 1));
         }

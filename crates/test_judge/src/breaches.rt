@@ -26,6 +26,23 @@ const TABLE: &str = "second,rule,group,other,shown,since,seconds,needed\n\
 18,Sequence,K1,,UR,,,\n\
 18,Intergreen,K2,K1,,15,3,5\n";
 
+// K2 is amber for its 3 s from the first second on, so it ended in that; K1 is green a second later.
+const AMBER_FIRST: &str = "VAPLOG 1 K1 K2\n\
+100|-|UA|\n\
+101|-|GA|\n\
+102|-|GA|\n\
+103|-|GR|\n";
+
+const AMBER_FIRST_WORDS: &str = "\
+101 Intergreen K1 K2: K2 ended at most 0 s before second 100, K1 is green in second 101, at most 1 s later; intergreen 4 s\n\
+SECONDS 4\n\
+BREACHES 1\n\
+SUM Intergreen K1 K2 times:1\n";
+
+// Of the one second that is green and amber K1 was green too soon, whenever K2 ended in the last 3 s.
+const GREEN_AND_AMBER_TABLE: &str = "second,rule,group,other,shown,since,seconds,needed\n\
+100,Intergreen,K1,K2,,,2,4\n";
+
 // Calls `log_report breaches` over this log and this table of intergreens, with these options.
 fn call(alloc: Global, log: &str, pairs: &[u8], options: &[&str]) -> Result<Told, Fail> {
     let mut files = files_of(alloc, log, pairs)?;
@@ -54,6 +71,35 @@ fn a_part_as_a_table_with_a_tolerance(rt: HostRuntime) -> Result<(), Fail> {
     )?;
     assert_eq!(rt; told.status, Status::Broken);
     assert_eq!(rt; told.out.bytes(), TABLE.as_bytes());
+    Ok(())
+}
+
+#[test]
+fn an_amber_in_the_first_second(rt: HostRuntime) -> Result<(), Fail> {
+    let told = call(rt.alloc(), AMBER_FIRST, INTERGREENS, &[])?;
+    assert_eq!(rt; told.status, Status::Broken);
+    assert_eq!(rt; told.out.bytes(), AMBER_FIRST_WORDS.as_bytes());
+    let told = call(
+        rt.alloc(),
+        "VAPLOG 1 K1 K2\n100|-|GA|\n",
+        INTERGREENS,
+        &["--csv"],
+    )?;
+    assert_eq!(rt; told.status, Status::Broken);
+    assert_eq!(rt; told.out.bytes(), GREEN_AND_AMBER_TABLE.as_bytes());
+    Ok(())
+}
+
+#[test]
+fn an_amber_in_the_first_second_with_a_tolerance(rt: HostRuntime) -> Result<(), Fail> {
+    let told = call(
+        rt.alloc(),
+        "VAPLOG 1 K1 K2\n100|-|GA|\n",
+        INTERGREENS,
+        &["--amber-tolerance", "2"],
+    )?;
+    assert_eq!(rt; told.status, Status::Done);
+    assert_eq!(rt; told.out.bytes(), b"SECONDS 1\nBREACHES 0\n".as_slice());
     Ok(())
 }
 

@@ -1,5 +1,5 @@
 // Logs: how many records they have, and the first line that is refused.
-use log_lines::{LogLines, LogRefusal, LogWhy};
+use log_read::{Begin, LogPictures, LogRefusal, LogWhy};
 use pua_model::Plan;
 use pua_reader::read_plan;
 use sig_io::MemFiles;
@@ -23,7 +23,7 @@ fn read(
     files: &mut MemFiles,
     plan: &Plan,
 ) -> Result<(u32, Option<LogRefusal>, bool), Memory> {
-    let mut lines = LogLines::make(alloc, "l")?;
+    let mut lines = LogPictures::make(alloc, "l", Begin::AtOne)?;
     for _ in 0..9 {
         match lines.next_picture(files, plan) {
             Ok(true) => {}
@@ -160,7 +160,7 @@ fn a_record_lends_its_picture(rt: HostRuntime) -> Result<(), Fail> {
     let plan = read_plan(alloc, TWO_STAGES)?;
     let bytes = Vec::from_slice(alloc, b"VAPLOG 1 K1 K2\n1|-|UA|")?;
     let mut files = file(alloc, bytes, NEVER)?;
-    let mut lines = LogLines::make(alloc, "l")?;
+    let mut lines = LogPictures::make(alloc, "l", Begin::AtOne)?;
     assert_eq!(rt; lines.next_picture(&mut files, &plan), Ok(true));
     let picture = lines.picture();
     assert_eq!(rt;

@@ -1,5 +1,5 @@
 // The first refused line of a log, for each field.
-use log_records::{LogRecords, LogStop, LogWhy};
+use log_read::{Begin, LogRecords, LogStop, LogWhy};
 use sig_io::MemFiles;
 use sig_types::{Record, Rule, StagePlace};
 use std::alloc::{AllocError, Global};
@@ -16,7 +16,7 @@ const NEVER: u64 = 1_000_000;
 
 // Reads a log of less than 100 lines. How many records it gave, and why it ended if not at its end.
 fn read(alloc: Global, files: &mut MemFiles) -> Result<(u32, Option<LogStop>), Fail> {
-    let mut records = match LogRecords::open(alloc, files, "l") {
+    let mut records = match LogRecords::open(alloc, files, "l", Begin::AtOne) {
         Ok(records) => records,
         Err(stop) => return Ok((0, Some(stop))),
     };
@@ -139,7 +139,7 @@ fn watchers(rt: HostRuntime) -> Result<(), Fail> {
 fn an_end_is_told_again(rt: HostRuntime) -> Result<(), Fail> {
     let log = b"VAPLOG 1 K1\n1|S1|R|-|-|-\nWATCH 1 1 R\n2|S1|R|-|-|-\n";
     let mut files = file(rt.alloc(), log, NEVER)?;
-    let opened = LogRecords::open(rt.alloc(), &mut files, "l");
+    let opened = LogRecords::open(rt.alloc(), &mut files, "l", Begin::AtOne);
     assert!(rt; opened.is_ok());
     let Ok(mut records) = opened else {
         return Ok(());
@@ -195,7 +195,7 @@ fn first_rules(rec: &Record) -> Option<(Rule, Rule)> {
 fn all_six_fields(rt: HostRuntime) -> Result<(), Fail> {
     let log = b"VAPLOG 1 K1 K2\n1|I1-2+3|GU|2:1:4|2-1:Running K2:Conflict:K1|Index@9\n";
     let mut files = file(rt.alloc(), log, NEVER)?;
-    let opened = LogRecords::open(rt.alloc(), &mut files, "l");
+    let opened = LogRecords::open(rt.alloc(), &mut files, "l", Begin::AtOne);
     assert!(rt; opened.is_ok());
     let Ok(mut records) = opened else {
         return Ok(());

@@ -25,7 +25,7 @@ use Rattle.junction_run.specs.declared.stop.Stop.TheVariants.{Load, Play}
 use Rattle.junction_run.specs.declared.stop.LoadStop.TheVariants as load
 use Rattle.junction_run.specs.Form.{SiteWords, ProgramFile}
 use Rattle.junction_run.specs.Loading as loading
-use Rattle.junction_run.specs.Loading.{LoadsProgram, Playing, ReachedInSite, Unloaded, played_at, program_at}
+use Rattle.junction_run.specs.Loading.{ReachedInSite, Unloaded, played_at}
 use Rattle.junction_run.proofs.Texts.{no_site}
 use Rattle.junction_run.specs.Played as run
 use Rattle.junction_run.specs.Sites.{site_in}
@@ -33,7 +33,7 @@ use Rattle.junction_run.specs.Stop.{IsLoadStop, StopsWith, play_status}
 use Rattle.junction_run.specs.declared.status.Status.TheVariants as status
 use Rattle.trace_lines.specs.declared.line.Line.{Line}
 use Rattle.trace_lines.specs.Lines.{LineOf, line_in, lines_counted}
-use Rattle.trace_load.specs.Loaded.{code_for}
+use Rattle.trace_load.specs.Loaded.{FilesGive, code_for}
 use Rattle.trace_run.specs.declared.play.Stop.{Stop as TellStop}
 use Rattle.trace_run.specs.declared.play.Stop.TheVariants as tell
 use Rattle.trace_run.specs.Told as told
@@ -300,23 +300,8 @@ written_no_read text (Err stop) old new written is =
     write_no_read : status.WriteFault ≡ status.ReadFault → ⊥
     write_no_read is = absurd cc
 
--- the site of what the files give
-pub site_is : (program : List ℕ) (words : SiteWords) (file : Contents) (site : Site) (value : Program) →
-    LoadsProgram program words file (Ok (program_at site value)) → loading.site_of words file ≡ Ok site
-site_is program words file site value loads = at (loading.site_of words file) loads
-  where
-    given : (s : Site) (v : Result Program Unloaded) →
-        ◌≡◌ {A = Result Playing Unloaded} (Ok (program_at site value)) (loading.map_ok (played_at (ProgramFile program) s) v) → s ≡ site
-    given s (Ok p) is = let same : program_at site value ≡ program_at s p = cc in sym (ap (λ (p : Playing). p.site) same)
-    given s (Err u) is = absurd cc
-
-    at : (r : Result Site Unloaded) →
-        loading.AfterSite (played_at (ProgramFile program)) r (loading.IsSource (ProgramFile program) (file program)) (Ok (program_at site value)) → r ≡ Ok site
-    at (Ok s) is = ap Ok (given s is.0 is.2)
-    at (Err u) is = absurd cc
-
 module _ (asked : LinesWords) (file : Contents) (site : Site) (program : Program)
-    (loads : LoadsProgram asked.run.program asked.run.site file (Ok (program_at site program))) where
+    (gives : FilesGive asked.run.program asked.run.site file site program) where
   -- the text of what was counted
   abbrev text : List (List Counts) → List ℕ
   text runs = lines_text asked.style asked.run.program (file asked.run.program) (counted_of (code_for program) site runs)
@@ -337,7 +322,7 @@ module _ (asked : LinesWords) (file : Contents) (site : Site) (program : Program
       were Done done = record {
         program = program;
         site = site;
-        loads = loads;
+        gives = gives;
         runs = counted.0;
         made = counted.1;
         done = done;
@@ -358,7 +343,7 @@ module _ (asked : LinesWords) (file : Contents) (site : Site) (program : Program
     no_site (played_at (ProgramFile asked.run.program)) (loading.IsSource (ProgramFile asked.run.program) (file asked.run.program)) asked.run.program asked.run.site file stop is,
     none,
   )
-  lines_stopped (Play (play.ReadFault word)) old new is none = (record { program = program; site = site; loads = loads; stopped = is.0 }, none)
+  lines_stopped (Play (play.ReadFault word)) old new is none = (record { program = program; site = site; gives = gives; stopped = is.0 }, none)
   lines_stopped (Play play.WriteFault) old new is none = absurd is.1
   lines_stopped (Play (play.RefusedLine word line reason)) old new is none =
-      (record { program = program; site = site; loads = loads; stopped = is.0 }, none)
+      (record { program = program; site = site; gives = gives; stopped = is.0 }, none)

@@ -1,5 +1,5 @@
 -- What `how-ended` wrote, of what its parts answer.
-use Rattle.std.proofs.Common.{◌≡◌, ◌∙◌, ◌++◌, [], ℕ, Bool, List, length, Option, Result, Ok, Err, Bor, ap, sym, subst}
+use Rattle.std.proofs.Common.{◌≡◌, ◌∙◌, ◌++◌, [], ℕ, Bool, List, length, Option, Result, Err, Bor, ap, sym, subst}
 use Rattle.sig_io.specs.Outside.{Contents}
 use Rattle.sig_types.specs.Counts.{Counts}
 use Rattle.sig_types.specs.Pass.{Logic}
@@ -15,7 +15,7 @@ use Rattle.controller.specs.Controls.{code_of, plan_of, site_of}
 use Rattle.controller.specs.Past.{Past, Site, opening}
 use Rattle.det_stream.specs.Stream.{stream_of}
 use Rattle.junction_run.specs.declared.stop.PlayStop.{PlayStop}
-use Rattle.junction_run.specs.Loading.{LoadsProgram, program_at}
+use Rattle.junction_run.specs.Loading.{program_at}
 use Rattle.junction_run.specs.Played.{IsPlayed, IsWritten}
 use Rattle.junction_run.specs.Programs.{Runs}
 use Rattle.trace_run.specs.Told as told
@@ -27,7 +27,7 @@ use Rattle.trace_ends.specs.declared.rows.Ends.{Ends}
 use Rattle.trace_ends.specs.Known.{AreStages, KnowsStages}
 use Rattle.trace_ends.proofs.Seconds.{same_plan}
 use Rattle.trace_ends.specs.Rows.{end_told, header_text}
-use Rattle.trace_load.specs.Loaded.{code_for}
+use Rattle.trace_load.specs.Loaded.{FilesGive, code_for}
 use Rattle.trace_call.specs.Form.{EndsWords}
 use Rattle.trace_call.specs.HowEnded.{WereEnds, ends_by, ends_text}
 use Rattle.trace_call.proofs.Agrees.{same_told}
@@ -45,14 +45,14 @@ ends_are csv code code' logic site site' program frames runs valid same does at 
 -- the whole form
 pub were_ends : {A : Type 0} (asked : EndsWords) (file : Contents) (r : Result A PlayStop) (code code' : CodeOf) (logic : Logic) (site site' : Site)
     (program : Program) (frames : List Counts) (read : List ℕ) (old new : Option (List ℕ)) →
-    LoadsProgram asked.run.program asked.run.site file (Ok (program_at site program)) → Runs code program → Valid code →
+    FilesGive asked.run.program asked.run.site file site program → Runs code program → Valid code →
     code' ≡ code → logic ≡ machine code → site' ≡ site → code ≡ code_for program → read ≡ asked.run.detectors →
     IsWritten r (header_text asked.csv ++ told_from (end_told asked.csv code' site') logic site' (opening site' (first_store code)) frames) old new →
     IsPlayed asked.run.detectors r (stream_of (file read)) frames → WereEnds {A = A} asked file r old new
-were_ends asked file r code code' logic site site' program frames read old new loads runs valid same does at is named written given = record {
+were_ends asked file r code code' logic site site' program frames read old new gives runs valid same does at is named written given = record {
   program = program;
   site = site;
-  loads = loads;
+  gives = gives;
   frames = frames;
   written = subst (λ t. IsWritten r t old new) (ends_are asked.csv code code' logic site site' program frames runs valid same does at is) written;
   given = subst (λ n. IsPlayed asked.run.detectors r (stream_of (file n)) frames) named given;

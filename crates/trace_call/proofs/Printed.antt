@@ -1,5 +1,5 @@
 -- What `trace` wrote, of what its parts answer.
-use Rattle.std.proofs.Common.{◌≡◌, ◌∙◌, ℕ, List, Option, Result, Ok, ap, subst}
+use Rattle.std.proofs.Common.{◌≡◌, ◌∙◌, ℕ, List, Option, Result, ap, subst}
 use Rattle.sig_io.specs.Outside.{Contents}
 use Rattle.sig_types.specs.Counts.{Counts}
 use Rattle.sig_types.specs.Pass.{Logic}
@@ -16,12 +16,12 @@ use Rattle.vap_lex.specs.Tokens.{HasTokens}
 use Rattle.controller.specs.Past.{Site, opening}
 use Rattle.det_stream.specs.Stream.{stream_of}
 use Rattle.junction_run.specs.declared.stop.PlayStop.{PlayStop}
-use Rattle.junction_run.specs.Loading.{LoadsProgram, program_at}
+use Rattle.junction_run.specs.Loading.{program_at}
 use Rattle.junction_run.specs.Played.{IsPlayed, IsWritten}
 use Rattle.junction_run.specs.Programs.{Runs}
 use Rattle.trace_run.specs.Told.{told_from}
 use Rattle.trace_values.specs.Columns.{columns_of}
-use Rattle.trace_load.specs.Loaded.{code_for}
+use Rattle.trace_load.specs.Loaded.{FilesGive, code_for}
 use Rattle.trace_prints.specs.Printed.{prints_told}
 use Rattle.trace_prints.specs.Traces.{TraceOf, traces_of}
 use Rattle.trace_call.specs.Form.{RunWords}
@@ -50,17 +50,17 @@ named_traces m tokens instrs code traces value here are =
 -- the whole form
 pub were_prints : {A : Type 0} (run : RunWords) (file : Contents) (r : Result A PlayStop) (m : Meant) (traces : List TraceOf) (text : List ℕ)
     (tokens : List Token) (instrs : List Instr) (code code' : CodeOf) (logic : Logic) (site site' : Site) (frames : List Counts) (read : List ℕ)
-    (old new : Option (List ℕ)) → LoadsProgram run.program run.site file (Ok (program_at site (program_of m.tree))) →
+    (old new : Option (List ℕ)) → FilesGive run.program run.site file site (program_of m.tree) →
     Runs code (program_of m.tree) → Valid code → m ≡ checked_of m.tree → text ≡ file run.program → HasTokens text tokens →
     instrs ≡ code.instrs → traces ≡ traces_of m.names (program_of m.tree) (columns_of (program_of m.tree)) tokens instrs →
     code' ≡ code → logic ≡ machine code → site' ≡ site → code ≡ code_for (program_of m.tree) → read ≡ run.detectors →
     IsWritten r (told_from (prints_told (program_of m.tree) traces code' site') logic site' (opening site' (first_store code)) frames) old new →
     IsPlayed run.detectors r (stream_of (file read)) frames → WerePrints {A = A} run file r old new
-were_prints run file r m traces text tokens instrs code code' logic site site' frames read old new loads runs valid value holds spelled here are same does at is named
+were_prints run file r m traces text tokens instrs code code' logic site site' frames read old new gives runs valid value holds spelled here are same does at is named
     written given = record {
       program = program_of m.tree;
       site = site;
-      loads = loads;
+      gives = gives;
       tokens = tokens;
       spelled = subst (λ t. HasTokens t tokens) holds spelled;
       frames = frames;

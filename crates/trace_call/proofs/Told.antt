@@ -25,6 +25,7 @@ use Rattle.junction_run.specs.Stop.{IsUnloadedBy}
 use Rattle.trace_run.specs.Told.{told_from}
 use Rattle.trace_values.specs.declared.columns.Column.{Column}
 use Rattle.trace_values.specs.Rows.{header_text, row_told}
+use Rattle.trace_load.specs.Loaded.{FilesGive}
 use Rattle.trace_call.specs.declared.stop.Stop.{Stop}
 use Rattle.trace_call.specs.declared.stop.Stop.TheVariants.{Words, NoName, Run}
 use Rattle.trace_call.specs.Chosen.{IsChosen}
@@ -59,15 +60,15 @@ was_told c site program columns first last name read file r frames old new logic
 
 module _ (asked : ValuesWords) (file : Contents) (site : Loaded) (program : Program) where
   -- the files give this program at this site
-  abbrev Loads : Type 0
-  Loads = LoadsProgram asked.run.program asked.run.site file (Ok (program_at (site_in site) program))
+  abbrev Gives : Type 0
+  Gives = FilesGive asked.run.program asked.run.site file (site_in site) program
 
   -- what was told at a site was told of the files
   told_of_files : {A : Type 0} (columns : List Column) (r : Result A PlayStop) (old new : Option (List ℕ)) →
-      Loads → Runs site.code program → Valid site.code → columns ≡ columns_for program asked.names → AllNamed program asked.names →
+      Gives → Runs site.code program → Valid site.code → columns ≡ columns_for program asked.names → AllNamed program asked.names →
       WasToldAt {A = A} site program columns asked.first asked.last asked.run.detectors (stream_of (file asked.run.detectors)) r old new →
       WasTold {A = A} asked file r old new
-  told_of_files columns r old new loads runs valid chosen named is =
+  told_of_files columns r old new gives runs valid chosen named is =
       let rows : rows_text asked.first asked.last columns (playing_in site) is.frames
       ≡ rows_text asked.first asked.last columns (program_at (site_in site) program) is.frames =
       same_rows site.code program runs valid asked.first asked.last columns (site_in site) is.frames in
@@ -77,7 +78,7 @@ module _ (asked : ValuesWords) (file : Contents) (site : Loaded) (program : Prog
       ap (λ t. header_text program columns ++ t) rows
       ∙ ap (λ cs. header_text program cs ++ rows_text asked.first asked.last cs (program_at (site_in site) program) is.frames) chosen in
       record {
-        has = record { program = program; site = site_in site; loads = loads; named = named };
+        has = record { program = program; site = site_in site; gives = gives; named = named };
         frames = is.frames;
         written = subst (λ t. IsWritten r t old new) all is.written;
         given = is.given;
@@ -91,29 +92,29 @@ module _ (asked : ValuesWords) (file : Contents) (site : Loaded) (program : Prog
 
   -- the whole form, where all was told
   pub values_told : (columns : List Column) (old new : Option (List ℕ)) →
-      Loads → Runs site.code program → Valid site.code → columns ≡ columns_for program asked.names → AllNamed program asked.names →
+      Gives → Runs site.code program → Valid site.code → columns ≡ columns_for program asked.names → AllNamed program asked.names →
       WasToldAt {A = Unit {0}} site program columns asked.first asked.last asked.run.detectors (stream_of (file asked.run.detectors)) (Ok tt) old new →
       IsValues {A = Unit {0}} asked file (Ok tt) old new
-  values_told columns old new loads runs valid chosen named is = told_of_files columns (Ok tt) old new loads runs valid chosen named is
+  values_told columns old new gives runs valid chosen named is = told_of_files columns (Ok tt) old new gives runs valid chosen named is
 
   -- and where it stopped
   pub values_stopped : (columns : List Column) (stop : RunStop) (old new : Option (List ℕ)) →
-      Loads → Runs site.code program → Valid site.code → columns ≡ columns_for program asked.names → AllNamed program asked.names →
+      Gives → Runs site.code program → Valid site.code → columns ≡ columns_for program asked.names → AllNamed program asked.names →
       IsToldAt {A = Unit {0}} site program columns asked.first asked.last asked.run.detectors (stream_of (file asked.run.detectors)) (Err stop) old new →
       IsValues {A = Unit {0}} asked file (Err (Run stop)) old new
-  values_stopped columns (Load stop) old new loads runs valid chosen named is = (wanted stop is.0, is.1)
-  values_stopped columns (Play stop) old new loads runs valid chosen named is =
-      told_of_files {A = Unit {0}} columns (Err stop) old new loads runs valid chosen named is
+  values_stopped columns (Load stop) old new gives runs valid chosen named is = (wanted stop is.0, is.1)
+  values_stopped columns (Play stop) old new gives runs valid chosen named is =
+      told_of_files {A = Unit {0}} columns (Err stop) old new gives runs valid chosen named is
 
   -- no values were chosen
-  pub none_chosen : (stop : Stop) (now : Option (List ℕ)) → Loads → IsChosen program asked.names (Err stop) →
+  pub none_chosen : (stop : Stop) (now : Option (List ℕ)) → Gives → IsChosen program asked.names (Err stop) →
       IsValues {A = Unit {0}} asked file (Err stop) now now
-  none_chosen Words now loads is = is
-  none_chosen (NoName word nearest) now loads is = (
+  none_chosen Words now gives is = is
+  none_chosen (NoName word nearest) now gives is = (
     record {
       program = program;
       site = site_in site;
-      loads = loads;
+      gives = gives;
       place = is.place;
       unknown = is.unknown;
       word_is = is.word_is;
@@ -121,5 +122,5 @@ module _ (asked : ValuesWords) (file : Contents) (site : Loaded) (program : Prog
     },
     refl,
   )
-  none_chosen (Run (Load stop)) now loads is = (wanted stop is, refl)
-  none_chosen (Run (Play stop)) now loads is = absurd is
+  none_chosen (Run (Load stop)) now gives is = (wanted stop is, refl)
+  none_chosen (Run (Play stop)) now gives is = absurd is

@@ -13,7 +13,7 @@ use Rattle.junction_run.specs.Played.{IsPlayed, IsWritten}
 use Rattle.junction_run.specs.Stop.{IsUnloadedBy}
 use Rattle.trace_run.specs.Told.{told_from}
 use Rattle.trace_ends.specs.Rows.{end_told, header_text}
-use Rattle.trace_load.specs.Loaded.{code_for}
+use Rattle.trace_load.specs.Loaded.{FilesGive, code_for}
 use Rattle.trace_call.specs.declared.stop.Stop.{Stop}
 use Rattle.trace_call.specs.declared.stop.Stop.TheVariants.{Words, NoName, Run}
 use Rattle.trace_call.specs.Form.{EndsWords}
@@ -32,7 +32,7 @@ ends_text csv program site frames = ends_by csv (code_for program) (program_at s
 pub record WereEnds {A : Type 0} (asked : EndsWords) (file : Contents) (r : Result A PlayStop) (old new : Option (List ℕ)) : Type 0 where
   pub program : Program
   pub site : Site
-  pub loads : LoadsProgram asked.run.program asked.run.site file (Ok (program_at site program))
+  pub gives : FilesGive asked.run.program asked.run.site file site program
   pub frames : List Counts
   pub written : IsWritten r (ends_text asked.csv program site frames) old new
   pub given : IsPlayed asked.run.detectors r (stream_of (file asked.run.detectors)) frames

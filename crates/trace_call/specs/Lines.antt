@@ -17,7 +17,7 @@ use Rattle.junction_run.specs.declared.stop.Stop.{Stop as RunStop}
 use Rattle.junction_run.specs.declared.stop.Stop.TheVariants.{Load, Play}
 use Rattle.junction_run.specs.declared.stop.LoadStop.TheVariants as load
 use Rattle.junction_run.specs.Form.{SiteWords}
-use Rattle.junction_run.specs.Loading.{LoadsProgram, program_at, ReachedAfterSite, ReachedInSite, site_of}
+use Rattle.junction_run.specs.Loading.{LoadsProgram, ReachedAfterSite, ReachedInSite, site_of}
 use Rattle.junction_run.specs.Played.{IsPlayed}
 use Rattle.junction_run.specs.Stop.{IsLoadStop, IsUnloadedBy}
 use Rattle.trace_lines.specs.declared.line.Line.{Line}
@@ -25,7 +25,7 @@ use Rattle.trace_lines.specs.Csv.{csv_text}
 use Rattle.trace_lines.specs.Lcov.{lcov_text}
 use Rattle.trace_lines.specs.Lines.{LineOf, line_in, lines_counted}
 use Rattle.trace_lines.specs.Table.{table_text}
-use Rattle.trace_load.specs.Loaded.{code_for}
+use Rattle.trace_load.specs.Loaded.{FilesGive, code_for}
 use Rattle.trace_tally.specs.declared.tally.Tally.{Tally}
 use Rattle.trace_tally.specs.Seconds.{sights_by}
 use Rattle.trace_tally.specs.Tallied.{HasTallied}
@@ -81,7 +81,7 @@ AreStopped (name ∷ names) file stop =
 pub record WereCounted (asked : LinesWords) (file : Contents) (Done : List ℕ → Type 0) : Type 0 where
   pub program : Program
   pub site : Site
-  pub loads : LoadsProgram asked.run.program asked.run.site file (Ok (program_at site program))
+  pub gives : FilesGive asked.run.program asked.run.site file site program
   pub runs : List (List Counts)
   pub made : AreMade (detectors_of asked) file runs
   pub done : Done (lines_text asked.style asked.run.program (file asked.run.program) (counted_of (code_for program) site runs))
@@ -90,7 +90,7 @@ pub record WereCounted (asked : LinesWords) (file : Contents) (Done : List ℕ �
 pub record WereStopped (asked : LinesWords) (file : Contents) (stop : PlayStop) : Type 0 where
   pub program : Program
   pub site : Site
-  pub loads : LoadsProgram asked.run.program asked.run.site file (Ok (program_at site program))
+  pub gives : FilesGive asked.run.program asked.run.site file site program
   pub stopped : AreStopped (detectors_of asked) file stop
 
 -- seconds stopped so: nothing was written; or all were made, and the sink took only the first bytes of the text

@@ -16,7 +16,7 @@ use Rattle.junction_run.specs.Played.{IsPlayed, IsWritten}
 use Rattle.junction_run.specs.Stop.{IsUnloadedBy}
 use Rattle.trace_run.specs.Told.{told_from}
 use Rattle.trace_values.specs.Columns.{columns_of}
-use Rattle.trace_load.specs.Loaded.{code_for}
+use Rattle.trace_load.specs.Loaded.{FilesGive, code_for}
 use Rattle.trace_prints.specs.Printed.{prints_told}
 use Rattle.trace_prints.specs.Traces.{TraceOf, traces_of}
 use Rattle.trace_call.specs.declared.stop.Stop.{Stop}
@@ -42,7 +42,7 @@ prints_text program tokens site frames =
 pub record WerePrints {A : Type 0} (run : RunWords) (file : Contents) (r : Result A PlayStop) (old new : Option (List ℕ)) : Type 0 where
   pub program : Program
   pub site : Site
-  pub loads : LoadsProgram run.program run.site file (Ok (program_at site program))
+  pub gives : FilesGive run.program run.site file site program
   pub tokens : List Token
   pub spelled : HasTokens (file run.program) tokens
   pub frames : List Counts

@@ -13,7 +13,7 @@ use Rattle.junction_run.specs.Played.{IsPlayed, IsWritten}
 use Rattle.junction_run.specs.Stop.{IsUnloadedBy}
 use Rattle.trace_run.specs.Told.{told_from}
 use Rattle.trace_values.specs.Columns.{columns_of}
-use Rattle.trace_load.specs.Loaded.{code_for}
+use Rattle.trace_load.specs.Loaded.{FilesGive, code_for}
 use Rattle.trace_second.specs.Listing.{second_told}
 use Rattle.trace_call.specs.declared.stop.Stop.{Stop}
 use Rattle.trace_call.specs.declared.stop.Stop.TheVariants.{Words, NoName, Run}
@@ -33,7 +33,7 @@ second_text second program site frames = second_by program second (code_for prog
 pub record WasListed {A : Type 0} (asked : SecondWords) (file : Contents) (r : Result A PlayStop) (old new : Option (List ℕ)) : Type 0 where
   pub program : Program
   pub site : Site
-  pub loads : LoadsProgram asked.run.program asked.run.site file (Ok (program_at site program))
+  pub gives : FilesGive asked.run.program asked.run.site file site program
   pub frames : List Counts
   pub written : IsWritten r (second_text asked.second program site frames) old new
   pub given : IsPlayed asked.run.detectors r (stream_of (file asked.run.detectors)) frames

@@ -17,6 +17,7 @@ use Rattle.trace_values.specs.declared.columns.Column.{Column}
 use Rattle.trace_values.specs.Columns.{IsUnknown, NamesSome, chosen_by, columns_of}
 use Rattle.trace_values.specs.Nearest.{IsNearest}
 use Rattle.trace_values.specs.Rows.{header_text, row_within}
+use Rattle.trace_load.specs.Loaded.{FilesGive}
 use Rattle.trace_call.specs.declared.stop.Stop.{Stop}
 use Rattle.trace_call.specs.declared.stop.Stop.TheVariants.{Words, NoName, Run}
 use Rattle.trace_call.specs.Form.{ValuesWords}
@@ -44,7 +45,7 @@ AllNamed p names = (k : ℕ) → k < length names → NamesSome p (columns_of p)
 pub record Has (asked : ValuesWords) (file : Contents) : Type 0 where
   pub program : Program
   pub site : Site
-  pub loads : LoadsProgram asked.run.program asked.run.site file (Ok (program_at site program))
+  pub gives : FilesGive asked.run.program asked.run.site file site program
   pub named : AllNamed program asked.names
 
 -- the table of the seconds with these frames
@@ -65,7 +66,7 @@ pub record WasTold {A : Type 0} (asked : ValuesWords) (file : Contents) (r : Res
 pub record IsNoName (asked : ValuesWords) (file : Contents) (word nearest : List ℕ) : Type 0 where
   pub program : Program
   pub site : Site
-  pub loads : LoadsProgram asked.run.program asked.run.site file (Ok (program_at site program))
+  pub gives : FilesGive asked.run.program asked.run.site file site program
   pub place : ℕ
   pub unknown : IsUnknown program (columns_of program) asked.names place
   pub word_is : word ≡ slice_index_or asked.names place []

@@ -17,6 +17,7 @@ ghost use Rattle.trace_call.specs.HowEnded.{IsHowEnded};
 ghost use Rattle.trace_call.specs.Notes.{status_of};
 
 use crate::form::RunNames;
+use crate::freed::{free_program, free_run};
 use crate::stop::Stop;
 use crate::values::{no_memory, play_stop};
 use controller::Controller;
@@ -77,16 +78,27 @@ pub(crate) fn how_ended<'a, F: Files, O: Sink>(
     ensures read { StopsWith status_of status.ReadFault result → Rose (F.faults files.old) (F.faults files.new) }
     ensures write { StopsWith status_of status.WriteFault result → Rose (O.faults out.old) (O.faults out.new) }
 {
-    let Loaded { site, .. } = match load_program(alloc, run.program, &run.site, files) {
+    let Loaded {
+        site,
+        checked,
+        text,
+    } = match load_program(alloc, run.program, &run.site, files) {
         Ok(loaded) => loaded,
         Err(stop) => return Err(Stop::Run(RunStop::Load(stop))),
     };
+    free_program(checked, text);
     let (mut controller, mut lines) = match start(alloc, site, run.detectors) {
         Ok(started) => started,
         Err(_memory) => return Err(no_memory()),
     };
     match write_ends(csv, &mut controller, &mut lines, run.detectors, files, out) {
-        Ok(()) => Ok(()),
-        Err(stop) => Err(Stop::Run(RunStop::Play(stop))),
+        Ok(()) => {
+            free_run(controller, lines);
+            Ok(())
+        }
+        Err(stop) => {
+            free_run(controller, lines);
+            Err(Stop::Run(RunStop::Play(stop)))
+        }
     }
 }

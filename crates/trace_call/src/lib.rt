@@ -4,6 +4,7 @@
 mod call;
 mod end;
 mod form;
+mod freed;
 mod how_ended;
 mod lines;
 mod prints;

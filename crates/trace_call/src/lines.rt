@@ -31,6 +31,7 @@ ghost use Rattle.trace_call.specs.Written.{IsWritten};
 
 use crate::end::end;
 use crate::form::{RunNames, Style};
+use crate::freed::{free_checked, free_run};
 use crate::stop::Stop;
 use crate::values::play_stop;
 use controller::Controller;
@@ -102,8 +103,14 @@ fn count_seconds<'a, F: Files, O: Sink>(
         Err(_memory) => return Err(RunStop::Load(LoadStop::Memory)),
     };
     match tally_seconds(tally, &mut controller, &mut lines, word, files, out) {
-        Ok(()) => Ok(()),
-        Err(stop) => Err(RunStop::Play(stop)),
+        Ok(()) => {
+            free_run(controller, lines);
+            Ok(())
+        }
+        Err(stop) => {
+            free_run(controller, lines);
+            Err(RunStop::Play(stop))
+        }
     }
 }
 
@@ -302,7 +309,13 @@ pub(crate) fn lines<'a, F: Files, O: Sink>(
         Err(stop) => return Err(Stop::Run(RunStop::Load(stop))),
     };
     match count_lines(alloc, site, &checked, &run, added, files, out) {
-        Ok(lines) => write_lines(style, run.program.as_bytes(), &text, &lines, out),
-        Err(stop) => Err(Stop::Run(stop)),
+        Ok(lines) => {
+            free_checked(checked);
+            write_lines(style, run.program.as_bytes(), &text, &lines, out)
+        }
+        Err(stop) => {
+            free_checked(checked);
+            Err(Stop::Run(stop))
+        }
     }
 }

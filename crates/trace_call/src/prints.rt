@@ -22,6 +22,7 @@ ghost use Rattle.trace_call.specs.Notes.{status_of};
 ghost use Rattle.trace_call.specs.Prints.{IsTrace};
 
 use crate::form::RunNames;
+use crate::freed::{free_program, free_run, free_site};
 use crate::stop::Stop;
 use crate::values::{no_memory, play_stop};
 use controller::Controller;
@@ -122,11 +123,18 @@ pub(crate) fn prints<'a, F: Files, O: Sink>(
     };
     let traces = match find_traces(alloc, &checked, &text, &site.code.code().instrs) {
         Ok(traces) => traces,
-        Err(_memory) => return Err(no_memory()),
+        Err(_memory) => {
+            free_site(site);
+            free_program(checked, text);
+            return Err(no_memory());
+        }
     };
     let (mut controller, mut lines) = match start(alloc, site, run.detectors) {
         Ok(started) => started,
-        Err(_memory) => return Err(no_memory()),
+        Err(_memory) => {
+            free_program(checked, text);
+            return Err(no_memory());
+        }
     };
     match write_prints(
         &checked,
@@ -137,7 +145,15 @@ pub(crate) fn prints<'a, F: Files, O: Sink>(
         files,
         out,
     ) {
-        Ok(()) => Ok(()),
-        Err(stop) => Err(Stop::Run(RunStop::Play(stop))),
+        Ok(()) => {
+            free_run(controller, lines);
+            free_program(checked, text);
+            Ok(())
+        }
+        Err(stop) => {
+            free_run(controller, lines);
+            free_program(checked, text);
+            Err(Stop::Run(RunStop::Play(stop)))
+        }
     }
 }

@@ -18,6 +18,7 @@ ghost use Rattle.trace_call.specs.Second.{IsSecond};
 ghost use Rattle.trace_call.specs.Notes.{status_of};
 
 use crate::form::RunNames;
+use crate::freed::{free_checked, free_listing, free_run, free_site};
 use crate::stop::Stop;
 use crate::values::{no_memory, play_stop};
 use controller::Controller;
@@ -80,11 +81,19 @@ pub(crate) fn second<'a, F: Files, O: Sink>(
     };
     let mut teller = match Second::new(alloc, &checked, second.saturating_sub(1)) {
         Ok(teller) => teller,
-        Err(_memory) => return Err(no_memory()),
+        Err(_memory) => {
+            free_site(site);
+            free_checked(checked);
+            return Err(no_memory());
+        }
     };
     let (mut controller, mut lines) = match start(alloc, site, run.detectors) {
         Ok(started) => started,
-        Err(_memory) => return Err(no_memory()),
+        Err(_memory) => {
+            free_listing(teller);
+            free_checked(checked);
+            return Err(no_memory());
+        }
     };
     match write_second(
         &mut teller,
@@ -94,7 +103,17 @@ pub(crate) fn second<'a, F: Files, O: Sink>(
         files,
         out,
     ) {
-        Ok(()) => Ok(()),
-        Err(stop) => Err(Stop::Run(RunStop::Play(stop))),
+        Ok(()) => {
+            free_run(controller, lines);
+            free_listing(teller);
+            free_checked(checked);
+            Ok(())
+        }
+        Err(stop) => {
+            free_run(controller, lines);
+            free_listing(teller);
+            free_checked(checked);
+            Err(Stop::Run(RunStop::Play(stop)))
+        }
     }
 }

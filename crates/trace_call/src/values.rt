@@ -23,6 +23,7 @@ ghost use Rattle.trace_call.specs.ToldAt.{IsToldAt};
 ghost use Rattle.trace_call.specs.Values.{IsValues};
 
 use crate::form::{RunNames, Window};
+use crate::freed::{free_checked, free_controller, free_run, free_site};
 use crate::stop::Stop;
 use controller::Controller;
 use det_stream::Lines;
@@ -161,7 +162,10 @@ fn tell_values<'a, F: Files, O: Sink>(
     };
     let mut lines = match Lines::make(alloc, word) {
         Ok(lines) => lines,
-        Err(_memory) => return Err(RunStop::Load(LoadStop::Memory)),
+        Err(_memory) => {
+            free_controller(controller);
+            return Err(RunStop::Load(LoadStop::Memory));
+        }
     };
     match write_values(
         checked,
@@ -173,8 +177,14 @@ fn tell_values<'a, F: Files, O: Sink>(
         files,
         out,
     ) {
-        Ok(()) => Ok(()),
-        Err(stop) => Err(RunStop::Play(stop)),
+        Ok(()) => {
+            free_run(controller, lines);
+            Ok(())
+        }
+        Err(stop) => {
+            free_run(controller, lines);
+            Err(RunStop::Play(stop))
+        }
     }
 }
 
@@ -201,7 +211,11 @@ pub(crate) fn values<'a, F: Files, O: Sink>(
     };
     let columns = match chosen(alloc, &checked, names) {
         Ok(columns) => columns,
-        Err(stop) => return Err(stop),
+        Err(stop) => {
+            free_site(site);
+            free_checked(checked);
+            return Err(stop);
+        }
     };
     match tell_values(
         alloc,
@@ -213,7 +227,13 @@ pub(crate) fn values<'a, F: Files, O: Sink>(
         files,
         out,
     ) {
-        Ok(()) => Ok(()),
-        Err(stop) => Err(Stop::Run(stop)),
+        Ok(()) => {
+            free_checked(checked);
+            Ok(())
+        }
+        Err(stop) => {
+            free_checked(checked);
+            Err(Stop::Run(stop))
+        }
     }
 }

@@ -8,9 +8,10 @@ use Rattle.vap_check.specs.Names.{timers, variables}
 use Rattle.vap_check.specs.Numbers.{Meant, checked_of, names_of}
 use Rattle.vap_code.specs.Codes.{CodeOf}
 use Rattle.vap_compile.specs.Layout.{routines_code, routine_starts}
+use Rattle.controller.specs.Past.{Site}
 use Rattle.junction_run.specs.declared.stop.LoadStop.{LoadStop}
 use Rattle.junction_run.specs.Form.{SiteWords, ProgramFile}
-use Rattle.junction_run.specs.Loading.{IsSource, LoadsProgram, program_at, ReachedAfterSite}
+use Rattle.junction_run.specs.Loading.{IsSource, LoadsProgram, ReachedAfterSite, site_of}
 use Rattle.junction_run.specs.Programs.{ProgramIs, Runs}
 use Rattle.junction_run.specs.Sites.{IsRefusedProgram, site_in}
 use Rattle.junction_run.specs.Stop.{IsUnloadedBy}
@@ -51,9 +52,15 @@ IsToldFile word bytes (Ok taken) =
     × (taken.code ≡ code_for (program_of taken.checked.tree))
 IsToldFile word bytes (Err stop) = IsUnloadedBy (IsSource (ProgramFile word) bytes) (λ w. w ≡ word) stop
 
+-- The files give this program at this site: the plan and the tables are accepted, and are those of the site; and the program is the
+-- tree of its file's text. Of two programs that do the same in each pass, they give the one that is written there.
+pub record FilesGive (program : List ℕ) (words : SiteWords) (file : Contents) (site : Site) (tree : Program) : Type 0 where
+  pub at_site : site_of words file ≡ Ok site
+  pub spelled : IsSource (ProgramFile program) (file program) (Ok tree)
+
 -- a program at a site was loaded so: it is the one that the files give, with its text, and the code does what it does
 pub record IsLoaded (program : List ℕ) (words : SiteWords) (file : Contents) (loaded : Loaded) : Type 0 where
-  pub given : LoadsProgram program words file (Ok (program_at (site_in loaded.site) (program_of loaded.checked.tree)))
+  pub given : FilesGive program words file (site_in loaded.site) (program_of loaded.checked.tree)
   pub text : loaded.text.items ≡ file program
   pub value : loaded.checked ≡ checked_of loaded.checked.tree
   pub runs : Runs loaded.site.code (program_of loaded.checked.tree)

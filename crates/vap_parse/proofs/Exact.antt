@@ -445,3 +445,23 @@ one_refusal ts v w q r a b =
 
 pub apart : (ts : List Token) (p : Program) (w : Reason) (r : List Token) → Accepts ts p → Refuses ts w r → ⊥
 apart ts p w r a b = absurd (let one = accepted ts p a in let two = refused ts w r b in cc)
+
+-- ---- how far tokens are a beginning
+
+-- a text is a beginning of one
+pub text_begins : (ts : List Token) (p : Program) → Accepts ts p → Begins (fines ts)
+text_begins ts p whole = ([], p, subst (λ (ms : List Marked). Text ms p) (sym (append-nil (fines ts))) whole)
+
+-- tokens that end too early are a beginning
+pub early_begins : (ts : List Token) (why : Reason) → Refuses ts why [] → Begins (fines ts)
+early_begins ts Unexpected refuses =
+    subst (λ (s : List Token). Begins (fines s)) (sym (refuses.1 ∙ append-nil refuses.0)) refuses.2.0
+early_begins ts TooDeep refuses = absurd refuses.2
+early_begins ts Frequency refuses = absurd refuses.2
+
+-- tokens of which one is refused are none
+pub refused_never_begins : (ts : List Token) (why : Reason) (t : Token) (s : List Token) → Refuses ts why (t ∷ s) → Begins (fines ts) → ⊥
+refused_never_begins ts why t s refuses begins =
+    let e = refused ts why (t ∷ s) refuses in
+    stuck_inside refuses.0 t s [] why (subst (λ (q : List Token). Begins (fines q)) refuses.1 begins)
+    (ap outcome_of (append-nil (refuses.0 ++ t ∷ s) ∙ sym refuses.1) ∙ e ∙ ap (λ (q : List Token). Err (why, t ∷ q)) (sym (append-nil s)))

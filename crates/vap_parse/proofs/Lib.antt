@@ -11,3 +11,4 @@ pub mod TextLaws
 pub mod Exact
 pub mod Shrinks
 pub mod Keeps
+pub mod Swaps

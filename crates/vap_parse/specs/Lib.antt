@@ -5,3 +5,4 @@ pub mod Descent
 pub mod View
 pub mod Grammar
 pub mod Refusal
+pub mod Same

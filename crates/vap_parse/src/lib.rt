@@ -8,6 +8,8 @@ mod kind;
 mod program;
 mod statement;
 mod stop;
+mod stopped;
 
-pub use kind::all_have_words;
+pub use kind::{Kind, Reason, all_have_words, kind_of};
 pub use program::{ParseRefusal, ParseWhy, one_answer, parse};
+pub use stopped::{Refused, first_refused, is_beginning, one_for_all};

@@ -107,8 +107,9 @@ fn program(alloc: Global, tokens: &mut Cursor<'_>) -> Result<Program, Stop>
     })
 }
 
+/// The tree of the tokens that are left.
 #[tactic(auto, unfolding(crate::specs::Descent::text))]
-fn text(alloc: Global, tokens: &mut Cursor<'_>) -> Result<Program, Stop>
+pub(crate) fn text(alloc: Global, tokens: &mut Cursor<'_>) -> Result<Program, Stop>
     ensures { Builds program_of (rule.text tokens.old) result tokens.new }
 {
     let program = program(alloc, tokens)?;

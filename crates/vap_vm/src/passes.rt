@@ -10,7 +10,7 @@ ghost use Rattle.vap_vm.specs.Passes.{PassIs, Ready};
 ghost use Rattle.vap_code.specs.Sights.{Sight, machine_sights};
 
 use crate::machine::{Machine, Next};
-use crate::observer::Observer;
+use crate::observer::{Observer, Unseen};
 use crate::run::run;
 use crate::slots::{Slots, count_on};
 use crate::steps::Steps;
@@ -85,8 +85,27 @@ impl Vm {
     }
 
     /// One pass: what the code means in this world, from the variables, arrays and timers as they stand. After a
-    /// fault they are as at the call, and no command is listed. Each instruction counts one step, and the observer sees it.
-    pub fn pass<W: World, L: Ledger, O: Observer>(
+    /// fault they are as at the call, and no command is listed. Each instruction counts one step.
+    pub fn pass<W: World, L: Ledger>(&mut self, world: &W, steps: &mut Steps<L>) -> PassEnd
+        requires { (w : WorldOf) × W.means world.now w }
+        ensures pass { (w : WorldOf) → W.means world.now w →
+            PassIs (without_commands self.old.store)
+            (machine_of self.old.code w (without_commands self.old.store))
+            result self.new.store }
+        ensures counted { (w : WorldOf) → W.means world.now w → steps.new ≡
+            steps.old + machine_steps self.old.code w (without_commands self.old.store) }
+        ensures bounded { steps.new ≤ steps.old + 10241024 }
+        ensures given { All (W.allows world.now) self.new.store.commands }
+        ensures few { length self.new.store.commands ≤ 10000 }
+        ensures code { self.new.code ≡ self.old.code }
+        ensures seconds { self.new.seconds ≡ self.old.seconds }
+        ensures ready { Ready self.new }
+    {
+        self.pass_seen(world, steps, &mut Unseen)
+    }
+
+    /// One pass, as `pass` makes it, of which the observer sees each instruction.
+    pub fn pass_seen<W: World, L: Ledger, O: Observer>(
         &mut self,
         world: &W,
         steps: &mut Steps<L>,

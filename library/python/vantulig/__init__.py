@@ -19,6 +19,9 @@ except ImportError:
 
 __all__ = [
     "Controller",
+    "Guarded",
+    "Mask",
+    "TurnMask",
     "Record",
     "Turn",
     "StageRefusal",
@@ -67,6 +70,19 @@ class _Told(ctypes.Structure):
     )
 
 
+class _Commands(ctypes.Structure):
+    _fields_ = [(name, ctypes.c_uint8) for name in ("from_stage", "to", "stage", "reserved")] + [("groups", ctypes.c_uint8 * 64)]
+
+
+class _Mask(ctypes.Structure):
+    _fields_ = (
+        [(name, ctypes.c_uint8) for name in ("place", "from_stage", "to", "t", "groups", "stages")]
+        + [("reserved", ctypes.c_uint8 * 2)]
+        + [(name, ctypes.c_uint8 * 64) for name in ("turns", "rules", "others")]
+        + [("waits", ctypes.c_uint16 * 64), ("stage_rules", ctypes.c_uint8 * 32)]
+    )
+
+
 class _RefusedStage(ctypes.Structure):
     _fields_ = [(name, ctypes.c_uint8) for name in ("from_stage", "to", "rule")]
 
@@ -81,6 +97,7 @@ _new = tuple.__new__
 
 _DONE, _NO_MEMORY, _WRONG_CALL, _NOT_TAKEN, _NOTHING = range(5)
 _NO_NAMES = 8
+_NO_COMMAND = 9
 _Path = Union[str, "os.PathLike[str]"]
 
 
@@ -163,6 +180,8 @@ def _library() -> ctypes.PyDLL:
     lib.junction_close.argtypes, lib.junction_close.restype = [handle], None
     lib.junction_second.argtypes = [handle, place, place]
     lib.junction_seconds.argtypes = [handle, size, place, place, ctypes.POINTER(size)]
+    lib.junction_given_second.argtypes = [handle, place, place, place]
+    lib.junction_mask.argtypes = [handle, ctypes.POINTER(_Mask)]
     lib.junction_refused_stage.argtypes = [handle, size, ctypes.POINTER(_RefusedStage)]
     lib.junction_group_name.argtypes = [handle, size, ctypes.c_char_p, size, ctypes.POINTER(size)]
     _loaded[path] = lib
@@ -371,3 +390,127 @@ class Controller:
 
     def __reduce__(self):
         raise TypeError("a controller is not copied or pickled")
+
+
+class TurnMask(NamedTuple):
+    """The turn that a group can be wished to make in the second that comes: a start by a wish of green, an end by one of red.
+    `rule` is None where it is obeyed if no other group turns by a wish; `wait` is in how many seconds at the earliest it would be
+    obeyed if all goes on by nature until then, None for never."""
+
+    group: str
+    is_end: bool
+    rule: Optional[str]
+    other: Optional[str]
+    wait: Optional[int]
+
+
+class Mask(NamedTuple):
+    """What the second that comes would refuse. `place` is the place before its commands; `stages` has the rule that refuses the
+    command from the active stage to each stage, from stage 1 on; None where it is obeyed, or the stage is active."""
+
+    place: str
+    turns: Tuple[TurnMask, ...]
+    stages: Tuple[Optional[str], ...]
+
+
+# a program that commands nothing: its passes leave the active stage as it is
+_NO_PROGRAM = b"PROGRAM none;\nVAP_FREQUENCY 1;\nPROG_ENDE: .\n"
+_WISHES = {None: 0, "green": 1, "red": 2, True: 1, False: 2}
+
+
+class Guarded(Controller):
+    """The guard and the stages of a site under decisions from outside: a plan, the table of times and the table of intergreens, and
+    no program. What is commanded in a second comes with it, and whatever it is, the guard shows nothing that breaks a rule.
+
+        with Guarded.of(plan, times, intergreens) as g:
+            record = g.decide(stage=2)                          # a stage is wished
+            record = g.decide(order=(1, 2))                     # a stage command, as a program's Interstage(1, 2)
+            record = g.decide(groups={"K1": "green", "K2": "red"})     # wishes for groups, over those of the stage
+            record = g.wish("GRRG")                             # one wish for each group, and no stage counts
+            g.mask()                                            # what the next second would refuse
+    """
+
+    def __init__(self, program: bytes, plan: bytes, times: bytes, intergreens: bytes):
+        self._commands = bytearray(ctypes.sizeof(_Commands))
+        self._commanded = ctypes.byref(_Commands.from_buffer(self._commands))
+        self._mask = _Mask()
+        super().__init__(program, plan, times, intergreens)
+        self._give = self._lib["junction_given_second"]
+        self._places = {name: place for place, name in enumerate(self.names)}
+        self._lib.junction_mask(self._handle, self._mask)
+        self.stages = self._mask.stages
+
+    @classmethod
+    def of(cls, plan: bytes, times: bytes, intergreens: bytes) -> "Guarded":
+        """Of the texts of a site."""
+        return cls(_NO_PROGRAM, plan, times, intergreens)
+
+    @classmethod
+    def of_files(cls, plan: _Path, times: _Path, intergreens: _Path) -> "Guarded":
+        """The same of files, by their paths."""
+        return cls.of(*_read(plan, times, intergreens))
+
+    def decide(
+        self,
+        counts: Mapping[int, Tuple[int, int]] = {},
+        *,
+        stage: int = 0,
+        order: Tuple[int, int] = (0, 0),
+        groups: Mapping[Union[str, int], Any] = {},
+    ) -> Record:
+        """Makes a second by what is wished and commanded, and tells its record."""
+        commands = self._commands
+        commands[:4] = bytes((*order, stage, 0))
+        commands[4:] = bytes(64)
+        for group, wish in groups.items():
+            commands[4 + (self._places[group] if isinstance(group, str) else group)] = _WISHES[wish]
+        return self._decide(counts)
+
+    def wish(self, wishes: str, counts: Mapping[int, Tuple[int, int]] = {}) -> Record:
+        """Makes a second by one wish for each group: G or R; a dot leaves a group to its stage."""
+        self._commands[:4] = bytes(4)
+        self._commands[4:] = bytes([".GR".index(letter) for letter in wishes]).ljust(64, b"\0")
+        return self._decide(counts)
+
+    def _decide(self, counts: Mapping[int, Tuple[int, int]]) -> Record:
+        self._counts[:] = _NO_COUNTS
+        numbers, seen = self._numbers, []
+        for d, (f, r) in counts.items():
+            if not 1 <= d <= 64:
+                raise ValueError(f"detector {d}")
+            numbers[d - 1], numbers[d + 63] = f, r
+            if f or r:
+                seen.append((d, numbers[d - 1], numbers[d + 63]))
+        status = self._give(self._handle, self._given, self._commanded, self._out)
+        if status == _NOT_TAKEN:
+            raise NotTaken("the counts are not taken")
+        if status == _NO_COMMAND:
+            raise ValueError("a command names no stage or group of the plan")
+        if status:
+            raise Ended("the controller has ended")
+        return self._record(seen)
+
+    def raw_mask(self) -> Any:
+        """The mask in plain numbers, as junction_mask of junction.h; the same object each time."""
+        status = self._lib.junction_mask(self._handle, self._mask)
+        if status == _NOT_TAKEN:
+            raise NotTaken("no second is left")
+        if status:
+            raise Ended("the controller has ended")
+        return self._mask
+
+    def mask(self) -> Mask:
+        """What the second that comes would refuse."""
+        m, names = self.raw_mask(), self.names
+        turns = tuple(
+            TurnMask(
+                name,
+                m.turns[g] == 2,
+                RULES[m.rules[g]],
+                None if m.others[g] == 255 else names[m.others[g]],
+                None if m.waits[g] == 65535 else m.waits[g],
+            )
+            for g, name in enumerate(names)
+        )
+        place = _STAGES[m.to] if m.place == 1 else f"I{m.from_stage}-{m.to}+{m.t}" if m.place == 2 else "-"
+        return Mask(place, turns, tuple(RULES[m.stage_rules[s]] for s in range(m.stages)))

@@ -3,8 +3,9 @@ use Rattle.sig_tables.specs.SiteRules.{rules_of}
 use Rattle.log_judge.specs.declared.find.Terms.{Terms}
 use Rattle.log_judge.specs.Breaches.{breaches, breaches_within}
 use Rattle.log_judge.specs.Stands.{terms_of}
-use Rattle.log_parts.specs.Answers.{IsFirst, first_given}
-use Rattle.log_parts.specs.Log.{IsPart}
+use Rattle.log_read.specs.Answers.{IsFirst, first_given}
+use Rattle.log_read.specs.Readings.{IsPictures}
+use Rattle.log_read.specs.declared.begin.Begin.TheVariants.{Anywhere}
 use Rattle.breach_view.specs.Found.{IsLogStop, unknown_past}
 use Rattle.breach_view.proofs.Reading.{stands_count}
 use Rattle.breach_view.proofs.finding.find_breaches.Goals as goal
@@ -22,11 +23,11 @@ returns-in-Ok-find_end-clause-found g c file e =
     let same : terms_of c.find_within.new.judge ≡ unknown_past c.args.tolerance = c.find_within.ensures.terms ∙ c.new-judge.ensures.terms in
     record {
       pictures = whole.pictures;
-      log = subst (λ (n : List ℕ). IsPart names (file n) whole.pictures None) c.in-Ok.ensures.name whole.log;
+      log = subst (λ (n : List ℕ). IsPictures Anywhere names (file n) whole.pictures None) c.in-Ok.ensures.name whole.log;
       breaches_are = c.in-Ok-find_end.ensures whole.pictures whole.stands
           (whole.found_are ∙ ap (λ (k : Terms). breaches_within r k whole.pictures) (sym c.find_within.ensures.terms))
           ∙ ap (λ (k : Terms). breaches r k whole.pictures) same;
-      first = subst (λ (x : ℕ). IsFirst (file c.args.log.now) whole.pictures x) (sym c.first.ensures.first)
-          (subst (λ (n : List ℕ). IsFirst (file n) whole.pictures (first_given c.find_within.new.part)) c.in-Ok.ensures.name whole.first);
+      first = subst (λ (x : ℕ). IsFirst Anywhere (file c.args.log.now) whole.pictures x) (sym c.first.ensures.first)
+          (subst (λ (n : List ℕ). IsFirst Anywhere (file n) whole.pictures (first_given c.find_within.new.part)) c.in-Ok.ensures.name whole.first);
       count = c.seconds.ensures.seconds ∙ sym (stands_count c.find_within.new.judge whole.pictures whole.stands);
     }

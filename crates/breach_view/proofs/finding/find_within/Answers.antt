@@ -5,9 +5,10 @@ use Rattle.log_judge.specs.declared.find.Terms.{Terms}
 use Rattle.log_judge.specs.Breaches.{breaches_after}
 use Rattle.log_judge.specs.Stands.{terms_of}
 use Rattle.log_judge.proofs.AllFound.{next_within}
-use Rattle.log_parts.specs.Answers.{IsNext, Reads, name_of}
-use Rattle.log_parts.specs.Log.{IsPart}
-use Rattle.log_parts.proofs.First.{first_read}
+use Rattle.log_read.specs.Answers.{IsFirst, IsNext, Reads, begin_of, first_given, name_of}
+use Rattle.log_read.specs.Readings.{IsPictures}
+use Rattle.log_read.specs.declared.begin.Begin.TheVariants.{Anywhere}
+use Rattle.log_read.proofs.First.{first_read}
 use Rattle.breach_view.proofs.Reading.{none_read, stands_count}
 use Rattle.breach_view.proofs.finding.find_within.Goals as goal
 
@@ -18,6 +19,7 @@ pictures-init g c = record {
       c.requires.stands c.requires.none_found c.requires.unread;
   told = refl;
   name = refl;
+  begin = c.requires.begin;
   live = c.requires.live;
   groups = c.requires.groups;
   terms = refl;
@@ -32,15 +34,15 @@ returns-in-Ok-false-clause-read g c file e =
     let so_far = i.so_far in
     let names = c.args.tables.now.plan.names in
     let next = subst (λ n. Reads c.pictures.part names (file n) so_far.pictures →
-    IsNext names (file n) so_far.pictures c.next_picture.new.self (Ok c.in-Ok-false.field-0)) i.name
+    IsNext (begin_of c.pictures.part) names (file n) so_far.pictures c.next_picture.new.self (Ok c.in-Ok-false.field-0)) i.name
     (c.in-Ok-false.ensures.next file (i.told ∙ e) so_far.pictures) (so_far.reads file e) in
-    let last = subst (λ b. IsNext names (file (name_of c.args.part.now)) so_far.pictures c.next_picture.new.self (Ok b)) c.in-Ok-false.field-0-test next in
+    let last = subst (λ b. IsNext (begin_of c.pictures.part) names (file (name_of c.args.part.now)) so_far.pictures c.next_picture.new.self (Ok b)) c.in-Ok-false.field-0-test next in
     record {
       pictures = so_far.pictures;
-      log = last.0;
+      log = rw i.begin at last.0;
       stands = so_far.stands;
       found_are = so_far.found_are;
-      first = first_read c.next_picture.new.self names (file (name_of c.args.part.now)) so_far.pictures last.1;
+      first = rw (c.in-Ok-false.ensures.begin, i.begin) at (first_read c.next_picture.new.self names (file (name_of c.args.part.now)) so_far.pictures last.1);
     }
 
 pub returns-in-Err-Fault-clause-read : goal.returns-in-Err-Fault-clause-read
@@ -52,10 +54,10 @@ returns-in-Err-At-clause-read g c file e =
     let so_far = i.so_far in
     let names = c.args.tables.now.plan.names in
     let next = subst (λ n. Reads c.pictures.part names (file n) so_far.pictures →
-    IsNext names (file n) so_far.pictures c.next_picture.new.self (Err c.in-Err-At.field-0)) i.name
+    IsNext (begin_of c.pictures.part) names (file n) so_far.pictures c.next_picture.new.self (Err c.in-Err-At.field-0)) i.name
     (c.in-Err-At.ensures.next file (i.told ∙ e) so_far.pictures) (so_far.reads file e) in
-    let last = subst (λ r. IsNext names (file (name_of c.args.part.now)) so_far.pictures c.next_picture.new.self (Err r)) c.in-Err-At.field-0-is next in
-    let told : IsPart names (file (name_of c.args.part.now)) so_far.pictures (Some (c.in-Err-At.line, c.in-Err-At.why)) = last in
+    let last = subst (λ r. IsNext (begin_of c.pictures.part) names (file (name_of c.args.part.now)) so_far.pictures c.next_picture.new.self (Err r)) c.in-Err-At.field-0-is next in
+    let told : IsPictures Anywhere names (file (name_of c.args.part.now)) so_far.pictures (Some (c.in-Err-At.line, c.in-Err-At.why)) = rw i.begin at last in
     (refl, (so_far.pictures, told))
 
 pub pictures-preserved : goal.pictures-preserved
@@ -77,13 +79,14 @@ pictures-preserved g c =
             (λ some. c.in-Ok.ensures.found h so_far.stands some
             ∙ ap (λ (x : Terms). c.pictures.found.items ++ breaches_after r x (h ++ p ∷ []) (length h - 1)) i.terms);
         reads = λ file e.
-            let next = subst (λ n. Reads c.pictures.part names (file n) h → IsNext names (file n) h c.next_picture.new.self (Ok c.in-Ok-true.field-0)) i.name
+            let next = subst (λ n. Reads c.pictures.part names (file n) h → IsNext (begin_of c.pictures.part) names (file n) h c.next_picture.new.self (Ok c.in-Ok-true.field-0)) i.name
             (c.in-Ok-true.ensures.next file (i.told ∙ e) h) (so_far.reads file e) in
-            let read = subst (λ b. IsNext names (file (name_of c.args.part.now)) h c.next_picture.new.self (Ok b)) c.in-Ok-true.field-0-test next in
+            let read = subst (λ b. IsNext (begin_of c.pictures.part) names (file (name_of c.args.part.now)) h c.next_picture.new.self (Ok b)) c.in-Ok-true.field-0-test next in
             subst (λ (q : Picture). Reads c.next_picture.new.self names (file (name_of c.args.part.now)) (h ++ q ∷ [])) (sym c.picture.ensures) read;
       };
       told = c.next_picture.ensures.contents_stay ∙ i.told;
       name = c.next_picture.ensures.name ∙ i.name;
+      begin = c.next_picture.ensures.begin ∙ i.begin;
       live = c.in-Ok-true.ensures.live;
       groups = c.show.ensures.groups ∙ i.groups;
       terms = c.show.ensures.terms ∙ i.terms;

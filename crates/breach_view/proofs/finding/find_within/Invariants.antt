@@ -2,7 +2,8 @@ use Rattle.std.proofs.Common.{◌≡◌, ◌≤◌, ◌-◌, true}
 use Rattle.pua_model.specs.Plan.{groups_in}
 use Rattle.sig_tables.specs.SiteRules.{rules_of}
 use Rattle.log_judge.specs.Stands.{groups_of, seconds_of, terms_of}
-use Rattle.log_parts.specs.Answers.{is_live, name_of, pictures_given}
+use Rattle.log_read.specs.Answers.{begin_of, is_live, name_of, pictures_given}
+use Rattle.log_read.specs.declared.begin.Begin.TheVariants.{Anywhere}
 use Rattle.breach_view.proofs.Reading.{SoFar}
 use Rattle.breach_view.proofs.finding.find_within.Given as goal
 
@@ -12,6 +13,7 @@ invariant-pictures g l = record {
       (rules_of l.tables.times l.tables.intergreens) (terms_of l.fn.judge);
   told : g.F.Files.told l.files ≡ g.F.Files.told l.fn.files;
   name : name_of l.part ≡ name_of l.fn.part;
+  begin : begin_of l.part ≡ Anywhere;
   live : is_live l.part ≡ true;
   groups : groups_of l.judge ≡ groups_in l.tables.plan;
   terms : terms_of l.judge ≡ terms_of l.fn.judge;

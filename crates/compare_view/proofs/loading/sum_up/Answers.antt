@@ -2,7 +2,7 @@ use Rattle.std.proofs.Common.{◌≡◌, ◌∙◌, [], ℕ, List, Option, refl,
 use Rattle.std.specs.Prelude.{unwrap_or}
 use Rattle.sig_io.specs.Outside.{Contents}
 use Rattle.sums_view.specs.Summed.{AreSumsIn, IsUnsummed}
-use Rattle.log_records.specs.Answers.{names_of}
+use Rattle.log_read.specs.RecordAnswers.{names_of}
 use Rattle.sums_view.proofs.Reading.{unread}
 use Rattle.compare_view.proofs.loading.sum_up.Goals as goal
 

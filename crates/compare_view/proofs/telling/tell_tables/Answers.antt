@@ -1,4 +1,4 @@
-use Rattle.log_records.specs.Answers.{names_of}
+use Rattle.log_read.specs.RecordAnswers.{names_of}
 use Rattle.compare_view.specs.Form.{asked_in}
 use Rattle.compare_view.proofs.Texts.{told}
 use Rattle.compare_view.proofs.telling.tell_tables.Goals as goal

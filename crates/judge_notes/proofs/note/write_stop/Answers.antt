@@ -3,7 +3,7 @@ use Rattle.std.specs.Fmt.{decimal}
 use Rattle.std.specs.Prelude.{codes}
 use Rattle.std.specs.Io.KnownBytes.{append_known}
 use Rattle.log_site.specs.Reasons.{told_text}
-use Rattle.judge_notes.specs.Notes.{line_reason}
+use Rattle.log_read.specs.Whys.{why_name}
 use Rattle.judge_notes.proofs.Pieces.{about, refusal}
 use Rattle.judge_notes.proofs.note.write_stop.Goals as goal
 
@@ -18,7 +18,7 @@ returns-in-RefusedLine g c = λ clean.
     let told = c.name_alone.result in
     let word = c.in-RefusedLine.word.now in
     let line = c.in-RefusedLine.line in
-    let reason : told_text told ≡ line_reason c.in-RefusedLine.why = c.name_alone.ensures ∙ c.line_reason.ensures in
+    let reason : told_text told ≡ why_name c.in-RefusedLine.why = c.name_alone.ensures ∙ c.why_name.ensures in
     rw c.in-RefusedLine.is
     (rw c.as_bytes-in-RefusedLine.ensures.value at (c.write_refusal.ensures clean)
     ∙ ap (λ l. append_known (g.N.Sink.taken c.args.notes.now) l)

@@ -22,5 +22,5 @@ returns-in-Ok-names_of c =
     c.copy_text.ensures.length
 
 -- src/variables.rt:28:1
-pub returns : goal.returns
-returns c = no_memory refl refl
+pub returns-in-Err : goal.returns-in-Err
+returns-in-Err c = no_memory refl refl

@@ -1,5 +1,5 @@
 use Rattle.std.proofs.Common.{◌∙◌, Ok, Err, length, ap, subst, refl}
-use Rattle.log_lines.specs.Answers.{name_of}
+use Rattle.log_read.specs.Answers.{name_of}
 use Rattle.junction_run.specs.Audited.{AreEnds}
 use Rattle.junction_run.specs.Sites.{site_of_tables}
 use Rattle.junction_run.proofs.AuditEnds.{judged_stop, judged_at, audit_is}

@@ -1,7 +1,8 @@
 use Rattle.std.proofs.Common.{◌∙◌, ◌++◌, ◌∷◌, [], Some, Ok, Err, replicate, ap, sym, subst, refl, arith}
 use Rattle.sig_types.specs.declared.aspect.Aspect.TheVariants.{Red}
-use Rattle.log_lines.specs.Answers.{IsNext, Reads, name_of}
-use Rattle.log_lines.specs.Log.{IsLog}
+use Rattle.log_read.specs.Answers.{IsNext, Reads, begin_of, name_of}
+use Rattle.log_read.specs.Readings.{IsPictures}
+use Rattle.log_read.specs.declared.begin.Begin.TheVariants.{AtOne}
 use Rattle.sig_tables.specs.SiteRules.{rules_of}
 use Rattle.sig_audit.specs.Judged.{StandsFor}
 use Rattle.junction_run.proofs.AuditEnds.{none_read}
@@ -21,6 +22,7 @@ loop-auditor-init g c = (
   c.new-auditor.ensures.seconds ∙ sym c.requires.none_given,
   omega (arith, c.requires.none_given),
   omega arith,
+  c.requires.begin,
 )
 
 pub returns-in-Ok-false-clause-judged : goal.returns-in-Ok-false-clause-judged
@@ -29,10 +31,10 @@ returns-in-Ok-false-clause-judged g c = λ file e.
     let so_far = i.0 in
     let names = c.args.plan.now.names in
     let next = subst (λ n. Reads c.loop-auditor.lines names (file n) so_far.pictures →
-    IsNext names (file n) so_far.pictures c.next_picture.new.self (Ok c.in-Ok-false.field-0)) i.2
+    IsNext (begin_of c.loop-auditor.lines) names (file n) so_far.pictures c.next_picture.new.self (Ok c.in-Ok-false.field-0)) i.2
     (c.in-Ok-false.ensures.next file (i.1 ∙ e) so_far.pictures) (so_far.reads file e) in
-    let last = subst (λ b. IsNext names (file (name_of c.args.lines.now)) so_far.pictures c.next_picture.new.self (Ok b)) c.in-Ok-false.field-0-test next in
-    (so_far.pictures, last.0, c.verdict.ensures.verdict _ _ so_far.stands)
+    let last = subst (λ b. IsNext (begin_of c.loop-auditor.lines) names (file (name_of c.args.lines.now)) so_far.pictures c.next_picture.new.self (Ok b)) c.in-Ok-false.field-0-test next in
+    (so_far.pictures, rw i.8 at last.0, c.verdict.ensures.verdict _ _ so_far.stands)
 
 pub returns-in-Err-Fault-clause-judged : goal.returns-in-Err-Fault-clause-judged
 returns-in-Err-Fault-clause-judged g c = λ file e. refl
@@ -43,10 +45,10 @@ returns-in-Err-At-clause-judged g c = λ file e.
     let so_far = i.0 in
     let names = c.args.plan.now.names in
     let next = subst (λ n. Reads c.loop-auditor.lines names (file n) so_far.pictures →
-    IsNext names (file n) so_far.pictures c.next_picture.new.self (Err c.in-Err-At.field-0)) i.2
+    IsNext (begin_of c.loop-auditor.lines) names (file n) so_far.pictures c.next_picture.new.self (Err c.in-Err-At.field-0)) i.2
     (c.in-Err-At.ensures.next file (i.1 ∙ e) so_far.pictures) (so_far.reads file e) in
-    let last = subst (λ r. IsNext names (file (name_of c.args.lines.now)) so_far.pictures c.next_picture.new.self (Err r)) c.in-Err-At.field-0-is next in
-    let told : IsLog names (file (name_of c.args.lines.now)) so_far.pictures (Some (c.in-Err-At.line, c.in-Err-At.why)) = last in
+    let last = subst (λ r. IsNext (begin_of c.loop-auditor.lines) names (file (name_of c.args.lines.now)) so_far.pictures c.next_picture.new.self (Err r)) c.in-Err-At.field-0-is next in
+    let told : IsPictures AtOne names (file (name_of c.args.lines.now)) so_far.pictures (Some (c.in-Err-At.line, c.in-Err-At.why)) = rw i.8 at last in
     rw c.in-Err-At.field-0-is (refl, so_far.pictures, told)
 
 pub loop-auditor-preserved : goal.loop-auditor-preserved
@@ -60,9 +62,9 @@ loop-auditor-preserved g c =
         stands = c.take.ensures.stands _ so_far.stands;
         reads = λ file e.
             let next = subst (λ n. Reads c.loop-auditor.lines names (file n) so_far.pictures →
-            IsNext names (file n) so_far.pictures c.next_picture.new.self (Ok c.in-Ok-true.field-0)) i.2
+            IsNext (begin_of c.loop-auditor.lines) names (file n) so_far.pictures c.next_picture.new.self (Ok c.in-Ok-true.field-0)) i.2
             (c.in-Ok-true.ensures.next file (i.1 ∙ e) so_far.pictures) (so_far.reads file e) in
-            let read = subst (λ b. IsNext names (file (name_of c.args.lines.now)) so_far.pictures c.next_picture.new.self (Ok b))
+            let read = subst (λ b. IsNext (begin_of c.loop-auditor.lines) names (file (name_of c.args.lines.now)) so_far.pictures c.next_picture.new.self (Ok b))
             c.in-Ok-true.field-0-test next in
             subst (λ p. Reads c.next_picture.new.self names (file (name_of c.args.lines.now)) (so_far.pictures ++ p ∷ [])) (sym c.picture.ensures) read;
       },
@@ -73,4 +75,5 @@ loop-auditor-preserved g c =
       omega (arith, c.take.ensures.seconds, i.5, given),
       c.in-Ok-true.ensures.at_most (ap Ok c.in-Ok-true.field-0-test),
       omega (arith, i.7, c.next_picture.ensures.later),
+      c.next_picture.ensures.begin ∙ i.8,
     )

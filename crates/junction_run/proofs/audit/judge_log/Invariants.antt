@@ -1,7 +1,8 @@
 use Rattle.std.proofs.Common.{◌≡◌, ◌≤◌, ◌-◌, true}
 use Rattle.pua_model.specs.Plan.{groups_in}
 use Rattle.sig_tables.specs.SiteRules.{rules_of}
-use Rattle.log_lines.specs.Answers.{is_live, name_of, pictures_given}
+use Rattle.log_read.specs.Answers.{begin_of, is_live, name_of, pictures_given}
+use Rattle.log_read.specs.declared.begin.Begin.TheVariants.{AtOne}
 use Rattle.sig_audit.specs.Judged.{groups_of, seconds_taken}
 use Rattle.junction_run.proofs.AuditEnds.{SoFar}
 use Rattle.junction_run.proofs.audit.judge_log.Given as goal
@@ -16,6 +17,7 @@ invariant-loop-auditor g l =
     × (seconds_taken l.auditor ≡ pictures_given l.lines)
     × (pictures_given l.lines ≤ 604801)
     × (g.F.Files.faults l.fn.files ≤ g.F.Files.faults l.files)
+    × (begin_of l.lines ≡ AtOne)
 
 abbrev pub decreases-loop-auditor : goal.decreases-loop-auditor
 decreases-loop-auditor g l = 604802 - pictures_given l.lines

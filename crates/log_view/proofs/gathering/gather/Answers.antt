@@ -1,7 +1,8 @@
 use Rattle.std.proofs.Common.{[], ◌∙◌, Ok, arith, length, sym, ap}
-use Rattle.log_records.specs.Answers.{names_of, record_given, records_given}
+use Rattle.log_read.specs.RecordAnswers.{names_of, record_given, records_given}
+use Rattle.log_read.proofs.Ranges.{recorded}
+use Rattle.log_read.proofs.Said.{said_at_one}
 use Rattle.log_view.proofs.Drawing.{rows_of}
-use Rattle.log_view.proofs.Ranges.{ranged}
 use Rattle.log_view.proofs.Reading.{draw_first, draw_next, draw_whole, ends_early, undrawn, undrawn_next}
 use Rattle.log_view.proofs.Showable.{showable}
 use Rattle.log_view.proofs.gathering.gather.Goals as goal
@@ -16,6 +17,8 @@ loop-line-init g c = record {
       c.in-Ok.ensures.given c.in-Ok.ensures.opened (rw c.names.ensures.names at c.in-Ok-begin.ensures.drawn) c.in-Ok-begin.ensures.covers;
   told = c.in-Ok.ensures.contents_stay;
   name = c.in-Ok.ensures.name;
+  one = c.in-Ok.ensures.begin;
+  found = c.in-Ok.ensures.found;
   live = c.in-Ok.ensures.live;
   few = c.in-Ok.ensures.few;
   count = c.in-Ok.ensures.given;
@@ -31,13 +34,15 @@ loop-line-preserved g c =
       drawn = draw_next (g.F.Files.told c.args.files.now) c.args.log.now c.loop-line.records c.next_record.new.self c.args.window
           c.loop-line.diagram c.take_record.new.diagram c.requires
           before.name c.in-Ok-true.ensures.names (c.in-Ok-true.ensures.given found)
-          (λ file told. rw c.in-Ok-true.field-0-test at (c.in-Ok-true.ensures.next file (before.told ∙ told))) (c.in-Ok-true.ensures.said found)
+          (λ file told. rw c.in-Ok-true.field-0-test at (c.in-Ok-true.ensures.next file (before.told ∙ told))) (said_at_one c.next_record.new.self (c.in-Ok-true.ensures.begin ∙ before.one) (c.in-Ok-true.ensures.said found))
           (λ names records window is second drawn. rw c.current.ensures at
           (c.in-Ok-take_record.ensures.drawn names records window is (rw c.current.ensures second) drawn))
           (λ records second small covers. rw c.current.ensures at
           (c.in-Ok-take_record.ensures.covers records (rw c.current.ensures second) small covers)) before.drawn;
       told = c.in-Ok-true.ensures.contents_stay ∙ before.told;
       name = c.in-Ok-true.ensures.name ∙ before.name;
+      one = c.in-Ok-true.ensures.begin ∙ before.one;
+      found = c.in-Ok-true.ensures.by ∙ before.found;
       live = c.in-Ok-true.ensures.live;
       few = rw c.in-Ok-true.ensures.names before.few;
       count = omega (arith, c.in-Ok-true.ensures.given found, before.count);
@@ -49,8 +54,8 @@ pub take_record-requires-clause-groups : goal.take_record-requires-clause-groups
 take_record-requires-clause-groups g c =
     let new = c.next_record.new.self in
     let before = c.loop-line.invariant.drawn in
-    let said = c.in-Ok-true.ensures.said (ap Ok c.in-Ok-true.field-0-test) in
-    let is = ranged (names_of new) (records_given new) said.0 (record_given new) said.1 in
+    let said = said_at_one new (c.in-Ok-true.ensures.begin ∙ c.loop-line.invariant.one) (c.in-Ok-true.ensures.said (ap Ok c.in-Ok-true.field-0-test)) in
+    let is = recorded (names_of new) (records_given new) said.0 (record_given new) said.1 in
     let rows = rows_of (names_of c.loop-line.records) before.records c.args.window.from c.args.window.to c.loop-line.diagram before.drawn in
     rw c.current.ensures (is.picture ∙ ap length c.in-Ok-true.ensures.names ∙ sym rows)
 
@@ -64,7 +69,7 @@ pub returns-then-count-window-clause-gathering : goal.returns-then-count-window-
 returns-then-count-window-clause-gathering g c file told =
     let before = c.loop-line.invariant in
     ends_early (g.F.Files.told c.args.files.now) c.args.log.now c.loop-line.records c.next_record.new.self c.args.window c.loop-line.diagram
-    c.count-count.result before.name c.count-count.ensures
+    c.count-count.result before.name before.one before.found c.count-count.ensures
     (c.in-Ok-false.ensures.no_record (ap Ok c.in-Ok-false.field-0-test)) (omega (arith, c.if-count-window.true))
     (λ f t. rw c.in-Ok-false.field-0-test at (c.in-Ok-false.ensures.next f (before.told ∙ t))) before.drawn file told
 
@@ -72,7 +77,7 @@ pub returns-in-Ok-false-clause-gathering : goal.returns-in-Ok-false-clause-gathe
 returns-in-Ok-false-clause-gathering g c file told =
     let before = c.loop-line.invariant in
     draw_whole (g.F.Files.told c.args.files.now) c.args.log.now c.loop-line.records c.next_record.new.self c.args.window c.loop-line.diagram
-    c.count-count.result c.requires before.name c.count-count.ensures
+    c.count-count.result c.requires before.name before.one before.found c.count-count.ensures
     (c.in-Ok-false.ensures.no_record (ap Ok c.in-Ok-false.field-0-test)) (omega (arith, c.if-count-window.false))
     (λ f t. rw c.in-Ok-false.field-0-test at (c.in-Ok-false.ensures.next f (before.told ∙ t))) before.drawn file told
 
@@ -88,4 +93,4 @@ returns-in-Err-next_record-clause-gathering g c file told =
     let before = c.loop-line.invariant in
     rw c.stop_of-in-Err-next_record.ensures
     (undrawn_next (g.F.Files.told c.args.files.now) c.args.log.now c.loop-line.records c.next_record.new.self c.args.window c.loop-line.diagram
-    c.in-Err-next_record.stop before.name (λ f t. c.in-Err-next_record.ensures.next f (before.told ∙ t)) before.drawn file told)
+    c.in-Err-next_record.stop before.name before.one before.found (λ f t. c.in-Err-next_record.ensures.next f (before.told ∙ t)) before.drawn file told)

@@ -2,7 +2,8 @@ use Rattle.std.proofs.Common.{◌∙◌, ◌++◌, List, ℕ, ap}
 use Rattle.std.specs.Fmt.{decimal}
 use Rattle.std.specs.Prelude.{codes}
 use Rattle.std.specs.Io.KnownBytes.{append_known}
-use Rattle.log_view.specs.Notes.{note_of, reason_name, right_words, stop_note}
+use Rattle.log_view.specs.Notes.{note_of, right_words, stop_note}
+use Rattle.log_read.specs.Whys.{why_name}
 use Rattle.log_view.proofs.stop.write_stop.Goals as goal
 
 pub returns-in-Memory : goal.returns-in-Memory
@@ -35,9 +36,9 @@ pub returns-in-Line : goal.returns-in-Line
 unfolding stop_note
 returns-in-Line g c = λ clean.
     rw c.in-Line.is
-    (rw c.reason_name.ensures at (c.write_line.ensures clean)
+    (rw c.why_name.ensures at (c.write_line.ensures clean)
     ∙ ap (λ (log : List ℕ). append_known (g.N.Sink.taken c.args.notes.now)
-    (note_of (log ++ codes ":" ++ decimal c.in-Line.line ++ codes ": " ++ reason_name c.in-Line.why))) c.log_named-in-Line.ensures)
+    (note_of (log ++ codes ":" ++ decimal c.in-Line.line ++ codes ": " ++ why_name c.in-Line.why))) c.log_named-in-Line.ensures)
 
 pub returns-in-LogEnds : goal.returns-in-LogEnds
 unfolding stop_note

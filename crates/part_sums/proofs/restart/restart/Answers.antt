@@ -13,8 +13,9 @@ returns-clause-sums c = λ groups from records few small most is. record {
     seconds_are = is.seconds_are;
     groups_are = λ g d inside a agrees.
         c.restart_groups.ensures a from (length records) g d (omega (arith, inside, few)) (is.groups_are g d inside a agrees);
+    size = c.restart_detectors.ensures.size;
     detectors_are = λ p d inside f r fronts rears.
-        c.restart_detectors.ensures f r from (length records) p d inside (is.detectors_are p d inside f r fronts rears);
+        c.restart_detectors.ensures.each f r from (length records) p d inside (is.detectors_are p d inside f r fronts rears);
     places_are = λ a agrees. c.in-Ok.ensures a from (length records) (rw c.deref.ensures.value (is.places_are a agrees));
     commands_are = λ a agrees. c.in-Ok-restart_tallies.ensures a from (length records) (rw c.deref-2.ensures.value (is.commands_are a agrees));
     turns_are = λ a agrees. c.in-Ok-restart_tallies-2.ensures a from (length records) (rw c.deref-3.ensures.value (is.turns_are a agrees));

@@ -23,6 +23,9 @@ loop-place-preserved c =
       rest = λ p d behind. set_rest DetectorSums xs i p y d (omega (arith, behind)) ∙ before.rest p d (omega (arith, behind));
     }
 
-pub returns : goal.returns
-returns c = λ f r from n p d inside is.
+pub returns-clause-size : goal.returns-clause-size
+returns-clause-size c = c.loop-place.invariant.size
+
+pub returns-clause-each : goal.returns-clause-each
+returns-clause-each c = λ f r from n p d inside is.
     c.loop-place.invariant.shown f r from n p d (omega (arith, inside, c.loop-place-test.false)) is

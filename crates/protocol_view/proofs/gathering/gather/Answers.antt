@@ -12,6 +12,7 @@ lines-preserved g c =
           c.picture.ensures c.add.ensures.page before.gathered;
       told = c.in-Ok-true.ensures.contents_stay ∙ before.told;
       name = c.in-Ok-true.ensures.name ∙ before.name;
+      begin = c.in-Ok-true.ensures.begin ∙ before.begin;
       live = c.in-Ok-true.ensures.live;
       groups = c.add.ensures.groups ∙ before.groups;
       seconds = omega (arith, c.add.ensures.seconds, c.in-Ok-true.ensures.given found, before.seconds);
@@ -23,11 +24,11 @@ pub returns-in-Ok-false-clause-gathering : goal.returns-in-Ok-false-clause-gathe
 returns-in-Ok-false-clause-gathering g c file told =
     let before = c.lines.invariant in
     gather_whole (g.F.Files.told c.args.files.now) c.args.plan.now.names c.args.log.now c.lines.part c.next_picture.new.self c.lines.page
-    c.first.result before.name (λ f t. rw c.in-Ok-false.field-0-test at (c.in-Ok-false.ensures.next f (before.told ∙ t))) c.first.ensures.told before.gathered file told
+    c.first.result before.name before.begin c.in-Ok-false.ensures.begin (λ f t. rw c.in-Ok-false.field-0-test at (c.in-Ok-false.ensures.next f (before.told ∙ t))) c.first.ensures.told before.gathered file told
 
 pub returns-in-Err-next_picture-clause-gathering : goal.returns-in-Err-next_picture-clause-gathering
 returns-in-Err-next_picture-clause-gathering g c file told =
     let before = c.lines.invariant in
     unread_next (g.F.Files.told c.args.files.now) c.args.plan.now.names c.args.log.now c.lines.part c.next_picture.new.self c.lines.page
-    c.in-Err-next_picture.refusal c.stop_of.result before.name (λ f t. c.in-Err-next_picture.ensures.next f (before.told ∙ t)) c.stop_of.ensures.unread
+    c.in-Err-next_picture.refusal c.stop_of.result before.name before.begin (λ f t. c.in-Err-next_picture.ensures.next f (before.told ∙ t)) c.stop_of.ensures.unread
     before.gathered file told

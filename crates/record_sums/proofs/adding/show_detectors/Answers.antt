@@ -27,6 +27,9 @@ loop-place-preserved c =
       rest = λ p d behind. set_rest DetectorSums xs i p c.show.result d (omega (arith, at, behind)) ∙ before.rest p d (omega (arith, behind));
     }
 
-pub returns : goal.returns
-returns c = λ f r n p d next small inside here there is.
+pub returns-clause-size : goal.returns-clause-size
+returns-clause-size c = c.loop-place.invariant.size
+
+pub returns-clause-each : goal.returns-clause-each
+returns-clause-each c = λ f r n p d next small inside here there is.
     c.loop-place.invariant.shown f r n p d next small (omega (arith, inside, c.loop-place-test.false)) here there is

@@ -15,6 +15,7 @@ returns-then-rec-sums-clause-sums c = λ groups from to records wide next small 
       sums = rw (take-append-le to records (rec ∷ []) most) record {
         seconds_are = is.sums.seconds_are;
         groups_are = is.sums.groups_are;
+        size = is.sums.size;
         detectors_are = is.sums.detectors_are;
         places_are = is.sums.places_are;
         commands_are = is.sums.commands_are;

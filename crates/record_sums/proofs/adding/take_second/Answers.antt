@@ -34,9 +34,10 @@ returns-in-Ok-show_refusals-clause-adds c = λ groups records wide next small is
           rw (last, refused.groups)
           (c.show_groups.ensures a (length records) g d next small (omega (arith, inside, wide)) (agrees_last Aspect (shown_by g) Red records rec a second next agrees)
           (is.groups_are g d inside a (agrees_still Aspect (shown_by g) Red records rec a agrees)));
+      size = ap length refused.detectors ∙ c.show_detectors.ensures.size;
       detectors_are = λ p d inside f r fronts rears.
           rw (last, refused.detectors)
-          (c.show_detectors.ensures f r (length records) p d next small inside (agrees_last ℕ (fronts_by p) 0 records rec f second next fronts)
+          (c.show_detectors.ensures.each f r (length records) p d next small inside (agrees_last ℕ (fronts_by p) 0 records rec f second next fronts)
           (agrees_last ℕ (rears_by p) 0 records rec r second next rears)
           (is.detectors_are p d inside f r (agrees_still ℕ (fronts_by p) 0 records rec f fronts) (agrees_still ℕ (rears_by p) 0 records rec r rears)));
       places_are = rw refused.places (tallies_more StagePlace place_code places_by old.from second records rec old.places.items c.show_items.new.tallies.items next small

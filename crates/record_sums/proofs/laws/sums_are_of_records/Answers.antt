@@ -14,6 +14,7 @@ returns c = λ groups from to records x is.
       sums = record {
         seconds_are = s.seconds_are;
         groups_are = λ g d inside. s.groups_are g d inside (told (shown_by g) Red rs) (λ t most. refl);
+        size = s.size;
         detectors_are = λ p d inside. s.detectors_are p d inside (told (fronts_by p) 0 rs) (told (rears_by p) 0 rs) (λ t most. refl) (λ t most. refl);
         places_are = s.places_are (told places_by [] rs) (λ t most. refl);
         commands_are = s.commands_are (told commands_by [] rs) (λ t most. refl);

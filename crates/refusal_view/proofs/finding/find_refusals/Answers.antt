@@ -1,6 +1,6 @@
 use Rattle.std.proofs.Common.{◌≡◌, ◌∙◌, [], Ok, arith, ap, length, sym}
 use Rattle.sig_tables.specs.SiteRules.{rules_of}
-use Rattle.record_parts.specs.Answers.{names_of}
+use Rattle.log_read.specs.RecordAnswers.{names_of}
 use Rattle.refusal_text.specs.Kept.{groups_of}
 use Rattle.refusal_view.proofs.Reading.{read_next, read_whole, unread_next}
 use Rattle.refusal_view.proofs.finding.find_refusals.Goals as goal
@@ -19,6 +19,8 @@ records-init g c = record {
   told = c.in-Ok.ensures.contents_stay;
   name = c.in-Ok.ensures.name;
   names = c.in-Ok.ensures.names;
+  begin = c.in-Ok.ensures.begin;
+  given = c.in-Ok.ensures.by;
   live = c.in-Ok.ensures.live;
   groups = c.new-refusals.ensures.groups ∙ c.groups.ensures.count;
   count = c.new-refusals.ensures.records ∙ sym c.in-Ok.ensures.given;
@@ -45,6 +47,8 @@ records-preserved g c =
       told = c.in-Ok-true.ensures.contents_stay ∙ before.told;
       name = c.in-Ok-true.ensures.name ∙ before.name;
       names = c.in-Ok-true.ensures.names ∙ before.names;
+      begin = c.in-Ok-true.ensures.begin ∙ before.begin;
+      given = c.in-Ok-true.ensures.by ∙ before.given;
       live = c.in-Ok-true.ensures.live;
       groups = c.in-Ok-show.ensures.groups ∙ before.groups;
       count = omega (arith, c.in-Ok-show.ensures.records, c.in-Ok-true.ensures.given found, before.count);
@@ -56,7 +60,7 @@ pub returns-in-Ok-false-clause-found : goal.returns-in-Ok-false-clause-found
 returns-in-Ok-false-clause-found g c file told =
     let before = c.records.invariant in
     read_whole (g.F.Files.told c.args.files.now) c.args.tables.now.plan.names c.args.log.now c.records.part c.next_record.new.self
-    (rules_of c.args.tables.now.times c.args.tables.now.intergreens) c.args.from c.args.to c.records.refusals before.name before.names
+    (rules_of c.args.tables.now.times c.args.tables.now.intergreens) c.args.from c.args.to c.records.refusals before.name before.names before.begin before.given
     (λ f t. rw c.in-Ok-false.field-0-test at (c.in-Ok-false.ensures.next f (before.told ∙ t))) before.so_far file told
 
 pub returns-in-Err-next_record-clause-found : goal.returns-in-Err-next_record-clause-found
@@ -64,5 +68,5 @@ returns-in-Err-next_record-clause-found g c file told =
     let before = c.records.invariant in
     unread_next (g.F.Files.told c.args.files.now) c.args.tables.now.plan.names c.args.log.now c.records.part c.next_record.new.self
     (rules_of c.args.tables.now.times c.args.tables.now.intergreens) c.args.from c.args.to c.records.refusals c.in-Err-next_record.stop
-    c.stop_of-in-Err-next_record.result before.name before.names (λ f t. c.in-Err-next_record.ensures.next f (before.told ∙ t))
+    c.stop_of-in-Err-next_record.result before.name before.names before.begin before.given (λ f t. c.in-Err-next_record.ensures.next f (before.told ∙ t))
     c.stop_of-in-Err-next_record.ensures.unread before.so_far file told

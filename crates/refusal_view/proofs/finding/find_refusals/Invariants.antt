@@ -1,7 +1,8 @@
 use Rattle.std.proofs.Common.{◌≡◌, ◌≤◌, ◌-◌, true}
 use Rattle.pua_model.specs.Plan.{groups_in}
 use Rattle.sig_tables.specs.SiteRules.{rules_of}
-use Rattle.record_parts.specs.Answers.{is_live, name_of, names_of, records_given}
+use Rattle.log_read.specs.RecordAnswers.{begin_of, is_live, name_of, names_given, names_of, records_given}
+use Rattle.log_read.specs.declared.begin.Begin.TheVariants.{Anywhere}
 use Rattle.refusal_text.specs.Kept.{groups_of, records_of}
 use Rattle.refusal_view.proofs.Reading.{SoFar}
 use Rattle.refusal_view.proofs.finding.find_refusals.Given as goal
@@ -12,6 +13,8 @@ invariant-records g l = record {
   told : g.F.Files.told l.files ≡ g.F.Files.told l.fn.files;
   name : name_of l.part ≡ l.fn.log;
   names : names_of l.part ≡ l.fn.tables.plan.names;
+  begin : begin_of l.part ≡ Anywhere;
+  given : names_given l.part ≡ true;
   live : is_live l.part ≡ true;
   groups : groups_of l.refusals ≡ groups_in l.fn.tables.plan;
   count : records_of l.refusals ≡ records_given l.part;

@@ -1,6 +1,6 @@
 use Rattle.std.proofs.Common.{◌≡◌, ◌∙◌, [], ℕ, List, Option, Err, refl, ap, sym, subst}
 use Rattle.std.specs.Prelude.{MatchOption}
-use Rattle.log_records.specs.Answers.{Reads, name_of, names_of}
+use Rattle.log_read.specs.RecordAnswers.{Reads, name_of, names_of}
 use Rattle.sums_view.specs.Call.{IsTextOf, IsOfParts, IsWhole, written_parts}
 use Rattle.sums_view.specs.Form.{asked_in}
 use Rattle.sums_view.specs.Summed.{ArePartsIn}
@@ -17,7 +17,7 @@ pub returns-in-Err-serves_for-clause-answered : goal.returns-in-Err-serves_for-c
 returns-in-Err-serves_for-clause-answered g c file told =
     let form = c.args.form.now in
     let first = c.in-Ok.records in
-    unserved (asked_in form) file (names_of first) c.in-Err-serves_for.stop _ _ (head_named first (file form.log.now) (c.in-Ok.ensures.opened file told))
+    unserved (asked_in form) file (names_of first) c.in-Err-serves_for.stop _ _ (head_named first (file form.log.now) c.in-Ok.ensures.found (c.in-Ok.ensures.opened file told))
     c.in-Err-serves_for.ensures.stop (λ words. rw c.names.ensures.names at (c.in-Err-serves_for.ensures.lacking (ap Err words))) refl
 
 pub returns-in-Ok-add_up_parts-clause-answered : goal.returns-in-Ok-add_up_parts-clause-answered

@@ -1,5 +1,6 @@
-use Rattle.std.proofs.Common.{◌≡◌, ◌≤◌, ◌-◌, true}
-use Rattle.log_records.specs.Answers.{is_live, name_of, names_of, records_given}
+use Rattle.std.proofs.Common.{◌≡◌, ◌≤◌, ◌-◌, true, false}
+use Rattle.log_read.specs.declared.begin.Begin.TheVariants.{AtOne}
+use Rattle.log_read.specs.RecordAnswers.{begin_of, is_live, name_of, names_given, names_of, records_given}
 use Rattle.record_sums.specs.Serves.{serves_of}
 use Rattle.sums_view.proofs.Reading.{SoFar}
 use Rattle.sums_view.proofs.summing.add_up.Given as goal
@@ -11,6 +12,8 @@ invariant-records g l = record {
   told : g.F.Files.told l.files ≡ g.F.Files.told l.fn.files;
   name : name_of l.records ≡ name_of l.fn.records;
   names : names_of l.records ≡ names_of l.fn.records;
+  one : begin_of l.records ≡ AtOne;
+  found : names_given l.records ≡ false;
   live : is_live l.records ≡ true;
   most : records_given l.records ≤ 604801;
   later : g.F.Files.faults l.fn.files ≤ g.F.Files.faults l.files;

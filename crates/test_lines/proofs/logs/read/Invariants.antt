@@ -1,5 +1,5 @@
 use Rattle.std.proofs.Common.{◌≡◌, true}
-use Rattle.log_lines.specs.Answers.{is_live}
+use Rattle.log_read.specs.Answers.{is_live}
 use Rattle.test_lines.proofs.logs.read.Given as goal
 
 abbrev pub invariant-loop : goal.invariant-loop

@@ -1,5 +1,5 @@
 use Rattle.std.proofs.Common.{◌≡◌, true}
-use Rattle.log_records.specs.Answers.{is_live}
+use Rattle.log_read.specs.RecordAnswers.{is_live}
 use Rattle.test_logs.proofs.reasons.read.Given as goal
 
 abbrev pub invariant-loop : goal.invariant-loop

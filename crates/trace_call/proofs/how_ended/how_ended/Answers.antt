@@ -26,8 +26,8 @@ returns-in-Ok-write_ends-clause-ends g c = λ file e.
     (program_of c.in-Ok.loaded.checked.tree) told.0 (name_of c.in-Ok-start.started.1) _ _ loaded.given loaded.runs c.start.ensures.valid
     made.code made.logic made.site loaded.code_is made.name told.1 (told.2 file (c.load_program.ensures.contents_stay ∙ e))
 
-pub returns-clause-ends : goal.returns-clause-ends
-returns-clause-ends g c = λ file e.
+pub returns-in-Err-write_ends-clause-ends : goal.returns-in-Err-write_ends-clause-ends
+returns-in-Err-write_ends-clause-ends g c = λ file e.
     let loaded = c.in-Ok.ensures.loaded file e in
     let asked : EndsWords = record { run = run_named c.args.run; csv = c.args.csv } in
     let site = c.in-Ok.loaded.site in

@@ -21,8 +21,8 @@ returns-in-Ok-tally_seconds-clause-counted g c = λ file e.
     (tallied_none c.args.tally.now c.args.site c.in-Ok.started.0 made.code c.requires.none) in
     tallied_all c.args.site c.args.word.now (name_of c.in-Ok.started.1) file c.tally_seconds.new.tally c.in-Ok.started.0 told.0 made.code made.site made.name told.1 (told.2 file e)
 
-pub returns-clause-counted : goal.returns-clause-counted
-returns-clause-counted g c = λ file e.
+pub returns-in-Err-tally_seconds-clause-counted : goal.returns-in-Err-tally_seconds-clause-counted
+returns-in-Err-tally_seconds-clause-counted g c = λ file e.
     let made = c.in-Ok.ensures in
     let told = c.in-Err-tally_seconds.ensures.tallied (opening (site_of c.in-Ok.started.0) (first_store c.args.site.code)) made.stands refl
     (tallied_none c.args.tally.now c.args.site c.in-Ok.started.0 made.code c.requires.none) in

@@ -3,7 +3,7 @@ use Rattle.vap_ast.specs.Tree.{program_of}
 use Rattle.junction_run.specs.Sites.{site_in}
 use Rattle.trace_call.specs.Form.{LinesWords, files_in}
 use Rattle.trace_call.specs.FormWords.{run_named}
-use Rattle.trace_call.proofs.Counted.{lines_stopped, lines_written, rose_written, site_is, written_no_read}
+use Rattle.trace_call.proofs.Counted.{lines_stopped, lines_written, rose_written, written_no_read}
 use Rattle.trace_call.proofs.lines.lines.Goals as goal
 
 pub returns-in-Ok-count_lines-clause-lines : goal.returns-in-Ok-count_lines-clause-lines
@@ -15,7 +15,7 @@ returns-in-Ok-count_lines-clause-lines g c = λ file e.
     let program = program_of c.in-Ok.loaded.checked.tree in
     lines_written asked file site program loaded.given c.in-Ok-count_lines.lines _ _ _ _ _ _ _
     (c.in-Ok-count_lines.ensures.counted file (c.load_program.ensures.contents_stay ∙ e)
-    (site_is asked.run.program asked.run.site file site program loaded.given) loaded.value loaded.code_is)
+    loaded.given.at_site loaded.value loaded.code_is)
     c.count_lines.ensures.nothing c.as_bytes.ensures.value (c.deref.ensures.value ∙ loaded.text) c.deref-in-Ok-count_lines.ensures.value c.write_lines.ensures.written
 
 pub returns-in-Ok-count_lines-clause-read : goal.returns-in-Ok-count_lines-clause-read
@@ -33,4 +33,4 @@ returns-clause-lines g c = λ file e.
     let program = program_of c.in-Ok.loaded.checked.tree in
     lines_stopped asked file site program loaded.given c.in-Err-count_lines.stop _ _
     (c.in-Err-count_lines.ensures.counted file (c.load_program.ensures.contents_stay ∙ e)
-    (site_is asked.run.program asked.run.site file site program loaded.given) loaded.value loaded.code_is) c.count_lines.ensures.nothing
+    loaded.given.at_site loaded.value loaded.code_is) c.count_lines.ensures.nothing

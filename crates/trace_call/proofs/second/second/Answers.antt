@@ -32,8 +32,8 @@ returns-in-Ok-write_second-clause-listed g c = λ file e.
     (c.in-Ok-new.ensures.before ∙ c.saturating_sub.ensures)
     made.name told.1 (told.2 file (c.load_program.ensures.contents_stay ∙ e))
 
-pub returns-clause-listed : goal.returns-clause-listed
-returns-clause-listed g c = λ file e.
+pub returns-in-Err-write_second-clause-listed : goal.returns-in-Err-write_second-clause-listed
+returns-in-Err-write_second-clause-listed g c = λ file e.
     let loaded = c.in-Ok.ensures.loaded file e in
     let asked : SecondWords = record { run = run_named c.args.run; second = c.args.second } in
     let site = c.in-Ok.loaded.site in

@@ -1,9 +1,8 @@
 use Rattle.std.proofs.Common.{◌∙◌, ◌<◌, ◌++◌, ◌∷◌, [], arith, refl}
-use Rattle.vap_ast.specs.Tree.{program_of}
 use Rattle.junction_run.specs.Form.{Source, ProgramFile, site_files}
 use Rattle.junction_run.specs.Loading.{IsSource, played_at}
 use Rattle.junction_run.proofs.Ends.{among, among_more}
-use Rattle.junction_run.proofs.Texts.{no_site, no_last, last_taken}
+use Rattle.junction_run.proofs.Texts.{no_site, no_last}
 use Rattle.junction_run.specs.FormWords.{site_in}
 use Rattle.junction_run.specs.Sites.{site_of_tables}
 use Rattle.trace_load.proofs.load.load_program.Goals as goal
@@ -33,11 +32,9 @@ returns-in-Err-take_program-clause-word g c =
 
 pub returns-in-Ok-take_program-clause-loaded : goal.returns-in-Ok-take_program-clause-loaded
 returns-in-Ok-take_program-clause-loaded g c = λ file e.
-    let source : Source = ProgramFile c.args.program.now in
     let taken = c.in-Ok-take_program.ensures.program file (c.take_site.ensures.contents_stay ∙ e) in
     rw c.with_program.ensures (record {
-      given = last_taken (played_at source) (IsSource source (file c.args.program.now)) c.args.program.now (site_in c.args.words.now) file
-          (site_of_tables c.in-Ok.tables) (program_of c.in-Ok-take_program.program.checked.tree) (c.in-Ok.ensures.site file e) taken.0;
+      given = record { at_site = c.in-Ok.ensures.site file e; spelled = taken.0 };
       text = taken.1;
       value = taken.2;
       runs = taken.3;

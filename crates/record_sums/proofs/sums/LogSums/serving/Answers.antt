@@ -12,6 +12,7 @@ returns-clause-sums c = λ groups few.
       sums = rw (take_none c.args.to [] refl) record {
         seconds_are = s.seconds_are;
         groups_are = s.groups_are;
+        size = s.size;
         detectors_are = s.detectors_are;
         places_are = s.places_are;
         commands_are = s.commands_are;

@@ -9,8 +9,8 @@ seconds_at_most : (o : Option ℕ) → ((z : ℕ) → o ≡ Some z → z ≤ 99)
 seconds_at_most None range = tt
 seconds_at_most (Some z) range = range z (λ i. Some z)
 
-pub returns-clause-at_most : goal.returns-clause-at_most
-returns-clause-at_most c =
+pub narrow-requires : goal.narrow-requires
+narrow-requires c =
     let count = ap (λ (p : Pairs). p.count) c.self.view_is in
     let is : c.index.result.now ≡ cell_of c.self.inside.cells.items c.args.from.0 c.args.to.0 =
     get_or_read_under c.self.inside.cells.items c.place_of.result (length c.self.inside.cells.items) c.index.result.now None c.index.ensures

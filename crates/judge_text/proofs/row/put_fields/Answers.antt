@@ -1,0 +1,8 @@
+use Rattle.sig_io.proofs.Drafts.{then}
+use Rattle.judge_text.proofs.row.put_fields.Goals as goal
+
+pub returns-in-Hidden : goal.returns-in-Hidden
+returns-in-Hidden g c =
+    rw c.in-Hidden.is
+    (then (then (then (then c.put_name-in-Hidden.ensures c.put-in-Hidden.ensures) c.put_between.ensures) c.put-in-Hidden-2.ensures)
+    c.put_number-in-Hidden.ensures)

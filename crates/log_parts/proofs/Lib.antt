@@ -1,3 +1,0 @@
-pub mod LogLemmas
-pub mod Steps
-pub mod First

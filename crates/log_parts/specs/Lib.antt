@@ -1,4 +1,0 @@
-pub mod Seconds
-pub mod Log
-pub mod Taken
-pub mod Answers

@@ -1,3 +1,0 @@
-pub mod Ranges
-pub mod LogLemmas
-pub mod Steps
