@@ -7,12 +7,15 @@
 mod fields;
 pub mod laws;
 mod log;
+mod named;
 mod refused;
 mod rows;
 mod summary;
 mod words;
 
+pub use fields::put_fault;
 pub use log::{put_header, put_letters, put_second, write_header, write_second};
-pub use refused::put_turn;
+pub use named::{put_group_name, put_named_turn};
+pub use refused::{put_stage_refusal, put_turn};
 pub use summary::{Summary, put_summary};
-pub use words::rule_name;
+pub use words::{fault_name, letter, rule_name};

@@ -1,7 +1,7 @@
 // The beginning of a record, written byte by byte into the room of a buffer.
 //
 // Each piece is written at a place, behind what stands there, and the answer is where it ends.
-ghost use Rattle.std.specs.Prelude.{◌≡◌, ◌+◌, ◌/◌, ◌%◌, ◌<◌, ◌≤◌, ◌++◌, ◌∷◌, [], codes, length, map, take};
+ghost use Rattle.std.specs.Prelude.{◌≡◌, ◌+◌, ◌<◌, ◌≤◌, ◌++◌, ◌∷◌, [], codes, length, map, take};
 ghost use Rattle.std.specs.Fmt.{decimal};
 ghost use Rattle.signal_log.specs.Log.{place_text, head_text};
 ghost use Rattle.sig_types.specs.LogForm.{letter};
@@ -23,67 +23,7 @@ fn put_byte(row: &mut [u8], at: usize, byte: u8) -> usize
     at + 1
 }
 
-// Writes two digits.
-#[inline(always)]
-fn put_pair(row: &mut [u8], at: usize, n: u32) -> usize
-    requires few { n < 100 }
-    requires room { at + 2 ≤ length row.old }
-    ensures end { result ≡ at + 2 }
-    ensures written { take result row.new ≡ take at row.old ++ (48 + n / 10) ∷ (48 + n % 10) ∷ [] }
-    ensures length { length row.new ≡ length row.old }
-{
-    let at = put_byte(row, at, b'0' + (n / 10) as u8);
-    put_byte(row, at, b'0' + (n % 10) as u8)
-}
-
-// Writes a number of one digit or two in decimal.
-#[inline(always)]
-fn put_two(row: &mut [u8], at: usize, n: u32) -> usize
-    requires few { n < 100 }
-    requires room { at + 2 ≤ length row.old }
-    ensures end { result ≤ at + 2 }
-    ensures written { take result row.new ≡ take at row.old ++ decimal n }
-    ensures length { length row.new ≡ length row.old }
-{
-    if n < 10 {
-        return put_byte(row, at, b'0' + n as u8);
-    }
-    put_pair(row, at, n)
-}
-
-// Writes a number of at most four digits in decimal.
-#[inline(always)]
-fn put_four(row: &mut [u8], at: usize, n: u32) -> usize
-    requires few { n < 10000 }
-    requires room { at + 4 ≤ length row.old }
-    ensures end { result ≤ at + 4 }
-    ensures written { take result row.new ≡ take at row.old ++ decimal n }
-    ensures length { length row.new ≡ length row.old }
-{
-    if n < 100 {
-        return put_two(row, at, n);
-    }
-    let at = put_two(row, at, n / 100);
-    put_pair(row, at, n % 100)
-}
-
-// Writes a number of at most six digits in decimal, as all numbers of a log are.
-#[inline(always)]
-fn put_six(row: &mut [u8], at: usize, n: u32) -> usize
-    requires few { n < 1000000 }
-    requires room { at + 6 ≤ length row.old }
-    ensures end { result ≤ at + 6 }
-    ensures written { take result row.new ≡ take at row.old ++ decimal n }
-    ensures length { length row.new ≡ length row.old }
-{
-    if n < 10_000 {
-        return put_four(row, at, n);
-    }
-    let at = put_four(row, at, n / 100);
-    put_pair(row, at, n % 100)
-}
-
-// Writes a number in decimal. A log has none of more than six digits.
+// Writes a number in decimal.
 #[inline(always)]
 fn put_number(row: &mut [u8], at: usize, n: u32) -> usize
     requires { at + 10 ≤ length row.old }
@@ -91,9 +31,6 @@ fn put_number(row: &mut [u8], at: usize, n: u32) -> usize
     ensures written { take result row.new ≡ take at row.old ++ decimal n }
     ensures length { length row.new ≡ length row.old }
 {
-    if n < 1_000_000 {
-        return put_six(row, at, n);
-    }
     let mut buffer = Buffer::new();
     let digits = buffer.format(n).as_bytes();
     let end = at + digits.len();
