@@ -5,8 +5,8 @@ ghost use Rattle.log_read.specs.Seconds.{first_after, first_told, second_in};
 use crate::begin::Begin;
 use sig_types::text::{cut_at, number};
 
-// The most that nine digits tell.
-const LAST: u32 = 999_999_999;
+/// The last second with which a log can begin: the most that nine digits tell.
+pub const LAST_BEGIN: u32 = 999_999_999;
 
 // The second that a line tells before its first bar: a number from 1 on, of at most nine digits.
 fn second_in(line: &[u8]) -> Option<u32>
@@ -14,7 +14,7 @@ fn second_in(line: &[u8]) -> Option<u32>
     ensures range { IfSome result (λ n. (1 ≤ n) × (n ≤ 999999999)) }
 {
     let (text, _) = cut_at(b'|', line)?;
-    number(text, 1, LAST)
+    number(text, 1, LAST_BEGIN)
 }
 
 // The first second of a log whose first record is this line; 1 where it tells none.
