@@ -7,22 +7,10 @@
 mod top;
 
 use junction_run::{LoadStop, Status, Stop, exit_status, write_stop};
-use sig_io::{DiskFiles, ErrSink, FreeGate, OutSink};
-use std::alloc::{AllocError, Global};
-use std::env::Args;
-use std::io::ErrorKind;
+use sig_io::{DiskFiles, ErrSink, FreeGate, OutSink, words_of};
+use std::env;
 use std::process::ExitCode;
-use std::{env, io};
 use top::program;
-
-// The words after the program's name. A word that is no UTF-8 makes the words no form, and none stand for it.
-fn words_of(alloc: Global, args: io::Result<Args>) -> Result<Vec<String>, AllocError> {
-    match args {
-        Ok(args) => args.skip(1).collect(alloc),
-        Err(error) if error.kind() == ErrorKind::OutOfMemory => Err(AllocError),
-        Err(_) => Ok(Vec::new(alloc)),
-    }
-}
 
 fn main(rt: HostRuntime) -> ExitCode {
     let alloc = rt.alloc();

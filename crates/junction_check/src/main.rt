@@ -5,22 +5,10 @@
 //! had, which is noted.
 #![tactic(auto)]
 
-use sig_io::{DiskFiles, ErrSink, OutSink};
+use sig_io::{DiskFiles, ErrSink, OutSink, words_of};
 use site_check::{check_junction, check_status, refuse_for_memory};
-use std::alloc::{AllocError, Global};
-use std::env::Args;
-use std::io::ErrorKind;
+use std::env;
 use std::process::ExitCode;
-use std::{env, io};
-
-// The words after the program's name. A word that is no UTF-8 makes the words no form, and none stand for it.
-fn words_of(alloc: Global, args: io::Result<Args>) -> Result<Vec<String>, AllocError> {
-    match args {
-        Ok(args) => args.skip(1).collect(alloc),
-        Err(error) if error.kind() == ErrorKind::OutOfMemory => Err(AllocError),
-        Err(_) => Ok(Vec::new(alloc)),
-    }
-}
 
 fn main(rt: HostRuntime) -> ExitCode {
     let alloc = rt.alloc();

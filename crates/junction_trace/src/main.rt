@@ -3,23 +3,12 @@
 #![tactic(auto)]
 
 use junction_run::{LoadStop, Status, Stop as RunStop, exit_status};
-use sig_io::{DiskFiles, ErrSink, Files, OutSink, Sink};
-use std::alloc::{AllocError, Global};
-use std::env::Args;
-use std::io::ErrorKind;
+use sig_io::{DiskFiles, ErrSink, Files, OutSink, Sink, words_of};
+use std::alloc::Global;
+use std::env;
 use std::process::ExitCode;
-use std::{env, io};
 use trace_call::{Stop, trace, write_stop};
 use trace_load::KeptFiles;
-
-// The words after the program's name. A word that is no UTF-8 makes the words no form, and none stand for it.
-fn words_of(alloc: Global, args: io::Result<Args>) -> Result<Vec<String>, AllocError> {
-    match args {
-        Ok(args) => args.skip(1).collect(alloc),
-        Err(error) if error.kind() == ErrorKind::OutOfMemory => Err(AllocError),
-        Err(_) => Ok(Vec::new(alloc)),
-    }
-}
 
 // Does what the words ask for. The plan, the times and the intergreens are kept as they are read, so that further runs of the
 // same site read none of them once more.

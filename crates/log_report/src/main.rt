@@ -10,23 +10,12 @@ use compare_view::report_compare;
 use log_view::{Status, Stop, exit_status, report, write_stop};
 use protocol_view::report_protocol;
 use refusal_view::report_refusals;
-use sig_io::{DiskFiles, ErrSink, Files, OutSink, Sink};
+use sig_io::{DiskFiles, ErrSink, Files, OutSink, Sink, words_of};
 use site_view::{has_site, report_site};
-use std::alloc::{AllocError, Global};
-use std::env::Args;
-use std::io::ErrorKind;
+use std::alloc::Global;
+use std::env;
 use std::process::ExitCode;
-use std::{env, io};
 use sums_view::report_sums;
-
-// The words after the program's name. A word that is no UTF-8 makes the words no form, and none stand for it.
-fn words_of(alloc: Global, args: io::Result<Args>) -> Result<Vec<String>, AllocError> {
-    match args {
-        Ok(args) => args.skip(1).collect(alloc),
-        Err(error) if error.kind() == ErrorKind::OutOfMemory => Err(AllocError),
-        Err(_) => Ok(Vec::new(alloc)),
-    }
-}
 
 // Does what the words ask for, and answers the exit status.
 fn answer<F: Files, O: Sink, N: Sink>(
