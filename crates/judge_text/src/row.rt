@@ -5,10 +5,11 @@ ghost use Rattle.std.specs.Fmt.{decimal};
 ghost use Rattle.sig_io.specs.Draft.{Puts};
 ghost use Rattle.judge_text.specs.Rows.{fields_text, row_text, span_text, table_text};
 
-use crate::words::{letter, put_between, put_head, put_name, put_second};
+use crate::words::{put_between, put_head, put_name, put_second};
 use log_judge::Breach;
 use pua_model::Plan;
 use sig_io::{Draft, Sink};
+use signal_log::letter;
 
 // Puts since when, and how long up to before this place.
 fn put_span<O: Sink>(draft: &mut Draft, sink: &mut O, first: u32, from: u32, to: u32)

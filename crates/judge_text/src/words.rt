@@ -2,7 +2,6 @@
 ghost use Rattle.std.specs.Prelude.{◌≡◌, ◌+◌, ◌-◌, ◌≤◌, ◌++◌, ◌∷◌, [], List, ℕ, Option, length, codes};
 ghost use Rattle.std.specs.Fmt.{decimal};
 ghost use Rattle.sig_io.specs.Draft.{Puts};
-ghost use Rattle.sig_types.specs.LogForm.{letter};
 ghost use Rattle.pua_model.specs.Plan.{name_of};
 ghost use Rattle.signal_log.specs.Log.{rule_name};
 ghost use Rattle.judge_text.specs.Words.{aspect_rule, group_of, head_text, other_of, rule_of, second_of};
@@ -79,18 +78,6 @@ fn second_of(breach: &Breach) -> u32
         Breach::Conflict { second, .. } => *second,
         Breach::Intergreen { second, .. } => *second,
         Breach::Hidden { second, .. } => *second,
-    }
-}
-
-/// The letter of an aspect.
-pub(crate) fn letter(aspect: Aspect) -> u8
-    ensures { result ≡ letter aspect }
-{
-    match aspect {
-        Aspect::Red => b'R',
-        Aspect::RedAmber => b'U',
-        Aspect::Green => b'G',
-        Aspect::Amber => b'A',
     }
 }
 

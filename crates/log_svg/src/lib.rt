@@ -24,8 +24,5 @@ pub use covers::spans_of;
 pub use diagram::{Diagram, put_diagram};
 pub use fronts::FrontMark;
 pub use layout::{Layout, Sheet};
-pub use marks::{
-    FaultMark, RefusalMark, Refused, fault_name, is_of, put_fault, put_refused, rule_letter,
-    rule_of,
-};
+pub use marks::{FaultMark, RefusalMark, Refused, is_of, put_refused, rule_letter, rule_of};
 pub use words::Look;

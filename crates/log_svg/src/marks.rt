@@ -2,7 +2,6 @@
 ghost use Rattle.std.specs.Prelude.{◌≡◌, ◌+◌, ◌-◌, ◌*◌, ◌/◌, ◌^◌, ◌<◌, ◌≤◌, ◌++◌, ℕ, List, Option, All, IsTrue, Some, length};
 ghost use Rattle.std.specs.Option.{ForSome};
 ghost use Rattle.sig_io.specs.Draft.{Puts};
-ghost use Rattle.signal_log.specs.Log.{fault_name, fault_text, name_of, other_of, other_text, stage_refusal_text, turn_text};
 ghost use Rattle.log_svg.specs.Layout.{IsLayout};
 ghost use Rattle.log_svg.specs.Marks.{IsRefused, close_text, is_marked, is_of, is_open, mark_text, marks_text, open_after};
 ghost use Rattle.log_svg.specs.Marks.{fault_mark_text, faults_text, open_text, rule_letter, rule_of, seen_fault, told_line, next_mark, words_text};
@@ -10,8 +9,8 @@ ghost use Rattle.log_svg.specs.Marks.{fault_mark_text, faults_text, open_text, r
 use crate::layout::{Layout, has_second, middle_of};
 use crate::pieces::{begin_cross, begin_label};
 use sig_io::{Draft, Sink};
-use sig_types::{Fault, FaultKind, GroupNo, Rule, ShortName, StageRefusal, TurnRefusal};
-use signal_log::rule_name;
+use sig_types::{Fault, GroupNo, Rule, ShortName, StageRefusal, TurnRefusal};
+use signal_log::{put_fault, put_named_turn, put_stage_refusal};
 
 /// A refused command.
 #[derive(Clone, Copy, Debug, PartialEq, Eq)]
@@ -82,74 +81,14 @@ pub fn is_of(group: Option<GroupNo>, refused: Refused) -> bool
     }
 }
 
-// Puts the name of a group.
-fn put_name<O: Sink>(draft: &mut Draft, sink: &mut O, names: &[ShortName], group: GroupNo)
-    requires { group.0 < length names.now }
-    ensures { Puts O.taken O.faults draft.old draft.new sink.old sink.new (name_of names.now group) }
-{
-    draft.put(sink, names[usize::from(group.0)].bytes());
-}
-
-// The other group of a refused turn, for the rules that speak of two groups.
-fn other_of(rule: Rule, other: Option<GroupNo>) -> Option<GroupNo>
-    ensures { result ≡ other_of rule other }
-{
-    match rule {
-        Rule::Conflict => other,
-        Rule::Intergreen => other,
-        Rule::Sequence => None,
-        Rule::MinGreen => None,
-        Rule::MinRed => None,
-        Rule::Running => None,
-        Rule::WrongStage => None,
-        Rule::NoInterstage => None,
-    }
-}
-
-// Puts the other group where there is one.
-fn put_other<O: Sink>(draft: &mut Draft, sink: &mut O, names: &[ShortName], other: Option<GroupNo>)
-    requires { ForSome other (λ g. g.0 < length names.now) }
-    ensures { Puts O.taken O.faults draft.old draft.new sink.old sink.new (other_text names.now other) }
-{
-    match other {
-        None => {}
-        Some(other) => {
-            draft.put(sink, b":");
-            put_name(draft, sink, names, other);
-        }
-    }
-}
-
-// Puts a refused turn.
-fn put_turn<O: Sink>(draft: &mut Draft, sink: &mut O, names: &[ShortName], turn: TurnRefusal)
-    requires { IsRefused (length names.now) (Refused.Turn turn) }
-    ensures { Puts O.taken O.faults draft.old draft.new sink.old sink.new (turn_text names.now turn) }
-{
-    put_name(draft, sink, names, turn.group);
-    draft.put(sink, b":");
-    draft.put(sink, rule_name(turn.rule));
-    put_other(draft, sink, names, other_of(turn.rule, turn.other));
-}
-
-// Puts a refused stage command.
-fn put_command<O: Sink>(draft: &mut Draft, sink: &mut O, refusal: StageRefusal)
-    ensures { Puts O.taken O.faults draft.old draft.new sink.old sink.new (stage_refusal_text refusal) }
-{
-    draft.put_number(sink, u32::from(refusal.from.0));
-    draft.put(sink, b"-");
-    draft.put_number(sink, u32::from(refusal.to.0));
-    draft.put(sink, b":");
-    draft.put(sink, rule_name(refusal.rule));
-}
-
 /// Puts what the log says of a refused command: `a-b:RULE`, `NAME:RULE` or `NAME:RULE:OTHER`.
 pub fn put_refused<O: Sink>(draft: &mut Draft, sink: &mut O, names: &[ShortName], refused: Refused)
     requires { IsRefused (length names.now) refused }
     ensures { Puts O.taken O.faults draft.old draft.new sink.old sink.new (words_text names.now refused) }
 {
     match refused {
-        Refused::Turn(turn) => put_turn(draft, sink, names, turn),
-        Refused::Command(refusal) => put_command(draft, sink, refusal),
+        Refused::Turn(turn) => put_named_turn(turn, names, draft, sink),
+        Refused::Command(refusal) => put_stage_refusal(refusal, draft, sink),
     }
 }
 
@@ -291,29 +230,6 @@ pub fn put_marks<O: Sink>(
     close_mark(draft, sink, last);
 }
 
-/// The name of a kind of fault.
-pub fn fault_name(kind: FaultKind) -> &'static [u8]
-    ensures name { result.now ≡ fault_name kind }
-    ensures short { length result.now ≤ 16 }
-{
-    match kind {
-        FaultKind::Budget => b"Budget",
-        FaultKind::Overflow => b"Overflow",
-        FaultKind::ZeroDivisor => b"ZeroDivisor",
-        FaultKind::Index => b"Index",
-        FaultKind::Number => b"Number",
-    }
-}
-
-/// Puts what the log says of a fault: `KIND@LINE`.
-pub fn put_fault<O: Sink>(draft: &mut Draft, sink: &mut O, fault: Fault)
-    ensures { Puts O.taken O.faults draft.old draft.new sink.old sink.new (fault_text (Some fault)) }
-{
-    draft.put(sink, fault_name(fault.kind));
-    draft.put(sink, b"@");
-    draft.put_number(sink, fault.line);
-}
-
 // Puts a cross, with the words of the fault.
 fn put_fault_mark<O: Sink>(
     draft: &mut Draft,
@@ -331,7 +247,7 @@ fn put_fault_mark<O: Sink>(
     draft.put(sink, b"><title>");
     draft.put_number(sink, mark.second);
     draft.put(sink, b" fault ");
-    put_fault(draft, sink, mark.fault);
+    put_fault(mark.fault, draft, sink);
     draft.put(sink, b"</title></path>\n");
 }
 

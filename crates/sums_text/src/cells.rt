@@ -5,13 +5,13 @@ ghost use Rattle.sig_io.specs.Draft.{Puts};
 ghost use Rattle.sums_text.specs.Words.{pair_text, tenths_text};
 ghost use Rattle.sums_text.specs.Table.{item_text, last_in, lead_text, lengths_rows, place_cells, row_text, some_lengths, some_row, span_of, span_text, tenths_row};
 
-use crate::names::{put_command, put_fault, put_turn};
 use crate::numbers::{mean_of, put_pair, put_tenths};
 use crate::serves::put_serve_name;
 use log_sums::Figures;
 use record_sums::{LogSums, Serve};
 use sig_io::{Draft, Sink};
 use sig_types::{Fault, ShortName, StagePlace, StageRefusal, TurnRefusal};
+use signal_log::{put_fault, put_named_turn, put_stage_refusal};
 
 /// What a row is of.
 #[derive(Clone, Copy)]
@@ -94,23 +94,23 @@ fn put_item<O: Sink>(draft: &mut Draft, sink: &mut O, item: Item<'_>)
         Item::Place(place) => put_place_cells(draft, sink, place),
         Item::Command(refusal) => {
             draft.put(sink, b"REFUSED,");
-            put_command(draft, sink, refusal);
+            put_stage_refusal(refusal, draft, sink);
         }
         Item::Turn(names, turn) => {
             draft.put(sink, b"REFUSED,");
-            put_turn(draft, sink, names, turn);
+            put_named_turn(turn, names, draft, sink);
         }
         Item::Rule(names, turn) => {
             draft.put(sink, b"RULE,");
-            put_turn(draft, sink, names, turn);
+            put_named_turn(turn, names, draft, sink);
         }
         Item::Early(names, turn) => {
             draft.put(sink, b"BEFORE_GREEN,");
-            put_turn(draft, sink, names, turn);
+            put_named_turn(turn, names, draft, sink);
         }
         Item::Fault(fault) => {
             draft.put(sink, b"FAULT,");
-            put_fault(draft, sink, fault);
+            put_fault(fault, draft, sink);
         }
         Item::Detector(number) => put_pair(draft, sink, b"DETECTOR,", number),
         Item::Serve(names, serve) => {

@@ -8,13 +8,14 @@ ghost use Rattle.sums_text.specs.Words.{AreTextual, came_text, command_text, cou
 ghost use Rattle.sums_text.specs.Words.{headway_text, lines_text, pair_text, place_name, place_text, refusal_text, refused_text, shown_text, sums_text};
 
 use crate::group::put_groups;
-use crate::names::{put_command, put_fault, put_place_name, put_turn};
+use crate::names::put_place_name;
 use crate::numbers::{put_long, put_pair};
 use crate::serves::put_serves;
 use log_sums::{Counts, DetectorSums, Figures, Tally};
 use record_sums::LogSums;
 use sig_io::{Draft, Sink};
 use sig_types::{Fault, ShortName, StagePlace, StageRefusal, TurnRefusal};
+use signal_log::{put_fault, put_named_turn, put_stage_refusal};
 
 /// The first second of the longest run.
 pub(crate) fn run_from(second: u32, seconds: u32) -> u32
@@ -63,7 +64,7 @@ fn put_command_line<O: Sink>(draft: &mut Draft, sink: &mut O, tally: &Tally<Stag
         return;
     }
     draft.put(sink, b"REFUSED ");
-    put_command(draft, sink, tally.key);
+    put_stage_refusal(tally.key, draft, sink);
     put_counts(draft, sink, &tally.counts);
 }
 
@@ -83,7 +84,7 @@ fn put_turn_line<O: Sink>(
         return;
     }
     draft.put(sink, word);
-    put_turn(draft, sink, names, tally.key);
+    put_named_turn(tally.key, names, draft, sink);
     put_counts(draft, sink, &tally.counts);
 }
 
@@ -96,7 +97,7 @@ fn put_fault_line<O: Sink>(draft: &mut Draft, sink: &mut O, tally: &Tally<Fault>
         return;
     }
     draft.put(sink, b"FAULT ");
-    put_fault(draft, sink, tally.key);
+    put_fault(tally.key, draft, sink);
     put_counts(draft, sink, &tally.counts);
 }
 

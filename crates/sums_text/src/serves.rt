@@ -6,12 +6,12 @@ ghost use Rattle.sig_io.specs.Draft.{Puts};
 ghost use Rattle.signal_log.specs.Log.{name_of};
 ghost use Rattle.sums_text.specs.Words.{IsServeSmall, detectors_of, lengths_text, mean_served, pair_text, per_green_text, seen_text, serve_name, serve_text, tenths_text};
 
-use crate::names::put_name;
 use crate::numbers::{put_lengths, put_long, put_pair, put_tenths};
 use log_sums::{LongFigures, ServeSums};
 use record_sums::{Serve, Served};
 use sig_io::{Draft, Sink};
 use sig_types::ShortName;
+use signal_log::put_group_name;
 
 // Puts the number of a detector where it is chosen.
 fn put_chosen<O: Sink>(draft: &mut Draft, sink: &mut O, chosen: bool, number: u32)
@@ -46,7 +46,7 @@ pub(crate) fn put_serve_name<O: Sink>(
 )
     ensures { Puts O.taken O.faults draft.old draft.new sink.old sink.new (serve_name names.now serve.now) }
 {
-    put_name(draft, sink, names, serve.group);
+    put_group_name(serve.group, names, draft, sink);
     put_numbers(draft, sink, &serve.detectors);
 }
 

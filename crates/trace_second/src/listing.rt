@@ -1,9 +1,7 @@
 // The listing of a second.
-ghost use Rattle.std.specs.Prelude.{◌≡◌, ◌≤◌, length};
 ghost use Rattle.sig_io.specs.Draft.{Puts};
 ghost use Rattle.sig_types.specs.Recorded.{IsRecord};
 ghost use Rattle.pua_model.specs.Plan.{groups_in};
-ghost use Rattle.signal_log.specs.Log.{fault_name};
 ghost use Rattle.vap_ast.specs.Tree.{program_of};
 ghost use Rattle.trace_second.specs.Listing.{fault_text, full_text, listing_text};
 
@@ -12,25 +10,11 @@ use crate::events::put_events;
 use crate::kept::Kept;
 use pua_model::Plan;
 use sig_io::{Draft, Sink};
-use sig_types::{Fault, FaultKind, Record};
-use signal_log::put_second;
+use sig_types::{Fault, Record};
+use signal_log::{fault_name, put_second};
 use trace_events::Event;
 use vap_check::Checked;
 use vap_vm::Vm;
-
-// The name of a fault.
-fn fault_name(kind: FaultKind) -> &'static [u8]
-    ensures text { result.now ≡ fault_name kind }
-    ensures short { length result.now ≤ 64 }
-{
-    match kind {
-        FaultKind::Budget => b"Budget",
-        FaultKind::Overflow => b"Overflow",
-        FaultKind::ZeroDivisor => b"ZeroDivisor",
-        FaultKind::Index => b"Index",
-        FaultKind::Number => b"Number",
-    }
-}
 
 // Puts the fault and its line, if there is one.
 fn put_fault<O: Sink>(fault: Option<Fault>, draft: &mut Draft, out: &mut O)
