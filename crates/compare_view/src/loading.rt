@@ -11,11 +11,9 @@ use log_read::{Begin, LogRecords};
 use log_view::{Stop, stop_of};
 use record_sums::LogSums;
 use sig_io::{Files, ReadRefusal, read_whole};
+use sig_types::MOST_SECONDS;
 use std::alloc::Global;
 use sums_view::add_up;
-
-// The last second that a log can have.
-const LAST: u32 = 604_801;
 
 /// A log that was read to its end, and what it adds up to.
 #[derive(Drop)]
@@ -80,7 +78,7 @@ fn sum_up<'a>(alloc: Global, word: &'a str, bytes: Vec<u8>) -> Result<Summed, Ju
         Ok(records) => records,
         Err(stop) => return Err(stop_in(stop_of(stop), word)),
     };
-    match add_up(alloc, &mut records, 1, LAST, &[], &mut file) {
+    match add_up(alloc, &mut records, 1, MOST_SECONDS, &[], &mut file) {
         Ok(sums) => Ok(Summed {
             bytes,
             records,

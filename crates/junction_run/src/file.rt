@@ -9,9 +9,6 @@ use crate::stop::LoadStop;
 use sig_io::{Files, ReadRefusal, read_whole};
 use std::alloc::Global;
 
-/// The bytes that a program, a PUA file or a table may have.
-pub const TEXT_LIMIT: usize = 1048576;
-
 /// The bytes that a code file may have.
 pub(crate) const CODE_LIMIT: usize = 2097152;
 

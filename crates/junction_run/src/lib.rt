@@ -32,7 +32,7 @@ mod status;
 mod stop;
 mod top;
 
-pub use file::{TEXT_LIMIT, read_file};
+pub use file::read_file;
 pub use form::{SiteWords, Source};
 pub use load::{Site, load_site, load_source};
 pub use notes::{write_stop, write_words};

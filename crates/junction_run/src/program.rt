@@ -16,10 +16,10 @@ ghost use Rattle.junction_run.specs.Sites.{IsRefusedProgram, IsCheckedText, IsPr
 ghost use Rattle.junction_run.specs.Stop.{IsAt, StopsWith, load_status};
 ghost use Rattle.junction_run.specs.declared.status.Status.TheVariants as status;
 
-use crate::file::{TEXT_LIMIT, read_file};
+use crate::file::read_file;
 use crate::stop::{LoadStop, Reason};
 use code_verify::Verified;
-use sig_io::Files;
+use sig_io::{Files, TEXT_LIMIT};
 use std::alloc::Global;
 use vap_ast::Program;
 use vap_check::{CheckRefusal, Checked, check};

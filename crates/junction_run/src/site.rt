@@ -14,12 +14,12 @@ ghost use Rattle.junction_run.specs.Sites.{site_of_tables};
 ghost use Rattle.junction_run.specs.Stop.{IsLoading, IsRefusedText, IsAt, IsAmong, StopsWith, load_status};
 ghost use Rattle.junction_run.specs.declared.status.Status.TheVariants as status;
 
-use crate::file::{TEXT_LIMIT, read_file};
+use crate::file::read_file;
 use crate::form::SiteWords;
 use crate::stop::{LoadStop, Reason};
 use pua_model::Plan;
 use pua_reader::{PuaRefusal, read_plan};
-use sig_io::Files;
+use sig_io::{Files, TEXT_LIMIT};
 use sig_tables::{Intergreens, TableRefusal, Times, read_intergreens, read_times};
 use std::alloc::Global;
 

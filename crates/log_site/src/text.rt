@@ -5,11 +5,8 @@ ghost use Rattle.sig_io.specs.Outside.{Rose};
 ghost use Rattle.log_site.specs.Stop.{IsAt, IsReadFault, IsUnread};
 
 use crate::stop::SiteStop;
-use sig_io::{Files, ReadRefusal, read_whole};
+use sig_io::{Files, ReadRefusal, TEXT_LIMIT, read_whole};
 use std::alloc::Global;
-
-// The bytes that a text may have.
-const TEXT_LIMIT: usize = 1_048_576;
 
 /// Reads a text within its limit.
 pub(crate) fn read_text<'a, F: Files>(

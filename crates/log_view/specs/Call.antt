@@ -5,6 +5,7 @@ use Rattle.std.specs.Io.KnownBytes.{append_known}
 use Rattle.sig_io.specs.Draft.{IsCut}
 use Rattle.sig_io.specs.Outside.{Contents, Rose}
 use Rattle.sig_io.specs.Seen.{Seen}
+use Rattle.sig_io.specs.Version.{version_line}
 use Rattle.log_svg.specs.declared.diagram.Diagram.{Diagram as Drawn}
 use Rattle.log_svg.specs.Diagram.{diagram_text}
 use Rattle.log_svg.specs.ShownIn.{shown_in}
@@ -36,7 +37,7 @@ usage_text =
 
 -- which version it is
 abbrev pub version_text : List ℕ
-version_text = codes "log_report 0.1.0\n"
+version_text = version_line (codes "log_report")
 
 -- the text that is asked for, of files with these contents
 abbrev pub IsTextOf : Asked → Contents → List ℕ → Type 0

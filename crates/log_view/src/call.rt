@@ -19,7 +19,7 @@ use crate::letters::put_text;
 use crate::named::{FormName, form_words};
 use crate::stop::{Status, Stop, status_of, write_stop};
 use log_svg::{Diagram, Look, put_diagram};
-use sig_io::{Draft, Files, Sink};
+use sig_io::{Draft, Files, Sink, put_version};
 use std::alloc::Global;
 
 // Puts how it is called.
@@ -93,7 +93,7 @@ fn write_version<O: Sink>(out: &mut O) -> Result<(), Stop>
     ensures cause { OnErr result (Rose (O.faults out.old) (O.faults out.new)) }
 {
     let mut draft = Draft::new();
-    draft.put(out, b"log_report 0.1.0\n");
+    put_version(b"log_report", &mut draft, out);
     end(draft, out)
 }
 

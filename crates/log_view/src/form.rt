@@ -7,13 +7,11 @@ ghost use Rattle.log_view.specs.Look.{look_of};
 use crate::look::look_of;
 use crate::stop::Stop;
 use log_svg::Look;
+use sig_types::MOST_SECONDS;
 use sig_types::text::number;
 
 // The most seconds of a diagram.
 const MOST: u32 = 3600;
-
-// The last second that a log can have.
-const LAST: u32 = 604_801;
 
 /// Some seconds of a log.
 #[derive(Clone, Copy, Debug, PartialEq, Eq)]
@@ -42,10 +40,10 @@ pub fn window_of(from: &str, to: &str) -> Result<Window, Stop>
     ensures window { result ≡ window_of from.now to.now }
     ensures order { IfOk result IsWindow }
 {
-    let Some(from) = number(from.as_bytes(), 1, LAST) else {
+    let Some(from) = number(from.as_bytes(), 1, MOST_SECONDS) else {
         return Err(Stop::Words);
     };
-    let Some(to) = number(to.as_bytes(), from, LAST) else {
+    let Some(to) = number(to.as_bytes(), from, MOST_SECONDS) else {
         return Err(Stop::Words);
     };
     if to - from >= MOST {

@@ -2,11 +2,13 @@
 ghost use Rattle.std.specs.Prelude.{◌≡◌, ◌≤◌, map, string_bytes};
 ghost use Rattle.refusal_view.specs.Form.{asked_by, form_of, lone_option, options_of, seconds_of, three_options};
 
+use log_read::LAST_BEGIN;
 use log_site::SiteWords;
+use sig_types::MOST_LINES;
 use sig_types::text::number;
 
-// The last second that a log can have: the 604,801st from one of nine digits on.
-const LAST: u32 = 1_000_604_799;
+// The last second that a log can have.
+const LAST: u32 = LAST_BEGIN + MOST_LINES;
 
 /// What the words ask for.
 #[derive(Clone, Copy)]

@@ -10,13 +10,10 @@ ghost use Rattle.site_view.specs.Parts.{minimums_to, short_name, short_names};
 use log_site::SiteStop;
 use pua_lines::stage_names;
 use pua_model::Plan;
-use sig_io::{Files, ReadRefusal, read_whole};
+use sig_io::{Files, ReadRefusal, TEXT_LIMIT, read_whole};
 use sig_tables::Times;
 use sig_types::{GroupNo, Memory, ShortName};
 use std::alloc::Global;
-
-// The bytes that the plan's file may have.
-const TEXT_LIMIT: usize = 1_048_576;
 
 /// Whether these are the names of the plan's groups.
 pub(crate) fn has_groups(names: &[ShortName], plan: &Plan) -> bool

@@ -3,10 +3,8 @@ ghost use Rattle.std.specs.Prelude.{◌≡◌, ◌≤◌, ◌<◌, IfSome, Some,
 ghost use Rattle.sums_view.specs.Form.{HasSeconds, asked_by, csv_of, form_of, is_option, is_serve, seconds_of, with_csv, with_each, with_seconds};
 
 use crate::serve::serve_in;
+use sig_types::MOST_SECONDS;
 use sig_types::text::number;
-
-// The last second that a log can have.
-const LAST: u32 = 604_801;
 
 // The least number of seconds that a part has.
 const LEAST: u32 = 60;
@@ -39,8 +37,8 @@ pub(crate) struct Seconds {
 fn seconds_of(from: &str, to: &str) -> Option<Seconds>
     ensures { result ≡ seconds_of from.now to.now }
 {
-    let from = number(from.as_bytes(), 1, LAST)?;
-    let to = number(to.as_bytes(), from, LAST)?;
+    let from = number(from.as_bytes(), 1, MOST_SECONDS)?;
+    let to = number(to.as_bytes(), from, MOST_SECONDS)?;
     Some(Seconds { from, to })
 }
 
@@ -119,7 +117,7 @@ fn with_each<'a>(log: &'a str, seconds: Seconds, words: &'a [String]) -> Option<
     if option.as_str() != "--each" {
         return with_csv(log, seconds, None, words);
     }
-    match number(n.as_bytes(), LEAST, LAST) {
+    match number(n.as_bytes(), LEAST, MOST_SECONDS) {
         Some(each) => with_csv(log, seconds, Some(each), rest),
         None => None,
     }
@@ -137,7 +135,10 @@ fn with_seconds<'a>(log: &'a str, words: &'a [String]) -> Option<SumsForm<'a>>
     ensures form { asked_by result ≡ with_seconds log.now (map string_bytes words.now) }
     ensures range { IfSome result (λ f. HasSeconds f.each) }
 {
-    let all = Seconds { from: 1, to: LAST };
+    let all = Seconds {
+        from: 1,
+        to: MOST_SECONDS,
+    };
     let [from, to, rest @ ..] = words else {
         return with_each(log, all, words);
     };

@@ -4,6 +4,7 @@ use Rattle.std.specs.Option.{ForSome}
 use Rattle.std.specs.Io.KnownBytes.{append_known}
 use Rattle.sig_io.specs.Outside.{Contents, Rose}
 use Rattle.sig_io.specs.Seen.{Seen}
+use Rattle.sig_io.specs.Version.{version_line}
 use Rattle.junction_run.specs.declared.status.Status.{Status}
 use Rattle.junction_run.specs.declared.status.Status.TheVariants.{Done, ReadFault, WriteFault}
 use Rattle.junction_run.specs.Stop.{StopsWith}
@@ -35,7 +36,7 @@ usage_text =
 
 -- which version it is
 abbrev pub version_text : List ℕ
-version_text = codes "junction_trace 0.1.0\n"
+version_text = version_line (codes "junction_trace")
 
 -- what is asked for was done so, over files that tell this
 abbrev pub IsDone : {A : Type 0} → Asked → Contents → Result A Stop → Option (List ℕ) → Option (List ℕ) → Type 0

@@ -20,7 +20,7 @@ use crate::second::second;
 use crate::stop::{Stop, status_of, write_stop};
 use crate::values::values;
 use junction_run::Status;
-use sig_io::{Draft, Files, Sink};
+use sig_io::{Draft, Files, Sink, put_version};
 use std::alloc::Global;
 
 // Puts how it is called.
@@ -90,7 +90,7 @@ fn write_version<'a, O: Sink>(out: &mut O) -> Result<(), Stop<'a>>
     ensures cause { OnErr result (Rose (O.faults out.old) (O.faults out.new)) }
 {
     let mut draft = Draft::new();
-    draft.put(out, b"junction_trace 0.1.0\n");
+    put_version(b"junction_trace", &mut draft, out);
     end(draft, out)
 }
 

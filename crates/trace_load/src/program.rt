@@ -7,8 +7,8 @@ ghost use Rattle.junction_run.specs.declared.status.Status.TheVariants as status
 ghost use Rattle.trace_load.specs.Loaded.{IsToldFile, IsToldText};
 
 use code_verify::Verified;
-use junction_run::{LoadStop, TEXT_LIMIT, judge_source, read_file};
-use sig_io::Files;
+use junction_run::{LoadStop, judge_source, read_file};
+use sig_io::{Files, TEXT_LIMIT};
 use std::alloc::Global;
 use vap_check::Checked;
 use vap_compile::compile;
