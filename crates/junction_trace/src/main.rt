@@ -7,8 +7,7 @@ use sig_io::{DiskFiles, ErrSink, Files, OutSink, Sink, words_of};
 use std::alloc::Global;
 use std::env;
 use std::process::ExitCode;
-use trace_call::{Stop, trace, write_stop};
-use trace_load::KeptFiles;
+use trace_call::{KeptFiles, Stop, trace, write_stop};
 
 // Does what the words ask for. The plan, the times and the intergreens are kept as they are read, so that further runs of the
 // same site read none of them once more.

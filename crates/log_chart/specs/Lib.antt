@@ -2,3 +2,4 @@ pub mod Charted
 pub mod Laws
 pub mod Spans
 pub mod Stays
+pub mod Covers

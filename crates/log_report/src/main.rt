@@ -5,17 +5,12 @@
 //! refused.
 #![tactic(auto)]
 
-use breach_view::report_breaches;
-use compare_view::report_compare;
-use log_view::{Status, Stop, exit_status, report, write_stop};
-use protocol_view::report_protocol;
-use refusal_view::report_refusals;
+use report_judged::{has_site, report_breaches, report_protocol, report_refusals, report_site};
+use report_seen::{Status, Stop, exit_status, report, report_compare, report_sums, write_stop};
 use sig_io::{DiskFiles, ErrSink, Files, OutSink, Sink, words_of};
-use site_view::{has_site, report_site};
 use std::alloc::Global;
 use std::env;
 use std::process::ExitCode;
-use sums_view::report_sums;
 
 // Does what the words ask for, and answers the exit status.
 fn answer<F: Files, O: Sink, N: Sink>(
@@ -30,19 +25,19 @@ fn answer<F: Files, O: Sink, N: Sink>(
             exit_status(report_sums(alloc, words, files, out, notes))
         }
         Some(word) if word.as_str() == "breaches" => {
-            judge_notes::exit_status(report_breaches(alloc, words, files, out, notes))
+            report_words::exit_status(report_breaches(alloc, words, files, out, notes))
         }
         Some(word) if word.as_str() == "protocol" => {
-            judge_notes::exit_status(report_protocol(alloc, words, files, out, notes))
+            report_words::exit_status(report_protocol(alloc, words, files, out, notes))
         }
         Some(word) if word.as_str() == "refusals" => {
-            judge_notes::exit_status(report_refusals(alloc, words, files, out, notes))
+            report_words::exit_status(report_refusals(alloc, words, files, out, notes))
         }
         Some(word) if word.as_str() == "compare" => {
-            judge_notes::exit_status(report_compare(alloc, words, files, out, notes))
+            report_words::exit_status(report_compare(alloc, words, files, out, notes))
         }
         _ if has_site(words) => {
-            judge_notes::exit_status(report_site(alloc, words, files, out, notes))
+            report_words::exit_status(report_site(alloc, words, files, out, notes))
         }
         _ => exit_status(report(alloc, words, files, out, notes)),
     }

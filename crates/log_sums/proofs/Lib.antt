@@ -3,3 +3,10 @@ pub mod Never
 pub mod Seen
 pub mod Shown
 pub mod Fits
+pub mod Telling
+pub mod Added
+pub mod Serving
+pub mod EarlyTurns
+pub mod NotYet
+pub mod Over
+pub mod Restarted

@@ -1,7 +1,7 @@
 -- A second more.
 use Rattle.std.proofs.Common.{◌≡◌, ◌∙◌, ℕ, zero, suc, ◌+◌, ◌-◌, ◌≤◌, Bool, true, false, refl, sym, subst, arith, add-one}
 use Rattle.std.specs.Prelude.{◌==◌, ◌&&◌, if◌then◌else◌}
-use Rattle.log_sums.specs.Serves.{served, served_by, waited, waiting}
+use Rattle.log_sums.specs.ServeSums.{served, served_by, waited, waiting}
 use Rattle.log_sums.specs.Series.{sum_to}
 use Rattle.log_sums.specs.Spells.{begins, gap, last_to, over, run}
 

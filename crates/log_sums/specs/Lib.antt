@@ -2,6 +2,13 @@ pub mod Series
 pub mod Spells
 pub mod Groups
 pub mod Detectors
-pub mod Serves
+pub mod ServeSums
 pub mod Tallies
 pub mod Keys
+pub mod Told
+pub mod Serves
+pub mod Early
+pub mod Summed
+pub mod Adding
+pub mod Parts
+pub mod PartsAdding

@@ -1,137 +1,132 @@
-// What the fronts of detectors add up to that serve a group.
-ghost use Rattle.std.specs.Prelude.{◌≡◌, ◌+◌, ◌*◌, ◌^◌, ◌<◌, ◌≤◌, ◌==◌, nat_le, Bool, ℕ, if◌then◌else◌};
+// What detectors saw that serve a group.
+ghost use Rattle.std.specs.Prelude.{◌≡◌, ◌+◌, ◌*◌, ◌^◌, ◌<◌, ◌≤◌, false, ℕ, All, List, IfOk, length, map, slice_index_or, if◌then◌else◌};
 ghost use Rattle.sig_types.specs.declared.aspect.Aspect.{Aspect};
+ghost use Rattle.sig_types.specs.Counts.{count_in, fronts};
+ghost use Rattle.log_sums.specs.ServeSums.{AreServeSums};
+ghost use Rattle.log_sums.specs.declared.serves.Served.{Served};
+ghost use Rattle.log_sums.specs.Serves.{AddServes, fronts_at, serves_of};
 
-use crate::figures::Figures;
-use crate::group::is_green;
-use crate::long_figures::{LongFigures, long_counted};
-use crate::spells::run_with;
-use sig_types::Aspect;
+use crate::serve_sums::ServeSums;
+use sig_types::{Aspect, Frame, GroupNo, Memory, Picture};
+use std::alloc::Global;
 
-/// What the fronts of detectors add up to that serve a group.
+/// Detectors that serve a group.
 #[derive(Clone, Copy)]
-pub struct ServeSums {
-    /// For how many seconds the group has been green without a break, up to the last one; 0 where it isn't green in that.
-    pub run: u32,
-    /// The fronts so far of the green that runs.
-    pub served: u64,
-    /// How many seconds there are from the first front since the last green up to the last second; 0 where there is none.
-    pub waiting: u32,
-    /// The fronts in green.
-    pub in_green: u64,
-    /// All others.
-    pub not_in_green: u64,
-    /// The fronts of each green that is over, and one more.
-    pub per_green: LongFigures,
-    /// From the first front since a green to the beginning of the next one.
-    pub waits: Figures,
+pub struct Serve {
+    /// The group.
+    pub group: GroupNo,
+    /// Which detectors they are: that of number p + 1 stands at place p.
+    pub detectors: [bool; 64],
 }
 
-// The fronts where it is green.
-fn fronts_in(green: bool, fronts: u64) -> u64
-    ensures { result ≡ (if green then fronts else 0) }
-{
-    if green { fronts } else { 0 }
+/// Detectors that serve a group, and what they saw.
+#[derive(Clone, Copy)]
+pub struct Served {
+    /// The detectors and the group.
+    pub serve: Serve,
+    /// What they saw.
+    pub sums: ServeSums,
 }
 
-// The fronts where it isn't.
-fn fronts_out(green: bool, fronts: u64) -> u64
-    ensures { result ≡ (if green then 0 else fronts) }
+// What a group shows; one that there isn't is red.
+fn shown_in(picture: &Picture, group: GroupNo) -> Aspect
+    ensures { result ≡ slice_index_or picture.now group.0 Aspect.Red }
 {
-    if green { 0 } else { fronts }
-}
-
-// The fronts of the green that runs, with a second more.
-fn served_with(served: u64, green: bool, fronts: u64) -> u64
-    ensures { served + fronts < 2 ^ 64 → result ≡ (if green then served + fronts else 0) }
-{
-    if green {
-        served.saturating_add(fronts)
+    if group.0 < picture.len() {
+        picture.get(group.0)
     } else {
-        0
+        Aspect::Red
     }
 }
 
-// The fronts of a green that is over where it isn't green any more, and one more.
-fn served_by(run: u32, served: u64, green: bool) -> u64
-    ensures { served < 2 ^ 63 → result ≡ (if green then 0 else (if run == 0 then 0 else served + 1)) }
+// The fronts of a detector where it is one of those.
+fn counted(chosen: bool, fronts: u32) -> u64
+    ensures { result ≡ (if chosen then fronts else 0) }
 {
-    if green || run == 0 {
-        0
-    } else {
-        served.saturating_add(1)
+    if chosen { u64::from(fronts) } else { 0 }
+}
+
+// The fronts of these detectors.
+fn fronts_at(detectors: &[bool; 64], frame: &Frame) -> u64
+    ensures fronts { result ≡ fronts_at detectors.now frame.now }
+    ensures few { result < 2 ^ 38 }
+{
+    let mut sum = 0u64;
+    for place in 0..64u8 {
+        let (fronts, _) = frame.get(place);
+        sum += counted(detectors[usize::from(place)], fronts);
+    }
+    sum
+}
+
+// What they saw, with a second more.
+fn show_served(served: Served, from: u32, second: u32, picture: &Picture, frame: &Frame) -> Served
+    ensures serve { result.serve ≡ served.serve }
+    ensures sums { (a : ℕ → Aspect) (f : ℕ → ℕ) (n : ℕ) → second ≡ n + 1 → second < 2 ^ 20 →
+        a second ≡ slice_index_or picture.now served.serve.group.0 Aspect.Red → f second ≡ fronts_at served.serve.detectors frame.now →
+        AreServeSums a f from n served.sums → AreServeSums a f from second result.sums }
+{
+    let aspect = shown_in(picture, served.serve.group);
+    let fronts = fronts_at(&served.serve.detectors, frame);
+    Served {
+        serve: served.serve,
+        sums: served.sums.show(from, second, aspect, fronts),
     }
 }
 
-// 1 where there is a front.
-fn one_for(fronts: u64) -> u32
-    ensures { result ≡ (if fronts == 0 then 0 else 1) }
+// Takes what detectors see in a second.
+fn show_each(serves: &mut [Served], from: u32, second: u32, picture: &Picture, frame: &Frame)
+    ensures serves { serves_of serves.new ≡ serves_of serves.old }
+    ensures sums { (a : ℕ → Aspect) (f : ℕ → ℕ) (n i : ℕ) (d : Served) → i < length serves.old → second ≡ n + 1 → second < 2 ^ 20 →
+        a second ≡ slice_index_or picture.now (slice_index_or serves.old i d).serve.group.0 Aspect.Red →
+        f second ≡ fronts_at (slice_index_or serves.old i d).serve.detectors frame.now →
+        AreServeSums a f from n (slice_index_or serves.old i d).sums → AreServeSums a f from second (slice_index_or serves.new i d).sums }
 {
-    if fronts == 0 { 0 } else { 1 }
-}
-
-// How many seconds there are from the first front since the last green, with a second more.
-fn waiting_with(waiting: u32, green: bool, fronts: u64) -> u32
-    ensures { waiting < 2 ^ 31 →
-        result ≡ (if green then 0 else (if waiting == 0 then (if fronts == 0 then 0 else 1) else waiting + 1)) }
-{
-    if green {
-        0
-    } else if waiting == 0 {
-        one_for(fronts)
-    } else {
-        waiting.saturating_add(1)
+    for place in 0..serves.len() {
+        serves[place] = show_served(serves[place], from, second, picture, frame);
     }
 }
 
-// How long it took from the first front to the green that begins.
-fn waited(waiting: u32, green: bool) -> u32
-    ensures { result ≡ (if green then waiting else 0) }
+/// Takes what detectors see in a second.
+pub(crate) fn show_serves(
+    serves: &mut Vec<Served>,
+    from: u32,
+    second: u32,
+    picture: &Picture,
+    frame: &Frame,
+)
+    ensures serves { serves_of serves.new.items ≡ serves_of serves.old.items }
+    ensures sums { (a : ℕ → Aspect) (f : ℕ → ℕ) (n i : ℕ) (d : Served) → i < length serves.old.items → second ≡ n + 1 → second < 2 ^ 20 →
+        a second ≡ slice_index_or picture.now (slice_index_or serves.old.items i d).serve.group.0 Aspect.Red →
+        f second ≡ fronts_at (slice_index_or serves.old.items i d).serve.detectors frame.now →
+        AreServeSums a f from n (slice_index_or serves.old.items i d).sums →
+        AreServeSums a f from second (slice_index_or serves.new.items i d).sums }
 {
-    if green { waiting } else { 0 }
+    show_each(serves.as_mut_slice(), from, second, picture, frame);
 }
 
-impl ServeSums {
-    ghost use Rattle.log_sums.specs.Serves.{AreServeSums};
+// Detectors that saw nothing yet.
+fn unseen(serve: Serve) -> Served
+    ensures serve { result.serve ≡ serve }
+    ensures sums { (a : ℕ → Aspect) (f : ℕ → ℕ) (from : ℕ) → AreServeSums a f from 0 result.sums }
+{
+    Served {
+        serve,
+        sums: ServeSums::none(),
+    }
+}
 
-    /// Those of no second.
-    pub fn none() -> ServeSums
-        ensures { (a : ℕ → Aspect) (f : ℕ → ℕ) (from : ℕ) → AreServeSums a f from 0 result }
-    {
-        ServeSums {
-            run: 0,
-            served: 0,
-            waiting: 0,
-            in_green: 0,
-            not_in_green: 0,
-            per_green: LongFigures::none(),
-            waits: Figures::none(),
+/// What these saw before the first second.
+pub(crate) fn none_served(alloc: Global, serves: &[Serve]) -> Result<Vec<Served>, Memory>
+    ensures serves { IfOk result (λ v. serves_of v.items ≡ serves.now) }
+    ensures sums { IfOk result (λ v. All (λ x. (a : ℕ → Aspect) (f : ℕ → ℕ) (from : ℕ) → AreServeSums a f from 0 x.sums) v.items) }
+{
+    let mut served = Vec::new(alloc);
+    for serve in serves {
+        match served.push(unseen(*serve)) {
+            Ok(()) => {}
+            Err(_) => return Err(Memory),
         }
     }
-
-    /// Those with a second more, in which the group shows this, and there are so many fronts; they count from a second on.
-    pub fn show(self, from: u32, second: u32, aspect: Aspect, fronts: u64) -> ServeSums
-        ensures { (a : ℕ → Aspect) (f : ℕ → ℕ) (n : ℕ) → second ≡ n + 1 → second < 2 ^ 20 → fronts < 2 ^ 38 → a second ≡ aspect →
-            f second ≡ fronts → AreServeSums a f from n self → AreServeSums a f from second result }
-    {
-        let green = is_green(aspect);
-        let over = served_by(self.run, self.served, green);
-        ServeSums {
-            run: run_with(self.run, green),
-            served: served_with(self.served, green, fronts),
-            waiting: waiting_with(self.waiting, green, fronts),
-            in_green: self
-                .in_green
-                .saturating_add(long_counted(from, second, fronts_in(green, fronts))),
-            not_in_green: self
-                .not_in_green
-                .saturating_add(long_counted(from, second, fronts_out(green, fronts))),
-            per_green: self
-                .per_green
-                .with(second, long_counted(from, second, over)),
-            waits: self
-                .waits
-                .with_from(from, second, waited(self.waiting, green)),
-        }
-    }
+    Ok(served)
 }

@@ -2,8 +2,8 @@
 use Rattle.std.specs.Prelude.{ℕ, ◌==◌, if◌then◌else◌, List, Option}
 use Rattle.pua_model.specs.Plan.{PlanOf}
 use Rattle.pua_lines.specs.declared.spot.Spot.{Spot}
-use Rattle.file_lines.specs.declared.lines.Begin.{Begin}
-use Rattle.file_lines.specs.Fields.{fields_span}
+use Rattle.table_check.specs.declared.lines.Begin.{Begin}
+use Rattle.table_check.specs.Fields.{fields_span}
 use Rattle.table_check.specs.declared.table.Table.{Table}
 use Rattle.table_check.specs.declared.table.Table.TheVariants as table
 use Rattle.table_check.specs.Faults.{fault_span, names_span}

@@ -3,10 +3,9 @@ ghost use Rattle.std.specs.Prelude.{◌≡◌};
 ghost use Rattle.site_findings.specs.Meant.{fault_in, in_record, meant_in_table, meant_spot, warned_span};
 
 use crate::finding::{Examined, FileKind, Finding, Refusal, Told};
-use file_lines::{Begin, fields_span};
 use pua_lines::Spot;
 use pua_model::Plan;
-use table_check::{Table, fault_span, names_span};
+use table_check::{Begin, Table, fault_span, fields_span, names_span};
 
 // These bytes of a record.
 fn in_record(spot: Spot, span: (usize, usize)) -> Spot

@@ -1,6 +1,6 @@
 -- The detectors of the last part.
 use Rattle.std.proofs.Common.{◌≡◌, ◌∙◌, ℕ, zero, suc, ◌-◌, ◌<◌, ◌≤◌, List, [], ◌∷◌, length, get_or, refl, sym, ap, arith}
-use Rattle.record_sums.specs.declared.sums.LogSums.{LogSums}
+use Rattle.log_sums.specs.declared.sums.LogSums.{LogSums}
 use Rattle.sums_text.specs.Parts.{named_in}
 
 -- the last part by its place

@@ -2,7 +2,7 @@
 use Rattle.std.specs.Prelude.{ℕ, List, [], ◌∷◌, All, ◌++◌, codes}
 use Rattle.std.specs.List.{flat_map}
 use Rattle.log_sums.specs.declared.detector.DetectorSums.{DetectorSums}
-use Rattle.record_sums.specs.declared.sums.LogSums.{LogSums}
+use Rattle.log_sums.specs.declared.sums.LogSums.{LogSums}
 use Rattle.sums_text.specs.Table.{head_text, last_in, sums_rows}
 use Rattle.sums_text.specs.Words.{AreTextual, lines_text, pair_text}
 

@@ -13,12 +13,12 @@ use Rattle.log_sums.specs.declared.detector.DetectorSums.{DetectorSums}
 use Rattle.log_sums.specs.declared.figures.Figures.{Figures}
 use Rattle.log_sums.specs.declared.group.GroupSums.{GroupSums}
 use Rattle.log_sums.specs.declared.long_figures.LongFigures.{LongFigures}
-use Rattle.log_sums.specs.declared.serves.ServeSums.{ServeSums}
+use Rattle.log_sums.specs.declared.serve_sums.ServeSums.{ServeSums}
 use Rattle.log_sums.specs.declared.spells.Spells.{Spells}
 use Rattle.log_sums.specs.declared.tally.Counts.{Counts}
 use Rattle.log_sums.specs.declared.tally.Tally.{Tally}
-use Rattle.record_sums.specs.declared.serves.Served.{Served}
-use Rattle.record_sums.specs.declared.sums.LogSums.{LogSums}
+use Rattle.log_sums.specs.declared.serves.Served.{Served}
+use Rattle.log_sums.specs.declared.sums.LogSums.{LogSums}
 use Rattle.sums_text.specs.declared.cells.Item.{Item}
 use Rattle.sums_text.specs.declared.cells.Item.TheVariants as item
 use Rattle.sums_text.specs.declared.cells.Lead.{Lead}

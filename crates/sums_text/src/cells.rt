@@ -7,8 +7,7 @@ ghost use Rattle.sums_text.specs.Table.{item_text, last_in, lead_text, lengths_r
 
 use crate::numbers::{mean_of, put_pair, put_tenths};
 use crate::serves::put_serve_name;
-use log_sums::Figures;
-use record_sums::{LogSums, Serve};
+use log_sums::{Figures, LogSums, Serve};
 use sig_io::{Draft, Sink};
 use sig_types::{Fault, ShortName, StagePlace, StageRefusal, TurnRefusal};
 use signal_log::{put_fault, put_named_turn, put_stage_refusal};

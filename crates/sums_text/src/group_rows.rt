@@ -8,8 +8,7 @@ ghost use Rattle.sums_text.specs.Table.{cycles_rows, greens_rows, group_rows, gr
 use crate::cells::{Item, Lead, lead_of, put_lengths_rows, put_row, put_some_row, put_tenths_row};
 use crate::group::longest_begin;
 use crate::numbers::longest_of;
-use log_sums::{Figures, GroupSums, Spells};
-use record_sums::LogSums;
+use log_sums::{Figures, GroupSums, LogSums, Spells};
 use sig_io::{Draft, Sink};
 use sig_types::ShortName;
 

@@ -11,8 +11,7 @@ use crate::cells::last_in;
 use crate::numbers::put_pair;
 use crate::rows::put_lines;
 use crate::table::put_sums_rows;
-use log_sums::DetectorSums;
-use record_sums::LogSums;
+use log_sums::{DetectorSums, LogSums};
 use sig_io::{Draft, Sink};
 use sig_types::ShortName;
 

@@ -7,8 +7,7 @@ ghost use Rattle.sums_text.specs.Table.{lead_text, lengths_rows, per_green_rows,
 
 use crate::cells::{Item, Lead, lead_of, put_lengths_rows, put_row, put_tenths_row};
 use crate::serves::{mean_served, one_less};
-use log_sums::{LongFigures, ServeSums};
-use record_sums::{LogSums, Served};
+use log_sums::{LogSums, LongFigures, ServeSums, Served};
 use sig_io::{Draft, Sink};
 use sig_types::ShortName;
 

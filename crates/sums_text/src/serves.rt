@@ -7,8 +7,7 @@ ghost use Rattle.signal_log.specs.Log.{name_of};
 ghost use Rattle.sums_text.specs.Words.{IsServeSmall, detectors_of, lengths_text, mean_served, pair_text, per_green_text, seen_text, serve_name, serve_text, tenths_text};
 
 use crate::numbers::{put_lengths, put_long, put_pair, put_tenths};
-use log_sums::{LongFigures, ServeSums};
-use record_sums::{Serve, Served};
+use log_sums::{LongFigures, Serve, ServeSums, Served};
 use sig_io::{Draft, Sink};
 use sig_types::ShortName;
 use signal_log::put_group_name;

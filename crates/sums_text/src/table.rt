@@ -11,8 +11,7 @@ use crate::cells::{Item, Lead, lead_of, put_row};
 use crate::group_rows::put_groups_rows;
 use crate::rows::{counted_in, is_named, less_one, run_from};
 use crate::serve_rows::put_serves_rows;
-use log_sums::{Counts, DetectorSums, Figures, Tally};
-use record_sums::LogSums;
+use log_sums::{Counts, DetectorSums, Figures, LogSums, Tally};
 use sig_io::{Draft, Sink};
 use sig_types::{Fault, ShortName, StagePlace, StageRefusal, TurnRefusal};
 

@@ -1,4 +1,7 @@
-pub mod Fields
+pub mod Numbered
+pub mod Pieces
+pub mod RecordPlaces
+pub mod FieldSpans
 pub mod Numbers
 pub mod Reasons
 pub mod Notes

@@ -7,7 +7,7 @@ use Rattle.sig_tables.specs.declared.refusal.TableWhy.{TableWhy}
 use Rattle.sig_tables.specs.declared.refusal.TableWhy.TheVariants as why
 use Rattle.sig_tables.specs.Groups.{group_at}
 use Rattle.sig_tables.specs.Records.{Row, field}
-use Rattle.file_lines.specs.Fields.{fields_in, fields_span}
+use Rattle.table_check.specs.Fields.{fields_in, fields_span}
 use Rattle.table_check.specs.declared.table.Table.{Table}
 use Rattle.table_check.specs.declared.table.Table.TheVariants.{Times, Intergreens}
 use Rattle.table_check.specs.Refused.{headers_in}

@@ -1,3 +1,5 @@
+pub mod Fields
+pub mod Lines
 pub mod Faults
 pub mod Passed
 pub mod Read

@@ -1,11 +1,11 @@
 // Which bytes of a record the reason to refuse it is about.
 ghost use Rattle.std.specs.Prelude.{◌≡◌, ◌≤◌, ◌<◌, ◌+◌, ◌^◌, drop, length};
-ghost use Rattle.file_lines.specs.Fields.{fields_in};
+ghost use Rattle.table_check.specs.Fields.{fields_in};
 ghost use Rattle.table_check.specs.Faults as faults;
 ghost use Rattle.table_check.specs.Faults.{behind, field_span, header_span, mark_len, name_field, number_field};
 
+use crate::fields::{field, fields_span};
 use crate::table::Table;
-use file_lines::{field, fields_span};
 use pua_model::Plan;
 use sig_tables::TableWhy;
 use sig_types::text::{number, same_name};

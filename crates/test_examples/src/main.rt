@@ -8,13 +8,12 @@
 #![tactic(auto)]
 
 use junction_run::{Status, exit_status, junction};
-use log_view::report;
+use report_seen::{report, report_sums};
 use sig_io::{DiskFiles, ErrSink, Files, OutSink, Sink};
 use site_check::{check_junction, check_status};
 use std::alloc::Global;
 use std::env;
 use std::process::ExitCode;
-use sums_view::report_sums;
 use test_calls::logs::tells_log;
 use trace_call::trace;
 
@@ -28,9 +27,9 @@ fn report_log<F: Files, O: Sink, N: Sink>(
 ) -> u8 {
     match words.first() {
         Some(word) if word.as_str() == "sums" => {
-            log_view::exit_status(report_sums(alloc, words, files, out, notes))
+            report_seen::exit_status(report_sums(alloc, words, files, out, notes))
         }
-        _ => log_view::exit_status(report(alloc, words, files, out, notes)),
+        _ => report_seen::exit_status(report(alloc, words, files, out, notes)),
     }
 }
 

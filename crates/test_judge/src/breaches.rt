@@ -1,7 +1,7 @@
 // Whole calls of `log_report breaches` over files in memory.
 use crate::calls::{PART, Told, files_of, sinks_of, words_of};
-use breach_view::report_breaches;
-use judge_notes::Status;
+use report_judged::report_breaches;
+use report_words::Status;
 use std::alloc::Global;
 use std::test::Fail;
 use test_texts::sites::{INTERGREENS, ONE_WAY};

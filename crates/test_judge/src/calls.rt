@@ -1,5 +1,5 @@
 // What whole calls take, and what they tell.
-use judge_notes::Status;
+use report_words::Status;
 use sig_io::{MemFiles, MemSink};
 use std::alloc::Global;
 use std::test::Fail;

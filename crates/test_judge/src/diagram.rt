@@ -1,8 +1,8 @@
 // Whole calls of `log_report diagram` with a site, over files in memory.
 use crate::calls::{Told, sinks_of};
-use judge_notes::Status;
+use report_judged::{has_site, report_site};
+use report_words::Status;
 use sig_io::MemFiles;
-use site_view::{has_site, report_site};
 use std::alloc::Global;
 use std::test::Fail;
 use test_texts::sites::INTERGREENS;

@@ -1,7 +1,7 @@
 // Whole calls of `log_report protocol` over files in memory.
 use crate::calls::{PART, Told, files_of, sinks_of, words_of};
-use judge_notes::Status;
-use protocol_view::report_protocol;
+use report_judged::report_protocol;
+use report_words::Status;
 use std::alloc::Global;
 use std::test::Fail;
 use test_texts::sites::INTERGREENS;

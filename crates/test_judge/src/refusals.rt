@@ -1,7 +1,7 @@
 // Whole calls of `log_report refusals` over files in memory.
 use crate::calls::{Told, files_of, sinks_of, words_of};
-use judge_notes::Status;
-use refusal_view::report_refusals;
+use report_judged::report_refusals;
+use report_words::Status;
 use std::alloc::Global;
 use std::test::Fail;
 use test_texts::sites::INTERGREENS;

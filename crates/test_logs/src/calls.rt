@@ -1,9 +1,8 @@
 // Whole calls of `log_report` over a log in memory.
-use log_view::{Status, report};
+use report_seen::{Status, report, report_sums};
 use sig_io::{MemFiles, MemSink};
 use std::alloc::{AllocError, Global};
 use std::test::Fail;
-use sums_view::report_sums;
 
 /// Six seconds of two groups and three detectors.
 pub(crate) const LOG: &str = "VAPLOG 1 K1 K2\n\

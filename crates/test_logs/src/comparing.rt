@@ -1,6 +1,6 @@
 // Whole calls of `log_report compare` over logs in memory.
-use compare_view::report_compare;
-use judge_notes::Status;
+use report_seen::report_compare;
+use report_words::Status;
 use sig_io::{MemFiles, MemSink};
 use std::alloc::Global;
 use std::test::Fail;

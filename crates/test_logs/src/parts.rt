@@ -1,6 +1,6 @@
 // Whole calls of `log_report sums` over a log in memory: a table, parts, detectors that serve a group, and first greens.
 use crate::calls::{LOG, call};
-use log_view::Status;
+use report_seen::Status;
 use std::alloc::{AllocError, Global};
 use std::test::Fail;
 

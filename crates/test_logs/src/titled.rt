@@ -1,6 +1,6 @@
 // Diagrams with a title and with times of the day, to the byte.
 use crate::calls::{LOG, LONGER, call};
-use log_view::Status;
+use report_seen::Status;
 use std::test::Fail;
 
 // The six seconds with a title that has to be escaped, of which the third begins at midnight.

@@ -19,8 +19,8 @@ use Rattle.vap_code.specs.Valid.{Valid}
 use Rattle.junction_run.specs.Loading.{code_at, program_at}
 use Rattle.junction_run.specs.Programs.{logic_of, store_of, Runs}
 use Rattle.trace_run.specs.Told.{told_from}
-use Rattle.trace_values.specs.declared.columns.Column.{Column}
-use Rattle.trace_values.specs.Rows.{row_within}
+use Rattle.trace_told.specs.declared.columns.Column.{Column}
+use Rattle.trace_told.specs.ValueRows.{row_within}
 use Rattle.trace_call.specs.Values.{row_of, rows_text}
 
 -- logics that agree on the stores that fit leave the same values

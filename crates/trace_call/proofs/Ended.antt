@@ -23,11 +23,11 @@ use Rattle.trace_run.specs.Told.{told_from}
 use Rattle.trace_run.specs.declared.play.Stop.{Stop as TellStop}
 use Rattle.trace_call.specs.Chosen.{play_stop_of}
 use Rattle.trace_call.proofs.Ends.{written_stop}
-use Rattle.trace_ends.specs.declared.rows.Ends.{Ends}
-use Rattle.trace_ends.specs.Known.{AreStages, KnowsStages}
-use Rattle.trace_ends.proofs.Seconds.{same_plan}
-use Rattle.trace_ends.specs.Rows.{end_told, header_text}
-use Rattle.trace_load.specs.Loaded.{FilesGive, code_for}
+use Rattle.trace_told.specs.declared.end_rows.Ends.{Ends}
+use Rattle.trace_told.specs.EndsKnown.{AreStages, KnowsStages}
+use Rattle.trace_told.proofs.EndSeconds.{same_plan}
+use Rattle.trace_told.specs.EndRows.{end_told, header_text}
+use Rattle.trace_call.specs.Loaded.{FilesGive, code_for}
 use Rattle.trace_call.specs.Form.{EndsWords}
 use Rattle.trace_call.specs.HowEnded.{WereEnds, ends_by, ends_text}
 use Rattle.trace_call.proofs.Agrees.{same_told}

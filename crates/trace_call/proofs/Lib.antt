@@ -1,3 +1,4 @@
+pub mod Taken
 pub mod Added
 pub mod Agrees
 pub mod Counted

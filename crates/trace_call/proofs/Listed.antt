@@ -15,10 +15,10 @@ use Rattle.junction_run.specs.Loading.{program_at}
 use Rattle.junction_run.specs.Played.{IsPlayed, IsWritten}
 use Rattle.junction_run.specs.Programs.{Runs}
 use Rattle.trace_run.specs.Told.{told_from}
-use Rattle.trace_values.specs.declared.columns.Column.{Column}
-use Rattle.trace_values.specs.Columns.{columns_of}
-use Rattle.trace_load.specs.Loaded.{FilesGive, code_for}
-use Rattle.trace_second.specs.Listing.{second_told}
+use Rattle.trace_told.specs.declared.columns.Column.{Column}
+use Rattle.trace_told.specs.Columns.{columns_of}
+use Rattle.trace_call.specs.Loaded.{FilesGive, code_for}
+use Rattle.trace_told.specs.Listing.{second_told}
 use Rattle.trace_call.specs.Form.{SecondWords}
 use Rattle.trace_call.specs.Second.{WasListed, second_by, second_text}
 use Rattle.trace_call.proofs.Agrees.{same_told}

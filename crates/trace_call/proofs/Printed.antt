@@ -20,10 +20,10 @@ use Rattle.junction_run.specs.Loading.{program_at}
 use Rattle.junction_run.specs.Played.{IsPlayed, IsWritten}
 use Rattle.junction_run.specs.Programs.{Runs}
 use Rattle.trace_run.specs.Told.{told_from}
-use Rattle.trace_values.specs.Columns.{columns_of}
-use Rattle.trace_load.specs.Loaded.{FilesGive, code_for}
-use Rattle.trace_prints.specs.Printed.{prints_told}
-use Rattle.trace_prints.specs.Traces.{TraceOf, traces_of}
+use Rattle.trace_told.specs.Columns.{columns_of}
+use Rattle.trace_call.specs.Loaded.{FilesGive, code_for}
+use Rattle.trace_told.specs.Printed.{prints_told}
+use Rattle.trace_told.specs.Traces.{TraceOf, traces_of}
 use Rattle.trace_call.specs.Form.{RunWords}
 use Rattle.trace_call.specs.Prints.{WerePrints, prints_by, prints_text, traces_in}
 use Rattle.trace_call.proofs.Agrees.{same_told}

@@ -23,9 +23,9 @@ use Rattle.junction_run.specs.Programs.{Runs}
 use Rattle.junction_run.specs.Sites.{playing_in, site_in}
 use Rattle.junction_run.specs.Stop.{IsUnloadedBy}
 use Rattle.trace_run.specs.Told.{told_from}
-use Rattle.trace_values.specs.declared.columns.Column.{Column}
-use Rattle.trace_values.specs.Rows.{header_text, row_told}
-use Rattle.trace_load.specs.Loaded.{FilesGive}
+use Rattle.trace_told.specs.declared.columns.Column.{Column}
+use Rattle.trace_told.specs.ValueRows.{header_text, row_told}
+use Rattle.trace_call.specs.Loaded.{FilesGive}
 use Rattle.trace_call.specs.declared.stop.Stop.{Stop}
 use Rattle.trace_call.specs.declared.stop.Stop.TheVariants.{Words, NoName, Run}
 use Rattle.trace_call.specs.Chosen.{IsChosen}

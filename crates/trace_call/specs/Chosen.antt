@@ -10,9 +10,9 @@ use Rattle.junction_run.specs.declared.stop.PlayStop.TheVariants as play
 use Rattle.junction_run.specs.declared.stop.Stop.TheVariants.{Load, Play}
 use Rattle.trace_run.specs.declared.play.Stop.{Stop as TellStop}
 use Rattle.trace_run.specs.declared.play.Stop.TheVariants as tell
-use Rattle.trace_values.specs.declared.columns.Column.{Column}
-use Rattle.trace_values.specs.Columns.{IsUnknown, columns_of}
-use Rattle.trace_values.specs.Nearest.{IsNearest}
+use Rattle.trace_told.specs.declared.columns.Column.{Column}
+use Rattle.trace_told.specs.Columns.{IsUnknown, columns_of}
+use Rattle.trace_told.specs.Nearest.{IsNearest}
 use Rattle.trace_call.specs.declared.stop.Stop.{Stop}
 use Rattle.trace_call.specs.declared.stop.Stop.TheVariants.{Words, NoName, Run}
 use Rattle.trace_call.specs.Values.{AllNamed, columns_for}

@@ -12,8 +12,8 @@ use Rattle.junction_run.specs.Loading.{LoadsProgram, Playing, program_at, Reache
 use Rattle.junction_run.specs.Played.{IsPlayed, IsWritten}
 use Rattle.junction_run.specs.Stop.{IsUnloadedBy}
 use Rattle.trace_run.specs.Told.{told_from}
-use Rattle.trace_ends.specs.Rows.{end_told, header_text}
-use Rattle.trace_load.specs.Loaded.{FilesGive, code_for}
+use Rattle.trace_told.specs.EndRows.{end_told, header_text}
+use Rattle.trace_call.specs.Loaded.{FilesGive, code_for}
 use Rattle.trace_call.specs.declared.stop.Stop.{Stop}
 use Rattle.trace_call.specs.declared.stop.Stop.TheVariants.{Words, NoName, Run}
 use Rattle.trace_call.specs.Form.{EndsWords}

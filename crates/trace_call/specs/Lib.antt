@@ -1,3 +1,5 @@
+pub mod Kept
+pub mod Loaded
 pub mod Call
 pub mod Chosen
 pub mod Form

@@ -25,10 +25,10 @@ use Rattle.trace_lines.specs.Csv.{csv_text}
 use Rattle.trace_lines.specs.Lcov.{lcov_text}
 use Rattle.trace_lines.specs.Lines.{LineOf, line_in, lines_counted}
 use Rattle.trace_lines.specs.Table.{table_text}
-use Rattle.trace_load.specs.Loaded.{FilesGive, code_for}
-use Rattle.trace_tally.specs.declared.tally.Tally.{Tally}
-use Rattle.trace_tally.specs.Seconds.{sights_by}
-use Rattle.trace_tally.specs.Tallied.{HasTallied}
+use Rattle.trace_call.specs.Loaded.{FilesGive, code_for}
+use Rattle.trace_lines.specs.declared.tally.Tally.{Tally}
+use Rattle.trace_lines.specs.Seconds.{sights_by}
+use Rattle.trace_lines.specs.Tallied.{HasTallied}
 use Rattle.trace_call.specs.declared.form.Style.{Style}
 use Rattle.trace_call.specs.declared.form.Style.TheVariants.{Table, Csv, Lcov}
 use Rattle.trace_call.specs.declared.stop.Stop.{Stop}

@@ -15,10 +15,10 @@ use Rattle.junction_run.specs.Loading.{LoadsProgram, Playing, program_at, Reache
 use Rattle.junction_run.specs.Played.{IsPlayed, IsWritten}
 use Rattle.junction_run.specs.Stop.{IsUnloadedBy}
 use Rattle.trace_run.specs.Told.{told_from}
-use Rattle.trace_values.specs.Columns.{columns_of}
-use Rattle.trace_load.specs.Loaded.{FilesGive, code_for}
-use Rattle.trace_prints.specs.Printed.{prints_told}
-use Rattle.trace_prints.specs.Traces.{TraceOf, traces_of}
+use Rattle.trace_told.specs.Columns.{columns_of}
+use Rattle.trace_call.specs.Loaded.{FilesGive, code_for}
+use Rattle.trace_told.specs.Printed.{prints_told}
+use Rattle.trace_told.specs.Traces.{TraceOf, traces_of}
 use Rattle.trace_call.specs.declared.stop.Stop.{Stop}
 use Rattle.trace_call.specs.declared.stop.Stop.TheVariants.{Words, NoName, Run}
 use Rattle.trace_call.specs.Form.{RunWords}

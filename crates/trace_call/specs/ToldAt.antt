@@ -10,8 +10,8 @@ use Rattle.junction_run.specs.declared.stop.Stop.{Stop}
 use Rattle.junction_run.specs.declared.stop.Stop.TheVariants.{Load, Play}
 use Rattle.junction_run.specs.Played.{IsPlayed, IsWritten}
 use Rattle.junction_run.specs.Sites.{playing_in}
-use Rattle.trace_values.specs.declared.columns.Column.{Column}
-use Rattle.trace_values.specs.Rows.{header_text}
+use Rattle.trace_told.specs.declared.columns.Column.{Column}
+use Rattle.trace_told.specs.ValueRows.{header_text}
 use Rattle.trace_call.specs.Values.{rows_text}
 
 -- a detector file was played at a site: the values that the code's seconds left were written

@@ -13,11 +13,11 @@ use Rattle.junction_run.specs.Loading.{LoadsProgram, Playing, program_at, Reache
 use Rattle.junction_run.specs.Played.{IsPlayed, IsWritten}
 use Rattle.junction_run.specs.Stop.{IsUnloadedBy}
 use Rattle.trace_run.specs.Told.{told_from}
-use Rattle.trace_values.specs.declared.columns.Column.{Column}
-use Rattle.trace_values.specs.Columns.{IsUnknown, NamesSome, chosen_by, columns_of}
-use Rattle.trace_values.specs.Nearest.{IsNearest}
-use Rattle.trace_values.specs.Rows.{header_text, row_within}
-use Rattle.trace_load.specs.Loaded.{FilesGive}
+use Rattle.trace_told.specs.declared.columns.Column.{Column}
+use Rattle.trace_told.specs.Columns.{IsUnknown, NamesSome, chosen_by, columns_of}
+use Rattle.trace_told.specs.Nearest.{IsNearest}
+use Rattle.trace_told.specs.ValueRows.{header_text, row_within}
+use Rattle.trace_call.specs.Loaded.{FilesGive}
 use Rattle.trace_call.specs.declared.stop.Stop.{Stop}
 use Rattle.trace_call.specs.declared.stop.Stop.TheVariants.{Words, NoName, Run}
 use Rattle.trace_call.specs.Form.{ValuesWords}

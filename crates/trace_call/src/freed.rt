@@ -5,7 +5,7 @@
 use controller::Controller;
 use det_stream::Lines;
 use junction_run::Site;
-use trace_second::Second;
+use trace_told::Second;
 use vap_check::Checked;
 
 /// Frees a site.

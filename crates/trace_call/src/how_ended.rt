@@ -11,13 +11,15 @@ ghost use Rattle.junction_run.specs.Played.{IsPlayed, IsWritten};
 ghost use Rattle.junction_run.specs.Stop.{StopsWith, play_status};
 ghost use Rattle.junction_run.specs.declared.status.Status.TheVariants as status;
 ghost use Rattle.trace_run.specs.Told.{told_from};
-ghost use Rattle.trace_ends.specs.Rows.{end_told, header_text};
+ghost use Rattle.trace_told.specs.EndRows.{end_told, header_text};
 ghost use Rattle.trace_call.specs.FormWords.{run_named};
 ghost use Rattle.trace_call.specs.HowEnded.{IsHowEnded};
 ghost use Rattle.trace_call.specs.Notes.{status_of};
 
+use crate::begin::start;
 use crate::form::RunNames;
 use crate::freed::{free_program, free_run};
+use crate::load::{Loaded, load_program};
 use crate::stop::Stop;
 use crate::values::{no_memory, play_stop};
 use controller::Controller;
@@ -25,9 +27,8 @@ use det_stream::Lines;
 use junction_run::{PlayStop, Stop as RunStop};
 use sig_io::{Draft, Files, Sink};
 use std::alloc::Global;
-use trace_ends::{Ends, put_header};
-use trace_load::{Loaded, load_program, start};
 use trace_run::tell_all;
+use trace_told::{Ends, put_end_header};
 
 // Writes the ends of stages in a run.
 fn write_ends<'a, F: Files, O: Sink>(
@@ -52,7 +53,7 @@ fn write_ends<'a, F: Files, O: Sink>(
     ensures write { StopsWith play_status status.WriteFault result → Rose (O.faults out.old) (O.faults out.new) }
 {
     let mut draft = Draft::new();
-    put_header(csv, &mut draft, out);
+    put_end_header(csv, &mut draft, out);
     if draft.failed() {
         return Err(PlayStop::WriteFault);
     }

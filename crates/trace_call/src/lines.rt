@@ -20,18 +20,21 @@ ghost use Rattle.junction_run.specs.Stop as stops;
 ghost use Rattle.junction_run.specs.Stop.{StopsWith, play_status};
 ghost use Rattle.junction_run.specs.declared.status.Status.TheVariants as status;
 ghost use Rattle.trace_lines.specs.Lines.{line_in};
-ghost use Rattle.trace_load.specs.Loaded.{code_for};
-ghost use Rattle.trace_tally.specs.Seconds.{sights_by};
-ghost use Rattle.trace_tally.specs.Tallied.{HasTallied};
+ghost use Rattle.trace_call.specs.Loaded.{code_for};
+ghost use Rattle.trace_lines.specs.Seconds.{sights_by};
+ghost use Rattle.trace_lines.specs.Tallied.{HasTallied};
 ghost use Rattle.trace_call.specs.Form.{files_in};
 ghost use Rattle.trace_call.specs.FormWords.{run_named};
 ghost use Rattle.trace_call.specs.Lines.{AreAddedRuns, AreCountedRuns, IsAddedRun, IsLines, IsRun, IsTalliedRun, lines_text};
 ghost use Rattle.trace_call.specs.Notes.{status_of};
 ghost use Rattle.trace_call.specs.Written.{IsWritten};
 
+use crate::again::load_again;
+use crate::begin::start;
 use crate::end::end;
 use crate::form::{RunNames, Style};
 use crate::freed::{free_checked, free_run};
+use crate::load::{Loaded, load_program};
 use crate::stop::Stop;
 use crate::values::play_stop;
 use controller::Controller;
@@ -39,10 +42,8 @@ use det_stream::Lines;
 use junction_run::{LoadStop, PlayStop, Site, SiteWords, Stop as RunStop};
 use sig_io::{Draft, Files, Sink};
 use std::alloc::Global;
-use trace_lines::{Line, put_csv, put_lcov, put_table};
-use trace_load::{Loaded, load_again, load_program, start};
+use trace_lines::{Line, Tally, put_csv, put_lcov, put_table};
 use trace_run::tell_all;
-use trace_tally::Tally;
 use vap_check::Checked;
 
 // Makes the seconds of a detector file and tallies them. Nothing is written.

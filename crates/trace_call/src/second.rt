@@ -12,13 +12,15 @@ ghost use Rattle.junction_run.specs.Played.{IsPlayed, IsWritten};
 ghost use Rattle.junction_run.specs.Stop.{StopsWith, play_status};
 ghost use Rattle.junction_run.specs.declared.status.Status.TheVariants as status;
 ghost use Rattle.trace_run.specs.Told.{told_from};
-ghost use Rattle.trace_second.specs.Listing.{column_of, second_told};
+ghost use Rattle.trace_told.specs.Listing.{column_of, second_told};
 ghost use Rattle.trace_call.specs.FormWords.{run_named};
 ghost use Rattle.trace_call.specs.Second.{IsSecond};
 ghost use Rattle.trace_call.specs.Notes.{status_of};
 
+use crate::begin::start;
 use crate::form::RunNames;
 use crate::freed::{free_checked, free_listing, free_run, free_site};
+use crate::load::{Loaded, load_program};
 use crate::stop::Stop;
 use crate::values::{no_memory, play_stop};
 use controller::Controller;
@@ -26,9 +28,8 @@ use det_stream::Lines;
 use junction_run::{PlayStop, Stop as RunStop};
 use sig_io::{Draft, Files, Sink};
 use std::alloc::Global;
-use trace_load::{Loaded, load_program, start};
 use trace_run::tell_all;
-use trace_second::Second;
+use trace_told::Second;
 
 // Writes the listing of a second of a run.
 fn write_second<'a, F: Files, O: Sink>(

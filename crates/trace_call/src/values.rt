@@ -15,7 +15,7 @@ ghost use Rattle.junction_run.specs.Stop as stops;
 ghost use Rattle.junction_run.specs.Stop.{StopsWith, play_status};
 ghost use Rattle.junction_run.specs.declared.status.Status.TheVariants as status;
 ghost use Rattle.trace_run.specs.Told.{told_from};
-ghost use Rattle.trace_values.specs.Rows.{header_text, row_told};
+ghost use Rattle.trace_told.specs.ValueRows.{header_text, row_told};
 ghost use Rattle.trace_call.specs.Chosen.{IsChosen, IsNoNameStop, play_stop_of};
 ghost use Rattle.trace_call.specs.FormWords.{run_named};
 ghost use Rattle.trace_call.specs.Notes.{status_of};
@@ -24,15 +24,15 @@ ghost use Rattle.trace_call.specs.Values.{IsValues};
 
 use crate::form::{RunNames, Window};
 use crate::freed::{free_checked, free_controller, free_run, free_site};
+use crate::load::{Loaded, load_program};
 use crate::stop::Stop;
 use controller::Controller;
 use det_stream::Lines;
 use junction_run::{LineReason, LoadStop, PlayStop, Site, Stop as RunStop, make_controller};
 use sig_io::{Draft, Files, Sink};
 use std::alloc::Global;
-use trace_load::{Loaded, load_program};
 use trace_run::{Stop as TellStop, tell_all};
-use trace_values::{Column, NoChoice, Rows, choose, columns_of, nearest_name, put_header};
+use trace_told::{Column, NoChoice, Rows, choose, columns_of, nearest_name, put_value_header};
 use vap_check::Checked;
 
 // A stop for want of memory, before anything was written.
@@ -120,7 +120,7 @@ fn write_values<'a, F: Files, O: Sink>(
     ensures write { StopsWith play_status status.WriteFault result → Rose (O.faults out.old) (O.faults out.new) }
 {
     let mut draft = Draft::new();
-    put_header(checked, columns, &mut draft, out);
+    put_value_header(checked, columns, &mut draft, out);
     if draft.failed() {
         return Err(PlayStop::WriteFault);
     }

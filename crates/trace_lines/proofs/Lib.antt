@@ -2,3 +2,4 @@ mod Blocks
 mod Fronts
 mod Within
 mod Texts
+mod Tallies

@@ -3,8 +3,8 @@ use Rattle.std.proofs.Common.{◌≡◌, ℕ, ◌<◌, List, subst}
 use Rattle.std.specs.Prelude.{All, IfOk, Result, Ok, Err}
 use Rattle.std.proofs.lemmas.List.Elements.{All-filter, All-map}
 use Rattle.vap_code.specs.declared.Instr.{Instr}
-use Rattle.trace_counts.specs.declared.places.Mark.{Mark}
-use Rattle.trace_counts.specs.Places.{IsWithin, statements_in, tests_in}
+use Rattle.trace_watch.specs.declared.places.Mark.{Mark}
+use Rattle.trace_watch.specs.Places.{IsWithin, statements_in, tests_in}
 use Rattle.trace_lines.specs.Rows.{IsRowWithin, is_in, lines_of, place_of, places_in, row_of, rows_of}
 
 places_within : (places line : ℕ) (marks : List Mark) → All (IsWithin places) marks → All (λ p. p < places) (places_in line marks)

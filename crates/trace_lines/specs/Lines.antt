@@ -3,7 +3,7 @@ use Rattle.std.specs.Prelude.{ℕ, Bool, false, ◌||◌, List, [], ◌∷◌, c
 use Rattle.std.specs.List.{flat_map}
 use Rattle.vap_code.specs.declared.Instr.{Instr}
 use Rattle.vap_code.specs.Sights.{Sight}
-use Rattle.trace_counts.specs.Counted.{answers_no, answers_yes, begins, most_counted}
+use Rattle.trace_watch.specs.Counted.{answers_no, answers_yes, begins, most_counted}
 use Rattle.trace_lines.specs.declared.line.Answers.{Answers}
 use Rattle.trace_lines.specs.declared.line.Line.{Line}
 use Rattle.trace_lines.specs.Rows.{RowOf, rows_of}

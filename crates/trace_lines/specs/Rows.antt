@@ -1,8 +1,8 @@
 -- The lines of a program that have a statement, with the places of their statements and tests.
 use Rattle.std.specs.Prelude.{ℕ, ◌<◌, ◌==◌, All, Bool, List, [], ◌∷◌, filter, map, if◌then◌else◌}
 use Rattle.vap_code.specs.declared.Instr.{Instr}
-use Rattle.trace_counts.specs.declared.places.Mark.{Mark}
-use Rattle.trace_counts.specs.Places.{statements_in, tests_in}
+use Rattle.trace_watch.specs.declared.places.Mark.{Mark}
+use Rattle.trace_watch.specs.Places.{statements_in, tests_in}
 use Rattle.trace_lines.specs.declared.rows.Row.{Row}
 
 -- a line, and the places in the code of its statements and tests

@@ -1,7 +1,7 @@
-//! What ran of a program, line by line: in how many seconds, how often, and how its tests were answered.
+//! What ran of a program, line by line, in the seconds of a run: in how many seconds, how often, and how its tests were answered.
 //!
-//! `specs/Rows` says which lines a code has, `specs/Lines` what is counted of them in the seconds of a run, and `specs/Csv` and
-//! `specs/Lcov` what is written of that.
+//! `specs/Rows` says which lines a code has, `specs/Seconds` what is seen in the seconds of a run, `specs/Lines` and `specs/Tallied`
+//! what is counted of that, and `specs/Csv`, `specs/Lcov` and `specs/Table` what is written.
 #![tactic(auto)]
 
 mod csv;
@@ -10,9 +10,11 @@ mod line;
 mod pieces;
 mod rows;
 mod table;
+mod tally;
 
 pub use csv::put_csv;
 pub use lcov::put_lcov;
 pub use line::{Answers, Line};
 pub use rows::{Row, rows_of};
 pub use table::put_table;
+pub use tally::Tally;

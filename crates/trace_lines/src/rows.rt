@@ -3,7 +3,7 @@ ghost use Rattle.std.specs.Prelude.{◌≡◌, All, IfOk, length, map};
 ghost use Rattle.trace_lines.specs.Rows.{IsRowWithin, lines_of, places_in, row_in, row_of, rows_of};
 
 use std::alloc::{AllocError, Global};
-use trace_counts::{Mark, statements_in, tests_in};
+use trace_watch::{Mark, statements_in, tests_in};
 use vap_code::Instr;
 
 /// A line, and the places in the code of its statements and tests.

@@ -3,7 +3,7 @@ use Rattle.std.specs.List.{slice_get, slice_split}
 use Rattle.std.proofs.lemmas.Iterator.Splits.{YieldsList-from_slice_split}
 use Rattle.std.proofs.lemmas.Iterator.Consumers.{nth_from_yields_List}
 use Rattle.std.proofs.lemmas.Option.{get_or_from_slice_get}
-use Rattle.file_lines.proofs.Numbered.{get_or-none}
+use Rattle.table_check.proofs.Numbered.{get_or-none}
 use Rattle.site_findings.proofs.slips.field_in.Goals as goal
 
 pub returns-in-Some : goal.returns-in-Some

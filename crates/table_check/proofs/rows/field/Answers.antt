@@ -1,5 +1,5 @@
 use Rattle.csv.specs.Records.{fields_of}
-use Rattle.table_check.proofs.Fields.{field_there, field_none}
+use Rattle.table_check.proofs.FieldSpans.{field_there, field_none}
 use Rattle.table_check.proofs.rows.field.Goals as goal
 
 pub returns-in-Some : goal.returns-in-Some

@@ -10,7 +10,7 @@ use Rattle.junction_run.specs.Stop.{play_status}
 use Rattle.junction_run.specs.declared.status.Status.TheVariants as status
 use Rattle.junction_run.specs.declared.stop.PlayStop.{PlayStop}
 use Rattle.junction_run.proofs.Ends.{is_cut}
-use Rattle.trace_ends.specs.Rows.{end_told, header_text}
+use Rattle.trace_told.specs.EndRows.{end_told, header_text}
 use Rattle.trace_call.proofs.Ended.{known_first, written_stop_either}
 use Rattle.trace_call.proofs.Ends.{played_stop, rose_failed, rose_later, stopped_writing}
 use Rattle.trace_call.proofs.how_ended.write_ends.Goals as goal
@@ -19,16 +19,16 @@ pub returns-then-failed-clause-told : goal.returns-then-failed-clause-told
 returns-then-failed-clause-told g c = λ first stands none unordered.
     let start = g.O.Sink.taken c.args.out.now in
     let header : List ℕ = header_text c.args.csv in
-    let cut = is_cut start (g.O.Sink.taken c.put_header.new.out) c.put_header.new.draft header (sym c.failed.ensures ∙ c.if-failed.true)
-    (c.put_header.ensures.text start [] (c.new-draft.ensures.text start)) in (
+    let cut = is_cut start (g.O.Sink.taken c.put_end_header.new.out) c.put_end_header.new.draft header (sym c.failed.ensures ∙ c.if-failed.true)
+    (c.put_end_header.ensures.text start [] (c.new-draft.ensures.text start)) in (
       [],
-      subst (λ (t : List ℕ). (n : ℕ) × IsCut start (g.O.Sink.taken c.put_header.new.out) n t) (sym (append-nil header)) cut,
+      subst (λ (t : List ℕ). (n : ℕ) × IsCut start (g.O.Sink.taken c.put_end_header.new.out) n t) (sym (append-nil header)) cut,
       λ file e. ((stream_of (file (name_of c.args.lines.now))).frames, refl),
     )
 
 pub returns-then-failed-clause-write : goal.returns-then-failed-clause-write
 returns-then-failed-clause-write g c = λ is.
-    rose_failed c.new-draft.ensures.failed (sym c.failed.ensures ∙ c.if-failed.true) c.put_header.ensures.cause
+    rose_failed c.new-draft.ensures.failed (sym c.failed.ensures ∙ c.if-failed.true) c.put_end_header.ensures.cause
 
 pub tell_all-requires-clause-begun : goal.tell_all-requires-clause-begun
 tell_all-requires-clause-begun g c =
@@ -43,7 +43,7 @@ returns-in-Ok-clause-told g c = λ first stands none unordered.
     let ctl = c.args.controller.now in
     let text : Bool → List ℕ = λ b. header ++ told_from (end_told b (code_of ctl) (site_of ctl)) (logic_of ctl) (site_of ctl) first told.0 in (
       told.0,
-      told.1 start header (c.put_header.ensures.text start [] (c.new-draft.ensures.text start)) ∙ ap (λ (b : Bool). append_known start (text b)) c.new-ends.ensures.csv,
+      told.1 start header (c.put_end_header.ensures.text start [] (c.new-draft.ensures.text start)) ∙ ap (λ (b : Bool). append_known start (text b)) c.new-ends.ensures.csv,
       λ file e. told.3 file e,
     )
 
@@ -56,12 +56,12 @@ returns-in-Err-clause-told g c = λ first stands none unordered.
     let text : Bool → List ℕ = λ b. header ++ told_from (end_told b (code_of ctl) (site_of ctl)) (logic_of ctl) (site_of ctl) first told.0 in
     rw c.play_stop.ensures (
       told.0,
-      written_stop_either c.in-Err.stop c.args.word text c.new-ends.result.csv c.args.csv c.new-ends.ensures.csv start _ (told.1 start header (c.put_header.ensures.text start [] (c.new-draft.ensures.text start))),
+      written_stop_either c.in-Err.stop c.args.word text c.new-ends.result.csv c.args.csv c.new-ends.ensures.csv start _ (told.1 start header (c.put_end_header.ensures.text start [] (c.new-draft.ensures.text start))),
       λ file e. played_stop c.in-Err.stop c.args.word _ told.0 (told.3 file e),
     )
 
 pub returns-in-Err-clause-write : goal.returns-in-Err-clause-write
 returns-in-Err-clause-write g c = λ is.
-    rose_later (sym c.failed.ensures ∙ c.if-failed.false) c.put_header.ensures.cause
+    rose_later (sym c.failed.ensures ∙ c.if-failed.false) c.put_end_header.ensures.cause
     (c.in-Err.ensures.write (ap Err (stopped_writing c.in-Err.stop c.args.word
     (subst (λ (s : PlayStop). play_status s ≡ status.WriteFault) c.play_stop.ensures is))))

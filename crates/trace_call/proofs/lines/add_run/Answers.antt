@@ -2,7 +2,7 @@ use Rattle.std.proofs.Common.{◌∙◌}
 use Rattle.vap_ast.specs.Tree.{program_of}
 use Rattle.junction_run.specs.FormWords.{site_in}
 use Rattle.junction_run.specs.Sites as sites
-use Rattle.trace_load.specs.Loaded.{code_for}
+use Rattle.trace_call.specs.Loaded.{code_for}
 use Rattle.trace_call.proofs.Counted.{run_added, run_not_added}
 use Rattle.trace_call.proofs.lines.add_run.Goals as goal
 

@@ -2,7 +2,7 @@ use Rattle.std.proofs.Common.{◌∙◌, ℕ, List, String, Global, drop, map, s
 use Rattle.vap_ast.specs.Tree.{program_of}
 use Rattle.vap_code.specs.Codes.{CodeOf}
 use Rattle.junction_run.specs.FormWords.{site_in}
-use Rattle.trace_load.specs.Loaded.{code_for}
+use Rattle.trace_call.specs.Loaded.{code_for}
 use Rattle.trace_call.specs.Form.{files_in}
 use Rattle.trace_call.proofs.Added.{behind_is, few_files, file_is, no_files}
 use Rattle.trace_call.proofs.Counted.{HasAdded, added_all, added_more, added_stopped}

@@ -6,8 +6,8 @@ use Rattle.vap_code.specs.Sights.{Sight}
 use Rattle.controller.specs.Past.{Site}
 use Rattle.junction_run.specs.FormWords.{site_in}
 use Rattle.junction_run.specs.Loading.{site_of}
-use Rattle.trace_load.specs.Loaded.{code_for}
-use Rattle.trace_tally.specs.Tallied.{HasTallied}
+use Rattle.trace_call.specs.Loaded.{code_for}
+use Rattle.trace_lines.specs.Tallied.{HasTallied}
 use Rattle.trace_call.specs.Form.{files_in}
 use Rattle.trace_call.proofs.Counted.{HasAdded}
 use Rattle.trace_call.proofs.lines.add_runs.Given as goal

@@ -1,7 +1,7 @@
 use Rattle.std.proofs.Common.{◌∙◌, List, ℕ, map, string_bytes, Global}
 use Rattle.vap_ast.specs.Tree.{program_of}
 use Rattle.junction_run.specs.Sites as sites
-use Rattle.trace_load.specs.Loaded.{code_for}
+use Rattle.trace_call.specs.Loaded.{code_for}
 use Rattle.trace_call.specs.Form.{files_in}
 use Rattle.trace_call.specs.FormWords.{run_named}
 use Rattle.trace_call.proofs.Counted.{all_counted, first_stopped, first_tallied, later_stopped, memory_wanted}

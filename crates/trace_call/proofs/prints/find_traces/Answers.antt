@@ -1,6 +1,6 @@
 use Rattle.std.proofs.Common.{◌∙◌}
 use Rattle.vap_ast.specs.Tree.{program_of}
-use Rattle.trace_prints.specs.Traces.{traces_of}
+use Rattle.trace_told.specs.Traces.{traces_of}
 use Rattle.trace_call.proofs.prints.find_traces.Goals as goal
 
 pub returns-in-Ok-traces_of : goal.returns-in-Ok-traces_of

@@ -5,7 +5,7 @@ use Rattle.controller.specs.Controls.{code_of, logic_of, site_of}
 use Rattle.controller.specs.Past.{Past, opening}
 use Rattle.det_stream.specs.Answers.{name_of}
 use Rattle.junction_run.specs.Sites.{site_in}
-use Rattle.trace_prints.specs.Traces.{trace_in}
+use Rattle.trace_told.specs.Traces.{trace_in}
 use Rattle.trace_call.specs.FormWords.{run_named}
 use Rattle.trace_call.proofs.Printed.{were_prints}
 use Rattle.trace_call.proofs.prints.prints.Goals as goal

@@ -6,7 +6,7 @@ use Rattle.controller.specs.Controls.{code_of, logic_of, site_of}
 use Rattle.controller.specs.Past.{Past, opening}
 use Rattle.det_stream.specs.Answers.{name_of}
 use Rattle.junction_run.specs.Sites.{site_in}
-use Rattle.trace_second.specs.Listing.{column_of}
+use Rattle.trace_told.specs.Listing.{column_of}
 use Rattle.trace_call.specs.Form.{SecondWords}
 use Rattle.trace_call.specs.FormWords.{run_named}
 use Rattle.trace_call.proofs.Listed.{was_listed}

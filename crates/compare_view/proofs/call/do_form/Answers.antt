@@ -1,9 +1,0 @@
-use Rattle.std.proofs.Common.{◌∙◌}
-use Rattle.compare_view.specs.Form.{asked_in}
-use Rattle.compare_view.proofs.Calls.{answered}
-use Rattle.compare_view.proofs.call.do_form.Goals as goal
-
-pub returns-in-Ok-load-clause-answered : goal.returns-in-Ok-load-clause-answered
-returns-in-Ok-load-clause-answered g c file told =
-    answered (asked_in c.args.form.now) file c.tell.result _ _
-    (rw (c.in-Ok.ensures.bytes file told, c.in-Ok-load.ensures.bytes file (c.in-Ok.ensures.contents_stay ∙ told)) at c.tell.ensures.told)

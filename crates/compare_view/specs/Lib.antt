@@ -1,5 +1,0 @@
-pub mod Form
-pub mod Loaded
-pub mod Told
-pub mod Call
-pub mod Laws

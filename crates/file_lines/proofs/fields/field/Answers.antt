@@ -1,7 +1,0 @@
-use Rattle.file_lines.specs.Fields.{field_at, spans_of}
-use Rattle.file_lines.proofs.Numbered.{get_or-changed_none}
-use Rattle.file_lines.proofs.fields.field.Goals as goal
-
-pub returns-in-None : goal.returns-in-None
-returns-in-None c =
-    get_or-changed_none (field_at c.args.row.now) (spans_of c.args.row.now) c.args.place (c.in-None.ensures.span)

@@ -1,7 +1,0 @@
-use Rattle.std.proofs.Common.{refl, arith}
-use Rattle.file_lines.specs.Fields.{spans_of}
-use Rattle.file_lines.proofs.fields.span_of.Goals as goal
-
-pub loop-i-init : goal.loop-i-init
-unfolding spans_of
-loop-i-init c = (omega arith, refl)

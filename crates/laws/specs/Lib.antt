@@ -1,0 +1,15 @@
+pub mod RunLogs
+pub mod LiveLogs
+pub mod PicturesOfRecords
+pub mod BreachesAndVerdicts
+pub mod LinesCounted
+pub mod LinesSeen
+pub mod SourceLines
+pub mod UnitsSpent
+pub mod TracesStand
+pub mod CleanInterstages
+pub mod TrialsSettle
+pub mod StagesShown
+pub mod SteeringPrograms
+pub mod Ways
+pub mod OneProgram

@@ -1,5 +1,0 @@
-use Rattle.line_laws.proofs.Spending.{budget_is_spent, fewer_units_suffice, units_are_few}
-use Rattle.line_laws.proofs.laws.units_are_spent.Goals as goal
-
-pub returns : goal.returns
-returns c = record { few = fewer_units_suffice; all = budget_is_spent; within = units_are_few }

@@ -1,4 +1,0 @@
-pub mod Counted
-pub mod Seen
-pub mod SourceLines
-pub mod Spent

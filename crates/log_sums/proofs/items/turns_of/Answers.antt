@@ -1,0 +1,6 @@
+use Rattle.log_sums.proofs.Added.{item_more}
+use Rattle.log_sums.proofs.items.turns_of.Goals as goal
+
+pub loop-place-preserved : goal.loop-place-preserved
+loop-place-preserved c =
+    item_more c.loop-place.items.items c.push.new.self.items c.args.turns.now c.loop-place.place c.get.result c.get.ensures c.in-Ok.ensures.items c.loop-place.invariant

@@ -1,9 +1,0 @@
-use Rattle.std.proofs.Common.{[]}
-use Rattle.log_view.specs.Letters.{letters_text}
-use Rattle.log_svg.specs.ShownIn.{shown_in}
-use Rattle.log_view.proofs.call.write_letters.Goals as goal
-
-pub returns-clause-written : goal.returns-clause-written
-returns-clause-written g c =
-    let start = g.O.Sink.taken c.args.out.now in
-    c.end.ensures.written start (letters_text (shown_in c.args.diagram.now)) (c.put_text.ensures.text start [] (c.new-draft.ensures.text start))

@@ -1,6 +1,0 @@
-use Rattle.std.proofs.Common.{◌≡◌, ◌++◌, take}
-use Rattle.log_view.specs.Gathered.{commands_by}
-use Rattle.log_view.proofs.gathering.add_commands.Given as goal
-
-abbrev pub invariant-loop-place : goal.invariant-loop-place
-invariant-loop-place l = l.refusals.items ≡ l.fn.refusals.items ++ commands_by l.second (take l.place l.stages)

@@ -1,6 +1,0 @@
-use Rattle.std.proofs.Common.{◌≡◌, ◌++◌, take}
-use Rattle.log_view.specs.Gathered.{turns_by}
-use Rattle.log_view.proofs.gathering.add_turns.Given as goal
-
-abbrev pub invariant-loop-place : goal.invariant-loop-place
-invariant-loop-place l = l.refusals.items ≡ l.fn.refusals.items ++ turns_by l.second (take l.place l.turns)

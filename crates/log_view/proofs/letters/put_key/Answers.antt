@@ -1,7 +1,0 @@
-use Rattle.log_view.specs.Letters.{key_text}
-use Rattle.sig_io.proofs.Drafts.{then}
-use Rattle.log_view.proofs.letters.put_key.Goals as goal
-
-pub returns : goal.returns
-unfolding key_text
-returns g c = then c.put.ensures c.put-2.ensures

@@ -1,3 +1,0 @@
-pub mod NotYet
-pub mod Over
-pub mod Restarted

@@ -1,6 +1,0 @@
-use Rattle.std.proofs.Common.{refl}
-use Rattle.part_sums.proofs.Over.{ends}
-use Rattle.part_sums.proofs.parts.close.Goals as goal
-
-pub returns-clause-sums : goal.returns-clause-sums
-returns-clause-sums c = λ groups from to records r most is. ends groups from to records r c.args.sums _ is most refl

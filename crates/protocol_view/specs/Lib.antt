@@ -1,3 +1,0 @@
-pub mod Form
-pub mod Gathered
-pub mod Call

@@ -1,3 +1,0 @@
-mod Headers
-mod Lines
-mod Agree

@@ -1,8 +1,0 @@
-use Rattle.record_laws.proofs.Agree.{agree, unwatched_agree}
-use Rattle.record_laws.proofs.laws.pictures_agree.Goals as goal
-
-pub returns-clause-lines : goal.returns-clause-lines
-returns-clause-lines c = agree
-
-pub returns-clause-unwatched : goal.returns-clause-unwatched
-returns-clause-unwatched c = unwatched_agree

@@ -1,4 +1,0 @@
-pub mod Telling
-pub mod Added
-pub mod Serving
-pub mod EarlyTurns

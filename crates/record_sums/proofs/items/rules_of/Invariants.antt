@@ -1,6 +1,0 @@
-use Rattle.std.proofs.Common.{◌≡◌, take, map}
-use Rattle.record_sums.specs.Told.{alone}
-use Rattle.record_sums.proofs.items.rules_of.Given as goal
-
-abbrev pub invariant-loop-turn : goal.invariant-loop-turn
-invariant-loop-turn l = l.items.items ≡ map alone (take l.turn-index l.turns)

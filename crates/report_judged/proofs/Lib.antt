@@ -1,0 +1,11 @@
+pub mod BreachReading
+pub mod BreachCalls
+pub mod ProtocolReading
+pub mod ProtocolCalls
+pub mod RefusalReading
+pub mod RefusalCalls
+pub mod SiteLoading
+pub mod SiteMore
+pub mod SiteCalls
+pub mod FewStages
+pub mod SiteByWords

@@ -1,0 +1,14 @@
+pub mod BreachForm
+pub mod BreachesFound
+pub mod BreachCall
+pub mod BreachesWritten
+pub mod ProtocolForm
+pub mod ProtocolGathered
+pub mod ProtocolCall
+pub mod RefusalForm
+pub mod RefusalsFound
+pub mod RefusalCall
+pub mod SiteForm
+pub mod SiteStop
+pub mod SiteParts
+pub mod SiteCall

@@ -1,0 +1,44 @@
+use Rattle.std.proofs.Common.{◌≡◌, ◌∙◌, [], ℕ, List, Option, Err, refl, ap, sym, subst}
+use Rattle.std.specs.Prelude.{MatchOption}
+use Rattle.log_read.specs.RecordAnswers.{Reads, name_of, names_of}
+use Rattle.report_seen.specs.SumsCall.{IsTextOf, IsOfParts, IsWhole, written_text}
+use Rattle.report_seen.specs.SumsForm.{asked_in}
+use Rattle.report_seen.specs.Summed.{AreSumsIn}
+use Rattle.report_seen.proofs.SumsCalls.{answered, unserved, unsummed}
+use Rattle.report_seen.proofs.SumsReading.{head_named, unread}
+use Rattle.report_seen.proofs.sums_call.do_whole.Goals as goal
+
+pub returns-in-Err-clause-answered : goal.returns-in-Err-clause-answered
+returns-in-Err-clause-answered g c file told =
+    rw c.stop_of.ensures
+    (unsummed (asked_in c.args.form.now) file _ _ _ (unread [] (file c.args.form.now.log.now) [] c.in-Err.stop (c.in-Err.ensures.opened file told [])) refl)
+
+pub returns-in-Err-serves_for-clause-answered : goal.returns-in-Err-serves_for-clause-answered
+returns-in-Err-serves_for-clause-answered g c file told =
+    let form = c.args.form.now in
+    let first = c.in-Ok.records in
+    unserved (asked_in form) file (names_of first) c.in-Err-serves_for.stop _ _ (head_named first (file form.log.now) c.in-Ok.ensures.found (c.in-Ok.ensures.opened file told))
+    c.in-Err-serves_for.ensures.stop (λ words. rw c.names.ensures.names at (c.in-Err-serves_for.ensures.lacking (ap Err words))) refl
+
+pub returns-in-Ok-add_up-clause-answered : goal.returns-in-Ok-add_up-clause-answered
+returns-in-Ok-add_up-clause-answered g c file told =
+    let form = c.args.form.now in
+    let first = c.in-Ok.records in
+    let sums = c.in-Ok-add_up.sums in
+    let named : name_of first ≡ form.log.now = c.in-Ok.ensures.name in
+    let begun : Reads first (file form.log.now) [] = c.in-Ok.ensures.opened file told in
+    let is : AreSumsIn (names_of first) (file form.log.now) form.from form.to sums =
+    rw named at (c.in-Ok-add_up.ensures.summing file (c.in-Ok.ensures.contents_stay ∙ told) (rw (← named) at begun)) in
+    let text : List ℕ = written_text form.csv c.names-in-Ok-add_up.result.now sums in
+    let whole : IsWhole (asked_in form) file text = record {
+      names = names_of first;
+      sums = sums;
+      serves = c.in-Ok-serves_for.serves.items;
+      named = rw c.names.ensures.names at c.in-Ok-serves_for.ensures.found;
+      sums_are = is;
+      serves_are = c.in-Ok-add_up.ensures.serves ∙ c.deref.ensures.value;
+      text_is = ap (λ names. written_text form.csv names sums) (c.names-in-Ok-add_up.ensures.names ∙ c.in-Ok-add_up.ensures.names);
+    } in
+    let text_of : IsTextOf (asked_in form) file text =
+    subst (λ (each : Option ℕ). MatchOption each (IsWhole (asked_in form) file text) (λ n. IsOfParts (asked_in form) n file text)) (sym c.requires) whole in
+    answered (asked_in form) file text c.write_sums.result _ _ text_of c.write_sums.ensures.written

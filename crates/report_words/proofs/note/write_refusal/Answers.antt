@@ -1,0 +1,17 @@
+use Rattle.std.proofs.Common.{◌≡◌, ◌∙◌, ◌++◌, rules, List, ℕ, ap}
+use Rattle.std.specs.Fmt.{decimal}
+use Rattle.std.specs.Prelude.{codes}
+use Rattle.std.specs.Io.KnownBytes.{append_known}
+use Rattle.report_words.proofs.Pieces.{eleven}
+use Rattle.report_words.proofs.note.write_refusal.Goals as goal
+
+pub returns : goal.returns
+returns g c = λ clean.
+    let told = c.args.told.now in
+    let line : List ℕ = c.as_bytes.result.now in
+    let digits : line ≡ decimal c.args.line = search rules in
+    c.write_pieces.ensures clean ∙ ap (λ l. append_known (g.N.Sink.taken c.args.notes.now) l)
+    (eleven (codes "log_report: ") c.args.word.now (codes ":") line (codes ": ") told.name.now told.blank.now told.first.now told.gap.now
+    told.second.now (codes "\n")
+    ∙ ap (λ l. codes "log_report: " ++ c.args.word.now ++ codes ":" ++ l ++ codes ": " ++ told.name.now ++ told.blank.now ++ told.first.now ++
+    told.gap.now ++ told.second.now ++ codes "\n") digits)

@@ -1,6 +1,0 @@
-use Rattle.std.proofs.Common.{◌≡◌, map, take}
-use Rattle.site_view.specs.Parts.{short_names}
-use Rattle.site_view.proofs.parts.short_names.Given as goal
-
-abbrev pub invariant-loop-word : goal.invariant-loop-word
-invariant-loop-word l = l.names.items ≡ short_names (map (λ w. w.items) (take l.word-index l.words))

@@ -1,4 +1,0 @@
-pub mod Form
-pub mod Stop
-pub mod Parts
-pub mod Call

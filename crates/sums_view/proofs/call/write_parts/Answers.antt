@@ -1,8 +1,0 @@
-use Rattle.std.proofs.Common.{[]}
-use Rattle.sums_view.specs.Call.{written_parts}
-use Rattle.sums_view.proofs.call.write_parts.Goals as goal
-
-pub returns-clause-written : goal.returns-clause-written
-returns-clause-written g c =
-    let start = g.O.Sink.taken c.args.out.now in
-    c.end.ensures.written start (written_parts c.args.csv c.args.names.now c.args.parts.now) (c.put_asked_parts.ensures.text start [] (c.new-draft.ensures.text start))

@@ -1,4 +1,0 @@
-pub mod Serves
-pub mod Form
-pub mod Summed
-pub mod Call

@@ -1,7 +1,0 @@
-mod Began
-mod Kept
-mod Looked
-mod Orders
-pub mod Seconds
-mod Seen
-mod Told

@@ -1,8 +1,0 @@
-use Rattle.trace_laws.proofs.Programs.{is_played, one_given}
-use Rattle.trace_laws.proofs.laws.one_program.Goals as goal
-
-pub returns-clause-one : goal.returns-clause-one
-returns-clause-one c = one_given c.answers_are_right.ensures.once
-
-pub returns-clause-played : goal.returns-clause-played
-returns-clause-played c = is_played

@@ -1,3 +1,0 @@
-mod Gaps
-mod Printed
-mod Traced

@@ -1,3 +1,0 @@
-pub mod Became
-pub mod Listing
-pub mod Words

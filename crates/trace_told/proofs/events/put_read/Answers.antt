@@ -1,0 +1,14 @@
+use Rattle.std.proofs.Common.{◌≡◌, w32}
+use Rattle.std.proofs.lemmas.Int.{to_z-of_z}
+use mir.Val.{SFits, of_z, to_z}
+use Rattle.sig_io.proofs.Drafts.{same_put, then}
+use Rattle.trace_told.specs.Words.{reading_text}
+use Rattle.trace_told.proofs.events.put_read.Goals as goal
+
+pub returns : goal.returns
+returns g c =
+    let a_fits : SFits w32 c.args.a = c.ranges.a in
+    let a : to_z w32 (of_z w32 c.args.a) ≡ c.args.a = to_z-of_z w32 c.args.a a_fits in
+    let b_fits : SFits w32 c.args.b = c.ranges.b in
+    let b : to_z w32 (of_z w32 c.args.b) ≡ c.args.b = to_z-of_z w32 c.args.b b_fits in
+    then c.put.ensures (same_put (λ j. reading_text c.args.kind (a j) (b j)) c.put_reading.ensures)

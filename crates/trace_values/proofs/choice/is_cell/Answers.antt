@@ -1,8 +1,0 @@
-use Rattle.std.proofs.Common.{◌∙◌, ◌++◌, sym, codes}
-use Rattle.std.specs.Fmt.{decimal}
-use Rattle.trace_values.proofs.Named.{with_front}
-use Rattle.trace_values.proofs.choice.is_cell.Goals as goal
-
-pub returns-in-Some : goal.returns-in-Some
-returns-in-Some c =
-    c.is_place.ensures ∙ sym (with_front c.args.name.now (codes "[" ++ (decimal c.args.place ++ codes "]")) c.args.bytes.now c.in-Some.rest.now c.in-Some.ensures)

@@ -1,7 +1,0 @@
-use Rattle.std.proofs.Common.{◌≡◌, ◌++◌}
-use Rattle.sig_types.specs.Words.{tabulate}
-use Rattle.trace_values.specs.declared.columns.Column.TheVariants.{Variable}
-use Rattle.trace_values.proofs.columns.add_variables.Given as goal
-
-abbrev pub invariant-loop-v : goal.invariant-loop-v
-invariant-loop-v l = l.columns.items ≡ l.fn.columns.items ++ tabulate Variable l.v

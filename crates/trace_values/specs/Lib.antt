@@ -1,4 +1,0 @@
-pub mod Choices
-pub mod Columns
-pub mod Nearest
-pub mod Rows
