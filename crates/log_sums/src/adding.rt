@@ -10,7 +10,7 @@ ghost use Rattle.log_sums.specs.declared.detector.DetectorSums.{DetectorSums};
 ghost use Rattle.log_sums.specs.declared.group.GroupSums.{GroupSums};
 ghost use Rattle.log_sums.specs.Detectors.{AreDetectorSums};
 ghost use Rattle.log_sums.specs.Groups.{AreGroupSums};
-ghost use Rattle.log_sums.specs.Keys.{command_code, fault_code, place_code, turn_code};
+ghost use Rattle.log_sums.specs.Keys.{command_code, fault_code, turn_code};
 ghost use Rattle.log_sums.specs.Tallies.{AreTallies};
 ghost use Rattle.log_sums.specs.Adding.{AddsUp, AddsUpTo};
 ghost use Rattle.log_sums.specs.Adding.{AreRefusalsShown};

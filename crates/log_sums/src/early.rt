@@ -1,5 +1,5 @@
 // The turns that are refused before the first green of their group.
-ghost use Rattle.std.specs.Prelude.{◌≡◌, ◌+◌, ◌^◌, ◌<◌, ◌≤◌, ◌==◌, ◌++◌, ◌∷◌, [], true, Bool, ℕ, List, IfOk, OnOk, filter, length, map, slice_index_or, take, if◌then◌else◌};
+ghost use Rattle.std.specs.Prelude.{◌≡◌, ◌+◌, ◌^◌, ◌<◌, ◌≤◌, ◌==◌, ◌++◌, ◌∷◌, [], true, Bool, ℕ, IfOk, OnOk, filter, length, map, if◌then◌else◌};
 ghost use Rattle.sig_types.specs.declared.refused.TurnRefusal.{TurnRefusal};
 ghost use Rattle.log_sums.specs.declared.group.GroupSums.{GroupSums};
 ghost use Rattle.log_sums.specs.Early.{TellsEarly};

@@ -1,5 +1,5 @@
 // What a record refuses, as lists.
-ghost use Rattle.std.specs.Prelude.{◌≡◌, ◌+◌, ◌^◌, ◌<◌, ◌≤◌, ◌++◌, ◌∷◌, IfOk, length, map, take};
+ghost use Rattle.std.specs.Prelude.{◌≡◌, ◌+◌, ◌^◌, ◌<◌, ◌≤◌, ◌++◌, ◌∷◌, IfOk, length, map};
 ghost use Rattle.log_sums.specs.Told.{alone};
 
 use sig_types::{Memory, StageRefusal, StageRefusals, TurnRefusal, TurnRefusals};

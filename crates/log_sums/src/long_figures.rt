@@ -1,5 +1,5 @@
 // What a series of long numbers adds up to.
-ghost use Rattle.std.specs.Prelude.{◌≡◌, ◌+◌, ◌*◌, ◌^◌, ◌<◌, ◌≤◌, ◌==◌, nat_le, nat_lt, ℕ, max, min, if◌then◌else◌};
+ghost use Rattle.std.specs.Prelude.{◌≡◌, ◌+◌, ◌*◌, ◌^◌, ◌<◌, ◌≤◌, ◌==◌, nat_le, ℕ, max, min, if◌then◌else◌};
 ghost use Rattle.log_sums.specs.Series.{lesser};
 
 /// What a series of numbers of up to 64 bits adds up to, one for each second, of which 0 says that there is nothing to count.

@@ -1,5 +1,5 @@
 // What detectors saw that serve a group, where it begins to count anew.
-ghost use Rattle.std.specs.Prelude.{◌≡◌, ◌+◌, ◌<◌, ◌≤◌, ℕ, List, IfOk, length, slice_index_or, take};
+ghost use Rattle.std.specs.Prelude.{◌≡◌, ◌+◌, ◌<◌, ◌≤◌, ℕ, IfOk, length, slice_index_or};
 ghost use Rattle.sig_types.specs.declared.aspect.Aspect.{Aspect};
 ghost use Rattle.log_sums.specs.ServeSums.{AreServeSums};
 ghost use Rattle.log_sums.specs.declared.serves.Served.{Served};

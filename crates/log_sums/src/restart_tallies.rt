@@ -1,5 +1,5 @@
 // Tallies that begin to count anew.
-ghost use Rattle.std.specs.Prelude.{◌≡◌, ◌+◌, ◌<◌, ◌≤◌, ℕ, List, IfOk, take};
+ghost use Rattle.std.specs.Prelude.{◌≡◌, ◌+◌, ◌<◌, ◌≤◌, ℕ, List, IfOk};
 ghost use Rattle.log_sums.specs.Tallies.{AreCounts, AreTallies};
 
 use crate::figures::Figures;

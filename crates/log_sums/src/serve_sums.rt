@@ -1,5 +1,5 @@
 // What the fronts of detectors add up to that serve a group.
-ghost use Rattle.std.specs.Prelude.{◌≡◌, ◌+◌, ◌*◌, ◌^◌, ◌<◌, ◌≤◌, ◌==◌, nat_le, Bool, ℕ, if◌then◌else◌};
+ghost use Rattle.std.specs.Prelude.{◌≡◌, ◌+◌, ◌*◌, ◌^◌, ◌<◌, ◌≤◌, ◌==◌, ℕ, if◌then◌else◌};
 ghost use Rattle.sig_types.specs.declared.aspect.Aspect.{Aspect};
 
 use crate::figures::Figures;

@@ -1,10 +1,10 @@
 // What detectors saw that serve a group.
-ghost use Rattle.std.specs.Prelude.{◌≡◌, ◌+◌, ◌*◌, ◌^◌, ◌<◌, ◌≤◌, false, ℕ, All, List, IfOk, length, map, slice_index_or, if◌then◌else◌};
+ghost use Rattle.std.specs.Prelude.{◌≡◌, ◌+◌, ◌*◌, ◌^◌, ◌<◌, ◌≤◌, ℕ, All, IfOk, length, slice_index_or, if◌then◌else◌};
 ghost use Rattle.sig_types.specs.declared.aspect.Aspect.{Aspect};
-ghost use Rattle.sig_types.specs.Counts.{count_in, fronts};
+ghost use Rattle.sig_types.specs.Counts.{fronts};
 ghost use Rattle.log_sums.specs.ServeSums.{AreServeSums};
 ghost use Rattle.log_sums.specs.declared.serves.Served.{Served};
-ghost use Rattle.log_sums.specs.Serves.{AddServes, fronts_at, serves_of};
+ghost use Rattle.log_sums.specs.Serves.{fronts_at, serves_of};
 
 use crate::serve_sums::ServeSums;
 use sig_types::{Aspect, Frame, GroupNo, Memory, Picture};

@@ -1,5 +1,5 @@
 // What the records of a log add up to.
-ghost use Rattle.std.specs.Prelude.{◌≡◌, ◌<◌, ◌≤◌, ℕ, [], List, IfOk, length, slice_index_or};
+ghost use Rattle.std.specs.Prelude.{◌≡◌, ◌<◌, ◌≤◌, ℕ, [], IfOk, length, slice_index_or};
 ghost use Rattle.sig_types.specs.declared.aspect.Aspect.{Aspect};
 ghost use Rattle.log_sums.specs.declared.detector.DetectorSums.{DetectorSums};
 ghost use Rattle.log_sums.specs.declared.group.GroupSums.{GroupSums};

@@ -1,6 +1,6 @@
 // How often things came.
-ghost use Rattle.std.specs.Prelude.{◌≡◌, ◌+◌, ◌-◌, ◌^◌, ◌<◌, ◌≤◌, ◌==◌, ◌&&◌, ◌++◌, ◌∷◌, [], not, min, true, false, Bool, List, ℕ, OnOk, length, if◌then◌else◌};
-ghost use Rattle.std.specs.List.{count_by, list_any};
+ghost use Rattle.std.specs.Prelude.{◌≡◌, ◌+◌, ◌-◌, ◌^◌, ◌<◌, ◌≤◌, ◌==◌, ◌&&◌, ◌++◌, ◌∷◌, [], not, min, true, false, List, ℕ, OnOk, length, if◌then◌else◌};
+ghost use Rattle.std.specs.List.{list_any};
 ghost use Rattle.log_sums.specs.Tallies.{AreCounts, AreTallies, AwaitItems, times_in, times_of};
 
 use crate::figures::Figures;

@@ -7,7 +7,7 @@ ghost use Rattle.pua_model.specs.Plan.{groups_in};
 ghost use Rattle.sig_tables.specs.SiteRules.{rules_of};
 ghost use Rattle.log_judge.specs.Breaches.{breaches, breaches_within};
 ghost use Rattle.log_judge.specs.Stands.{StandsFor, groups_of, seconds_of, terms_of};
-ghost use Rattle.log_read.specs.Answers.{Reads, begin_of, first_given, is_live, name_of, pictures_given};
+ghost use Rattle.log_read.specs.Answers.{Reads, begin_of, is_live, name_of, pictures_given};
 ghost use Rattle.log_site.specs.Sites.{site_of_tables};
 ghost use Rattle.report_judged.specs.BreachesFound.{IsFinding, IsReadFault, IsReading, IsWriteFault};
 

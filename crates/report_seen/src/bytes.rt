@@ -1,5 +1,5 @@
 // The bytes of a log, as the one file that there is.
-ghost use Rattle.std.specs.Prelude.{◌≡◌, ◌<◌, ◌≤◌, Some, length};
+ghost use Rattle.std.specs.Prelude.{◌≡◌, ◌<◌, ◌≤◌, Some};
 
 use sig_io::{Failed, Files};
 

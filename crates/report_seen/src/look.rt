@@ -1,5 +1,5 @@
 // The words behind the seconds of a diagram.
-ghost use Rattle.std.specs.Prelude.{◌≡◌, ◌+◌, ◌<◌, ◌≤◌, ◌==◌, ◌&&◌, nat_le, [], ◌∷◌, IfSome, IsTrue, length, map, string_bytes};
+ghost use Rattle.std.specs.Prelude.{◌≡◌, ◌+◌, ◌<◌, ◌≤◌, ◌==◌, ◌&&◌, [], ◌∷◌, IfSome, IsTrue, length, map, string_bytes};
 ghost use Rattle.log_svg.specs.LookIn.{look_in};
 ghost use Rattle.log_svg.specs.Words.{IsLook};
 ghost use Rattle.report_seen.specs.Look.{byte_at, clock_by, clock_of, fine_to, is_digit, is_fine, is_no_character, is_title, look_of, looked_by, pair_at};

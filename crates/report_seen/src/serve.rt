@@ -1,9 +1,9 @@
 // Detectors that are asked for because they serve a group.
-ghost use Rattle.std.specs.Prelude.{◌≡◌, ◌≤◌, ◌<◌, None, Some, Option, MatchOption, IfOk, IfSome, IfErr, Err, ◌⊎◌, List, [], true, false, length, map, replicate, string_bytes};
+ghost use Rattle.std.specs.Prelude.{◌≡◌, ◌≤◌, ◌<◌, None, Some, Option, MatchOption, IfOk, IfSome, IfErr, Err, ◌⊎◌, List, [], true, false, length, map, string_bytes};
 ghost use Rattle.std.specs.List.{position};
 ghost use Rattle.std.specs.Str.{bytes_eq};
 ghost use Rattle.log_read.specs.Fields.{place_of};
-ghost use Rattle.report_seen.specs.Serves.{detector_items, detectors_in, serve_for, serve_in, serve_words, serves_for, with_detector};
+ghost use Rattle.report_seen.specs.Serves.{detectors_in, serve_for, serve_in, serve_words, serves_for, with_detector};
 
 use crate::stop::Stop;
 use log_sums::Serve;

@@ -1,5 +1,5 @@
 // What is told of two logs.
-ghost use Rattle.std.specs.Prelude.{◌≡◌, ◌≤◌, ◌⊎◌, ℕ, IsTrue, List, None, Some, Option, OnOk, Err, IfErr, IfOk, true, false, map, ◌++◌, length};
+ghost use Rattle.std.specs.Prelude.{◌≡◌, ◌≤◌, ◌⊎◌, List, None, Some, Option, Err, IfErr, IfOk, true, false, map, ◌++◌, length};
 ghost use Rattle.std.specs.List.{flat_map};
 ghost use Rattle.sig_io.specs.Draft.{Puts};
 ghost use Rattle.sig_io.specs.Outside.{Rose};
@@ -9,12 +9,12 @@ ghost use Rattle.log_read.specs.declared.begin.Begin.{Begin};
 ghost use Rattle.log_read.specs.RecordAnswers.{names_of};
 ghost use Rattle.log_read.specs.Readings.{IsRecords};
 ghost use Rattle.log_compare.specs.Rows.{rows_of};
-ghost use Rattle.log_compare.specs.Sides.{Beside, side_in, sides_of, sides_text};
+ghost use Rattle.log_compare.specs.Sides.{side_in, sides_of, sides_text};
 ghost use Rattle.sums_text.specs.Table.{table_text};
 ghost use Rattle.sums_text.specs.Words.{AreTextual};
 ghost use Rattle.report_seen.specs.CompareForm.{asked_in};
 ghost use Rattle.report_seen.specs.Loaded.{IsSummed};
-ghost use Rattle.report_seen.specs.Told.{IsFound, IsOfTelling, IsTold, IsWritten, beginning_text, differs, groups_text, told_text};
+ghost use Rattle.report_seen.specs.Told.{IsFound, IsOfTelling, IsTold, IsWritten, beginning_text, differs, groups_text};
 
 use crate::compare_form::CompareForm;
 use crate::loading::Summed;

@@ -4,8 +4,7 @@ ghost use Rattle.std.specs.Fmt.{decimal};
 ghost use Rattle.std.specs.List.{flat_map};
 ghost use Rattle.std.specs.Io.KnownBytes.{append_known};
 ghost use Rattle.sig_io.specs.Outside.{Rose};
-ghost use Rattle.log_site.specs.Reasons.{told_text};
-ghost use Rattle.report_words.specs.Notes.{line_note, note_of, site_note, stop_note};
+ghost use Rattle.report_words.specs.Notes.{site_note, stop_note};
 
 use crate::stop::JudgeStop;
 use itoa::Buffer;

@@ -1,8 +1,6 @@
 // A record of a table, judged after those before it.
-ghost use Rattle.std.specs.Prelude.{◌≡◌, ◌++◌, ◌∷◌, [], List, is_some, not, length};
+ghost use Rattle.std.specs.Prelude.{◌≡◌, ◌++◌, ◌∷◌, [], List, is_some, length};
 ghost use Rattle.csv.specs.Records.{fields_of};
-ghost use Rattle.std.specs.Option.{option_or};
-ghost use Rattle.sig_types.specs.FirstRefused.{first_reason, when};
 ghost use Rattle.sig_tables.specs.Records.{Row};
 ghost use Rattle.sig_tables.specs.TimesTable.{min_red_in, times_in};
 ghost use Rattle.table_check.specs.Refused.{bare_reason, has_numbers, plan_reason, record_reason};

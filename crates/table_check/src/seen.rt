@@ -1,7 +1,7 @@
 // Which groups, or pairs of groups, the records name that were read: a place for each.
-ghost use Rattle.std.specs.Prelude.{◌≡◌, ◌<◌, ℕ, IfSome, length};
+ghost use Rattle.std.specs.Prelude.{◌≡◌, ◌<◌, IfSome, length};
 ghost use Rattle.csv.specs.Records.{fields_of};
-ghost use Rattle.pua_model.specs.Plan.{group_number, groups_in};
+ghost use Rattle.pua_model.specs.Plan.{group_number};
 ghost use Rattle.sig_tables.specs.IntergreenTable.{is_self as is_self_spec, pair_in, pair_with};
 ghost use Rattle.table_check.specs.Seen.{IsInPlaces, is_seen, is_self_in, noted, pair_place, place_in};
 

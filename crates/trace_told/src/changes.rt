@@ -1,5 +1,5 @@
 // What is written of the values that a second changed.
-ghost use Rattle.std.specs.Prelude.{◌≡◌, ℤ};
+ghost use Rattle.std.specs.Prelude.{◌≡◌};
 ghost use Rattle.std.specs.Fmt.{signed_decimal};
 ghost use Rattle.sig_io.specs.Draft.{Puts};
 ghost use Rattle.sig_types.specs.Number.{equal};

@@ -1,5 +1,5 @@
 // The observer that keeps the lines of commands.
-ghost use Rattle.std.specs.Prelude.{◌≡◌, ◌<◌, [], List, ℤ, ℕ, None, Some, ◌==◌, ◌&&◌, MatchOption, IfSome, slice_get, slice_index_or};
+ghost use Rattle.std.specs.Prelude.{◌≡◌, ◌<◌, [], List, ℤ, ℕ, None, Some, ◌==◌, ◌&&◌, IfSome, slice_get, slice_index_or};
 ghost use Rattle.trace_told.specs.EndLines.{HasNoted, IsNumber, begun_in, commanded, kept_or, pair_place, stage_in};
 
 use sig_types::{CommandKind, StageNo, StagePlace};

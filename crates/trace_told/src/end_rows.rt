@@ -2,8 +2,6 @@
 ghost use Rattle.std.specs.Prelude.{◌≡◌, []};
 ghost use Rattle.std.specs.Fmt.{decimal};
 ghost use Rattle.sig_io.specs.Draft.{Puts};
-ghost use Rattle.pua_model.specs.Plan.{IsPlan, PlanOf};
-ghost use Rattle.stage_machine.specs.Stands.{StandsFor as StagesStand};
 ghost use Rattle.trace_told.specs.EndRows.{csv_header, csv_text, header_text, row_text, words_text};
 
 use crate::end_lines::{FirstLines, begun};

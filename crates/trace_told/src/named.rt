@@ -1,6 +1,5 @@
 // The values that a TRACE prints.
 ghost use Rattle.std.specs.Prelude.{◌≡◌, ◌++◌, IfOk, OnOk, filter};
-ghost use Rattle.vap_ast.specs.Names.{meaning_in};
 ghost use Rattle.trace_told.specs.Named.{is_meant, named_behind, named_by, named_by_all, named_in};
 
 use crate::columns::Column;

@@ -1,5 +1,5 @@
 // The observer that keeps what happens in a pass.
-ghost use Rattle.std.specs.Prelude.{◌≡◌, ◌++◌, ◌∷◌, [], IfOk, if◌then◌else◌, take};
+ghost use Rattle.std.specs.Prelude.{◌≡◌, ◌++◌, ◌∷◌, [], IfOk, if◌then◌else◌};
 ghost use Rattle.std.specs.Option.{option_to_list};
 ghost use Rattle.trace_watch.specs.declared.event.Event.{Event};
 ghost use Rattle.trace_watch.specs.Events.{cell_value, event_of, first_number, goes_back, is_taking, number_at, second_number, tick_event, value_behind};
