@@ -65,10 +65,7 @@ fn show_commands(
     ensures { OnOk result ((a : ℕ → List StageRefusal) (n : ℕ) → second ≡ n + 1 → second < 2 ^ 31 → a second ≡ stages.now →
         AreTallies command_code a from n tallies.old.items → AreTallies command_code a from second tallies.new.items) }
 {
-    let items = match commands_of(alloc, stages) {
-        Ok(items) => items,
-        Err(memory) => return Err(memory),
-    };
+    let items = commands_of(alloc, stages)?;
     show_items(tallies, from, second, items.as_slice())
 }
 
@@ -114,42 +111,25 @@ fn show_early(
         rec.now.second.0 ≡ n + 1 → rec.now.second.0 < 2 ^ 31 → a rec.now.second.0 ≡ map alone (filter (λ r. early r.group.0) rec.now.turns) →
         AreTallies turn_code a from n tallies.old.items → AreTallies turn_code a from rec.now.second.0 tallies.new.items) }
 {
-    let items = match early_of(alloc, groups, rec.picture.len(), &rec.turns) {
-        Ok(items) => items,
-        Err(memory) => return Err(memory),
-    };
-    match show_turns(tallies, from, rec.second.0, items.as_slice()) {
-        Ok(()) => Ok(()),
-        Err(memory) => Err(memory),
-    }
+    let items = early_of(alloc, groups, rec.picture.len(), &rec.turns)?;
+    show_turns(tallies, from, rec.second.0, items.as_slice())?;
+    Ok(())
 }
 
 // Takes the refusals of a second.
 fn show_refusals(alloc: Global, sums: &mut LogSums, rec: &Record) -> Result<(), Memory>
     ensures { OnOk result (AreRefusalsShown rec.now sums.old sums.new) }
 {
-    match show_commands(
+    show_commands(
         alloc,
         &mut sums.commands,
         sums.from,
         rec.second.0,
         &rec.stages,
-    ) {
-        Ok(()) => {}
-        Err(memory) => return Err(memory),
-    }
-    let turns = match turns_of(alloc, &rec.turns) {
-        Ok(turns) => turns,
-        Err(memory) => return Err(memory),
-    };
-    let rules = match rules_of(alloc, turns.as_slice()) {
-        Ok(rules) => rules,
-        Err(memory) => return Err(memory),
-    };
-    match show_turns(&mut sums.turns, sums.from, rec.second.0, turns.as_slice()) {
-        Ok(()) => {}
-        Err(memory) => return Err(memory),
-    }
+    )?;
+    let turns = turns_of(alloc, &rec.turns)?;
+    let rules = rules_of(alloc, turns.as_slice())?;
+    show_turns(&mut sums.turns, sums.from, rec.second.0, turns.as_slice())?;
     show_turns(&mut sums.rules, sums.from, rec.second.0, rules.as_slice())
 }
 
@@ -169,22 +149,11 @@ fn take_second(alloc: Global, sums: &mut LogSums, rec: &Record) -> Result<(), Me
     show_groups(&mut sums.groups, from, second, &rec.picture);
     show_detectors(&mut sums.detectors, from, second, &rec.frame);
     show_serves(&mut sums.serves, from, second, &rec.picture, &rec.frame);
-    match show_items(&mut sums.places, from, second, &[rec.place]) {
-        Ok(()) => {}
-        Err(memory) => return Err(memory),
-    }
-    match show_fault(&mut sums.faults, from, second, rec.fault) {
-        Ok(()) => {}
-        Err(memory) => return Err(memory),
-    }
-    match show_early(alloc, &mut sums.early, &sums.groups, from, rec) {
-        Ok(()) => {}
-        Err(memory) => return Err(memory),
-    }
-    match show_refusals(alloc, sums, rec) {
-        Ok(()) => Ok(()),
-        Err(memory) => Err(memory),
-    }
+    show_items(&mut sums.places, from, second, &[rec.place])?;
+    show_fault(&mut sums.faults, from, second, rec.fault)?;
+    show_early(alloc, &mut sums.early, &sums.groups, from, rec)?;
+    show_refusals(alloc, sums, rec)?;
+    Ok(())
 }
 
 /// Takes the next record of a log. What is behind the last second that counts is told by that alone, that the log goes on.
@@ -197,8 +166,6 @@ pub fn take_record(alloc: Global, sums: &mut LogSums, rec: &Record) -> Result<()
         sums.goes_on = true;
         return Ok(());
     }
-    match take_second(alloc, sums, rec) {
-        Ok(()) => Ok(()),
-        Err(memory) => Err(memory),
-    }
+    take_second(alloc, sums, rec)?;
+    Ok(())
 }

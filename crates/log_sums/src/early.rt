@@ -50,10 +50,7 @@ pub(crate) fn early_of(
     let mut items = Vec::new(alloc);
     for place in 0..turns.len() {
         let turn = turns.get(place);
-        match put_early(&mut items, is_early(groups, shown, turn.group), turn) {
-            Ok(()) => {}
-            Err(memory) => return Err(memory),
-        }
+        put_early(&mut items, is_early(groups, shown, turn.group), turn)?;
     }
     Ok(items)
 }

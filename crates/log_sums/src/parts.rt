@@ -68,15 +68,13 @@ impl PartSums {
     {
         let end = end_behind(from, less_one(each), to);
         let over = Vec::new(alloc);
-        match LogSums::serving(alloc, from, end, serves) {
-            Ok(current) => Ok(PartSums {
-                each,
-                to,
-                over,
-                current,
-            }),
-            Err(memory) => Err(memory),
-        }
+        let current = LogSums::serving(alloc, from, end, serves)?;
+        Ok(PartSums {
+            each,
+            to,
+            over,
+            current,
+        })
     }
 
     /// The sums of all parts, where the log ends.
@@ -91,10 +89,8 @@ impl PartSums {
             mut over,
             current,
         } = self;
-        match put_over(&mut over, current) {
-            Ok(()) => Ok(over),
-            Err(memory) => Err(memory),
-        }
+        put_over(&mut over, current)?;
+        Ok(over)
     }
 }
 
@@ -117,19 +113,11 @@ fn begin_part(alloc: Global, parts: &mut PartSums, rec: &Record) -> Result<(), M
         PartsUpTo groups from each to serves records parts.old → PartsUpTo groups from each to serves (records ++ rec.now ∷ []) parts.new) }
 {
     let end = end_behind(parts.current.to, parts.each, parts.to);
-    let mut next = match restart(alloc, &parts.current, end) {
-        Ok(next) => next,
-        Err(memory) => return Err(memory),
-    };
-    match take_record(alloc, &mut next, rec) {
-        Ok(()) => {}
-        Err(memory) => return Err(memory),
-    }
+    let mut next = restart(alloc, &parts.current, end)?;
+    take_record(alloc, &mut next, rec)?;
     let over = close(mem::replace(&mut parts.current, next));
-    match put_over(&mut parts.over, over) {
-        Ok(()) => Ok(()),
-        Err(memory) => Err(memory),
-    }
+    put_over(&mut parts.over, over)?;
+    Ok(())
 }
 
 /// Takes the next record of a log. It begins a part where the one before is over, but none behind the last second that counts.
@@ -143,8 +131,6 @@ pub fn take_part(alloc: Global, parts: &mut PartSums, rec: &Record) -> Result<()
     if parts.current.to < rec.second.0 && parts.current.to < parts.to {
         return begin_part(alloc, parts, rec);
     }
-    match take_record(alloc, &mut parts.current, rec) {
-        Ok(()) => Ok(()),
-        Err(memory) => Err(memory),
-    }
+    take_record(alloc, &mut parts.current, rec)?;
+    Ok(())
 }

@@ -99,34 +99,13 @@ pub(crate) fn restart(alloc: Global, sums: &LogSums, to: u32) -> Result<LogSums,
     restart_groups(&mut groups);
     let mut detectors = sums.detectors;
     restart_detectors(&mut detectors);
-    let places = match restart_tallies(alloc, &sums.places) {
-        Ok(places) => places,
-        Err(memory) => return Err(memory),
-    };
-    let commands = match restart_tallies(alloc, &sums.commands) {
-        Ok(commands) => commands,
-        Err(memory) => return Err(memory),
-    };
-    let turns = match restart_tallies(alloc, &sums.turns) {
-        Ok(turns) => turns,
-        Err(memory) => return Err(memory),
-    };
-    let rules = match restart_tallies(alloc, &sums.rules) {
-        Ok(rules) => rules,
-        Err(memory) => return Err(memory),
-    };
-    let faults = match restart_tallies(alloc, &sums.faults) {
-        Ok(faults) => faults,
-        Err(memory) => return Err(memory),
-    };
-    let early = match restart_tallies(alloc, &sums.early) {
-        Ok(early) => early,
-        Err(memory) => return Err(memory),
-    };
-    let serves = match restart_serves(alloc, &sums.serves) {
-        Ok(serves) => serves,
-        Err(memory) => return Err(memory),
-    };
+    let places = restart_tallies(alloc, &sums.places)?;
+    let commands = restart_tallies(alloc, &sums.commands)?;
+    let turns = restart_tallies(alloc, &sums.turns)?;
+    let rules = restart_tallies(alloc, &sums.rules)?;
+    let faults = restart_tallies(alloc, &sums.faults)?;
+    let early = restart_tallies(alloc, &sums.early)?;
+    let serves = restart_serves(alloc, &sums.serves)?;
     Ok(LogSums {
         from: sums.seconds.saturating_add(1),
         to,

@@ -61,10 +61,7 @@ pub(crate) fn restart_tallies<K: Key>(
 ) -> Result<Vec<Tally<K>>, Memory>
     ensures { IfOk result (λ v. (a : ℕ → List K) (from n : ℕ) → AreTallies K.code a from n tallies.now → AreTallies K.code a (n + 1) n v.items) }
 {
-    let mut copy = match copy_of(alloc, tallies) {
-        Ok(copy) => copy,
-        Err(memory) => return Err(memory),
-    };
+    let mut copy = copy_of(alloc, tallies)?;
     restart_each(copy.as_mut_slice());
     Ok(copy)
 }

@@ -100,10 +100,7 @@ impl LogSums {
         ensures sums { IfOk result (λ x. (groups : ℕ) → groups ≤ 64 → AddsUpTo groups from to [] x) }
         ensures serves { IfOk result (λ x. serves_of x.serves.items ≡ serves.now) }
     {
-        let served = match none_served(alloc, serves) {
-            Ok(served) => served,
-            Err(memory) => return Err(memory),
-        };
+        let served = none_served(alloc, serves)?;
         let mut sums = LogSums::none(alloc, from, to);
         sums.serves = served;
         Ok(sums)

@@ -133,10 +133,7 @@ fn add_keys<K: Key>(tallies: &mut Vec<Tally<K>>, items: &[K]) -> Result<(), Memo
         AwaitItems K.code a from n items.now tallies.new.items) }
 {
     for item in items {
-        match add_key(tallies, *item) {
-            Ok(()) => {}
-            Err(memory) => return Err(memory),
-        }
+        add_key(tallies, *item)?;
     }
     Ok(())
 }
@@ -180,10 +177,7 @@ pub fn show_items<K: Key>(
     ensures { OnOk result ((a : ℕ → List K) (n : ℕ) → second ≡ n + 1 → second < 2 ^ 31 → a second ≡ items.now →
         AreTallies K.code a from n tallies.old.items → AreTallies K.code a from second tallies.new.items) }
 {
-    match add_keys(tallies, items) {
-        Ok(()) => {}
-        Err(memory) => return Err(memory),
-    }
+    add_keys(tallies, items)?;
     show_each(tallies.as_mut_slice(), from, second, items);
     Ok(())
 }

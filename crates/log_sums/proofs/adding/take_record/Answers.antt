@@ -29,16 +29,16 @@ returns-then-rec-sums-clause-sums c = λ groups from to records wide next small 
       goes_on = sym (lt-ltb to (length (records ++ rec ∷ [])) past);
     }
 
-pub returns-in-Ok-clause-sums : goal.returns-in-Ok-clause-sums
-returns-in-Ok-clause-sums c = λ groups from to records wide next small is.
+pub returns-clause-sums : goal.returns-clause-sums
+returns-clause-sums c = λ groups from to records wide next small is.
     let rec = c.args.rec.now in
     let size = size_more records rec in
     let within : length (records ++ rec ∷ []) ≤ to = omega (arith, is.to_is, next, size, c.if-rec-sums.false) in
     let before : length records ≤ to = omega (arith, within, size) in
     let sums = rw (take_all to records before, ← is.from_is) at is.sums in
     record {
-      from_is = c.in-Ok.ensures.from ∙ is.from_is;
-      to_is = c.in-Ok.ensures.to ∙ is.to_is;
-      sums = rw (take_all to (records ++ rec ∷ []) within, ← is.from_is) (c.in-Ok.ensures.adds groups records wide next small sums);
-      goes_on = c.in-Ok.ensures.goes_on ∙ is.goes_on ∙ le-ltb to (length records) before ∙ sym (le-ltb to (length (records ++ rec ∷ [])) within);
+      from_is = c.in_ok-take_second.ensures.from ∙ is.from_is;
+      to_is = c.in_ok-take_second.ensures.to ∙ is.to_is;
+      sums = rw (take_all to (records ++ rec ∷ []) within, ← is.from_is) (c.in_ok-take_second.ensures.adds groups records wide next small sums);
+      goes_on = c.in_ok-take_second.ensures.goes_on ∙ is.goes_on ∙ le-ltb to (length records) before ∙ sym (le-ltb to (length (records ++ rec ∷ [])) within);
     }

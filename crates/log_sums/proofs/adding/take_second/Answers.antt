@@ -21,12 +21,12 @@ use Rattle.log_sums.proofs.Telling.{agrees_last, agrees_still}
 use Rattle.log_sums.proofs.adding.take_second.Goals as goal
 use Rattle.std.proofs.Common.{ℕ}
 
-pub returns-in-Ok-show_refusals-clause-adds : goal.returns-in-Ok-show_refusals-clause-adds
-returns-in-Ok-show_refusals-clause-adds c = λ groups records wide next small is.
+pub returns-clause-adds : goal.returns-clause-adds
+returns-clause-adds c = λ groups records wide next small is.
     let rec = c.args.rec.now in
     let old = c.args.sums.now in
     let second = rec.second.0 in
-    let refused = c.in-Ok-show_refusals.ensures in
+    let refused = c.in_ok-show_refusals.ensures in
     let last : length (records ++ rec ∷ []) ≡ second = size_more records rec ∙ sym next in
     record {
       seconds_are = refused.seconds ∙ sym last;
@@ -41,7 +41,7 @@ returns-in-Ok-show_refusals-clause-adds c = λ groups records wide next small is
           (agrees_last ℕ (rears_by p) 0 records rec r second next rears)
           (is.detectors_are p d inside f r (agrees_still ℕ (fronts_by p) 0 records rec f fronts) (agrees_still ℕ (rears_by p) 0 records rec r rears)));
       places_are = rw refused.places (tallies_more StagePlace place_code places_by old.from second records rec old.places.items c.show_items.new.tallies.items next small
-          c.in-Ok.ensures is.places_are);
+          c.in_ok-show_items.ensures is.places_are);
       commands_are = tallies_more StageRefusal command_code commands_by old.from second records rec old.commands.items c.show_refusals.new.sums.commands.items next small
           refused.commands is.commands_are;
       turns_are = tallies_more TurnRefusal turn_code turns_by old.from second records rec old.turns.items c.show_refusals.new.sums.turns.items next small
@@ -49,11 +49,11 @@ returns-in-Ok-show_refusals-clause-adds c = λ groups records wide next small is
       rules_are = tallies_more TurnRefusal turn_code rules_by old.from second records rec old.rules.items c.show_refusals.new.sums.rules.items next small
           refused.rules is.rules_are;
       faults_are = rw refused.faults (tallies_more Fault fault_code faults_by old.from second records rec old.faults.items c.show_fault.new.tallies.items next small
-          c.in-Ok-show_fault.ensures is.faults_are);
+          c.in_ok-show_fault.ensures is.faults_are);
       early_are = λ shown turns shows refuses.
           let here = agrees_last (List TurnRefusal) turns_by [] records rec turns second next refuses in
           subst (λ (xs : List (Tally TurnRefusal)). AreTallies turn_code (early_of shown turns) old.from (length (records ++ rec ∷ [])) xs) (sym refused.early)
-          (rw last (c.in-Ok-show_early.ensures (λ g. is_early (shown g) second) (early_of shown turns) (length records)
+          (rw last (c.in_ok-show_early.ensures (λ g. is_early (shown g) second) (early_of shown turns) (length records)
           (record {
             these = λ g d inside.
                 let now = c.show_groups.ensures (shown g) (length records) g d next small inside
@@ -78,5 +78,5 @@ returns-in-Ok-show_refusals-clause-adds c = λ groups records wide next small is
           c.show_serves.ensures.serves c.show_serves.ensures.sums (is.serves_are (omega (arith, early, last, next))));
     }
 
-pub returns-in-Ok-show_refusals-clause-serves : goal.returns-in-Ok-show_refusals-clause-serves
-returns-in-Ok-show_refusals-clause-serves c = ap serves_of c.in-Ok-show_refusals.ensures.serves ∙ c.show_serves.ensures.serves
+pub returns-clause-serves : goal.returns-clause-serves
+returns-clause-serves c = ap serves_of c.in_ok-show_refusals.ensures.serves ∙ c.show_serves.ensures.serves

@@ -10,6 +10,6 @@ loop-place-preserved c =
     record {
       items = λ early tells.
           early_more early c.args.turns.now c.loop-place.place turn old new c.is_early.result c.get-turn.ensures (c.is_early.ensures early tells)
-          c.in-Ok.ensures (before.items early tells);
-      few = one_most old new turn c.is_early.result c.loop-place.place c.in-Ok.ensures before.few;
+          c.in_ok-put_early.ensures (before.items early tells);
+      few = one_most old new turn c.is_early.result c.loop-place.place c.in_ok-put_early.ensures before.few;
     }

@@ -8,8 +8,8 @@ use Rattle.log_sums.specs.Parts.{begin_of, end_of}
 use Rattle.log_sums.proofs.Over.{ended, part_more}
 use Rattle.log_sums.proofs.parts.begin_part.Goals as goal
 
-pub returns-in-Ok-put_over : goal.returns-in-Ok-put_over
-returns-in-Ok-put_over c = λ groups from each to serves records few some wide next small is.
+pub returns : goal.returns
+returns c = λ groups from each to serves records few some wide next small is.
     let rec = c.args.rec.now in
     let old = c.args.parts.now in
     let e = old.current.to in
@@ -25,11 +25,11 @@ returns-in-Ok-put_over c = λ groups from each to serves records few some wide n
     rw (take_all (end_of from each to k) records within) at is.current_is.sums in
     let end : c.end_behind-end.result ≡ min to (e + each) =
     c.end_behind-end.ensures ∙ ap (λ t. min t (e + old.each)) is.to_is ∙ ap (λ a. min to (e + a)) is.each_is in
-    let begun = c.in-Ok.ensures.sums groups (begin_of from each k) records few (omega (arith, next, small)) (omega (arith, at.0, end, less, some)) whole in
+    let begun = c.in_ok-next.ensures.sums groups (begin_of from each k) records few (omega (arith, next, small)) (omega (arith, at.0, end, less, some)) whole in
     let first : AddsUpTo groups (n + 1) c.end_behind-end.result (records ++ rec ∷ []) c.replace.new.dest =
-    rw c.replace.ensures.after (c.in-Ok-take_record.ensures.sums groups (n + 1) c.end_behind-end.result records wide next small begun) in
+    rw c.replace.ensures.after (c.in_ok-take_record.ensures.sums groups (n + 1) c.end_behind-end.result records wide next small begun) in
     let old_is : AddsUpTo groups (begin_of from each k) (end_of from each to k) records c.replace.result = rw c.replace.ensures.value is.current_is in
     let over = c.close-over.ensures.sums groups (begin_of from each k) (end_of from each to k) records rec most old_is in
-    part_more groups from each to e serves records rec old _ c.close-over.result some is refl past less refl refl c.in-Ok-put_over.ensures over
+    part_more groups from each to e serves records rec old _ c.close-over.result some is refl past less refl refl c.in_ok-put_over.ensures over
     (subst (λ (t : ℕ). AddsUpTo groups (n + 1) t (records ++ rec ∷ []) c.replace.new.dest) end first) (c.close-over.ensures.serves ∙ ap (λ (x : LogSums). x.serves.items) c.replace.ensures.value)
-    (ap (λ (x : LogSums). serves_of x.serves.items) c.replace.ensures.after ∙ c.in-Ok-take_record.ensures.serves ∙ c.in-Ok.ensures.serves)
+    (ap (λ (x : LogSums). serves_of x.serves.items) c.replace.ensures.after ∙ c.in_ok-take_record.ensures.serves ∙ c.in_ok-next.ensures.serves)

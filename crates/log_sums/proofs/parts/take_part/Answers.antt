@@ -5,8 +5,8 @@ use Rattle.log_sums.proofs.Over.{same_part}
 use Rattle.log_sums.proofs.parts.take_part.Goals as goal
 use Rattle.log_sums.proofs.parts.take_part.Goals.{else-parts-rec-via-then-parts-rec+else-parts, else-parts-rec-via-else-parts-rec}
 
-pub returns-in-Ok : goal.returns-in-Ok
-returns-in-Ok c = λ groups from each to serves records few some wide next small is.
+pub returns : goal.returns
+returns c = λ groups from each to serves records few some wide next small is.
     let old = c.args.parts.now in
     let k = length old.over.items in
     let last : old.current.to ≡ end_of from each to k = is.current_is.to_is in
@@ -16,4 +16,4 @@ returns-in-Ok c = λ groups from each to serves records few some wide next small
       | else-parts-rec-via-else-parts-rec w ↦ omega (arith, w.if-parts-rec.false, last, next)
     ] in
     same_part groups from each to serves records c.args.rec.now old _ is refl refl refl enough
-    (c.in-Ok.ensures.sums groups (begin_of from each k) (end_of from each to k) records wide next small is.current_is) c.in-Ok.ensures.serves
+    (c.in_ok-take_record.ensures.sums groups (begin_of from each k) (end_of from each to k) records wide next small is.current_is) c.in_ok-take_record.ensures.serves

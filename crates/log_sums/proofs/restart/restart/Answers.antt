@@ -16,17 +16,17 @@ returns-clause-sums c = λ groups from records few small most is. record {
     size = c.restart_detectors.ensures.size;
     detectors_are = λ p d inside f r fronts rears.
         c.restart_detectors.ensures.each f r from (length records) p d inside (is.detectors_are p d inside f r fronts rears);
-    places_are = λ a agrees. c.in-Ok.ensures a from (length records) (rw c.deref.ensures.value (is.places_are a agrees));
-    commands_are = λ a agrees. c.in-Ok-restart_tallies.ensures a from (length records) (rw c.deref-2.ensures.value (is.commands_are a agrees));
-    turns_are = λ a agrees. c.in-Ok-restart_tallies-2.ensures a from (length records) (rw c.deref-3.ensures.value (is.turns_are a agrees));
-    rules_are = λ a agrees. c.in-Ok-restart_tallies-3.ensures a from (length records) (rw c.deref-4.ensures.value (is.rules_are a agrees));
-    faults_are = λ a agrees. c.in-Ok-restart_tallies-4.ensures a from (length records) (rw c.deref-5.ensures.value (is.faults_are a agrees));
+    places_are = λ a agrees. c.in_ok-places.ensures a from (length records) (rw c.deref.ensures.value (is.places_are a agrees));
+    commands_are = λ a agrees. c.in_ok-commands.ensures a from (length records) (rw c.deref-2.ensures.value (is.commands_are a agrees));
+    turns_are = λ a agrees. c.in_ok-turns.ensures a from (length records) (rw c.deref-3.ensures.value (is.turns_are a agrees));
+    rules_are = λ a agrees. c.in_ok-rules.ensures a from (length records) (rw c.deref-4.ensures.value (is.rules_are a agrees));
+    faults_are = λ a agrees. c.in_ok-faults.ensures a from (length records) (rw c.deref-5.ensures.value (is.faults_are a agrees));
     early_are = λ shown turns shows refuses.
-        c.in-Ok-restart_tallies-5.ensures (early_of shown turns) from (length records) (rw c.deref-6.ensures.value (is.early_are shown turns shows refuses));
+        c.in_ok-early.ensures (early_of shown turns) from (length records) (rw c.deref-6.ensures.value (is.early_are shown turns shows refuses));
     others_are = is.others_are;
     serves_are = λ early.
-        restarted from records c.args.sums.now.serves.items _ (c.in-Ok-restart_serves.ensures.serves ∙ ap serves_of c.deref-7.ensures.value)
-        (rw c.deref-7.ensures.value at c.in-Ok-restart_serves.ensures.sums) (is.serves_are early);
+        restarted from records c.args.sums.now.serves.items _ (c.in_ok-serves.ensures.serves ∙ ap serves_of c.deref-7.ensures.value)
+        (rw c.deref-7.ensures.value at c.in_ok-serves.ensures.sums) (is.serves_are early);
   };
   goes_on = sym (le-ltb c.args.to (length records) most);
 }

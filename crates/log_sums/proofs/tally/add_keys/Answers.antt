@@ -7,7 +7,7 @@ loop-item-init g c = λ a from n is. record { keys_are = is.keys_are; each = is.
 pub loop-item-preserved : goal.loop-item-preserved
 loop-item-preserved g c = λ a from n is.
     let before = c.loop-item.invariant a from n is in
-    let more = c.in-Ok.ensures a from n _ before in
+    let more = c.in_ok-add_key.ensures a from n _ before in
     rw (take_more c.args.items.now c.loop-item.item-index c.item-item.result c.loop-item-test.true, ← c.item-item.is) more
 
 pub returns : goal.returns

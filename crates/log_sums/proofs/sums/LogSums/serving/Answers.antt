@@ -21,7 +21,7 @@ returns-clause-sums c = λ groups few.
         early_are = s.early_are;
         others_are = s.others_are;
         faults_are = s.faults_are;
-        serves_are = λ early i d inside a f shown fronts. c.in-Ok.ensures.sums i d inside a f c.args.from;
+        serves_are = λ early i d inside a f shown fronts. c.in_ok-served.ensures.sums i d inside a f c.args.from;
       };
       goes_on = none.goes_on;
     }
