@@ -58,10 +58,7 @@ fn show_all(
     for place in 0..picture.len() {
         let aspect = picture.get(place);
         let row = &mut rows[usize::from(place)];
-        match show(row, second, aspect) {
-            Ok(()) => {}
-            Err(memory) => return Err(memory),
-        }
+        show(row, second, aspect)?;
     }
     Ok(())
 }
@@ -73,14 +70,12 @@ impl Chart {
         ensures from { IfOk result (λ c. (c.from ≡ from.0) × (c.past ≡ from.0)) }
         ensures charted { IfOk result (λ c. (h : History) → IsChart h groups from.0 from.0 c.rows) }
     {
-        match no_rows(alloc, groups) {
-            Ok(rows) => Ok(Chart {
-                rows,
-                from: from.0,
-                past: from.0,
-            }),
-            Err(memory) => Err(memory),
-        }
+        let rows = no_rows(alloc, groups)?;
+        Ok(Chart {
+            rows,
+            from: from.0,
+            past: from.0,
+        })
     }
 
     /// Takes the picture of the next second. After `Memory` the chart is of no use.
@@ -94,10 +89,7 @@ impl Chart {
             IsChart h (length self.old.rows) self.old.from self.old.past self.old.rows →
             IsChart h (length self.old.rows) self.old.from (self.old.past + 1) self.new.rows) }
     {
-        match show_all(&mut self.rows, Second(self.past), picture) {
-            Ok(()) => {}
-            Err(memory) => return Err(memory),
-        }
+        show_all(&mut self.rows, Second(self.past), picture)?;
         self.past += 1;
         Ok(())
     }

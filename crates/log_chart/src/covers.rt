@@ -42,10 +42,8 @@ fn take_counts(
         return Ok(());
     }
     let covered = is_covered(cover);
-    match show(&mut cover.spans, Second(second), covered) {
-        Ok(()) => Ok(()),
-        Err(memory) => Err(memory),
-    }
+    show(&mut cover.spans, Second(second), covered)?;
+    Ok(())
 }
 
 /// The 64 detectors before the first second; their spans begin with second `from`.
@@ -85,10 +83,7 @@ pub fn take_frame(
     for place in 0..64u8 {
         let (fronts, rears) = frame.get(place);
         let cover = &mut covers[usize::from(place)];
-        match take_counts(cover, from, second, fronts, rears) {
-            Ok(()) => {}
-            Err(memory) => return Err(memory),
-        }
+        take_counts(cover, from, second, fronts, rears)?;
     }
     Ok(())
 }

@@ -49,10 +49,7 @@ struct Pair {
 
 // A record of no second.
 fn no_record(alloc: Global) -> Result<Record, Memory> {
-    let stages = match StageRefusals::with_room(alloc) {
-        Ok(stages) => stages,
-        Err(memory) => return Err(memory),
-    };
+    let stages = StageRefusals::with_room(alloc)?;
     Ok(Record {
         second: Second(0),
         place: StagePlace::NoPlan,
@@ -67,14 +64,8 @@ fn no_record(alloc: Global) -> Result<Record, Memory> {
 impl Pair {
     // Two records of no second.
     fn new(alloc: Global) -> Result<Pair, Memory> {
-        let one = match no_record(alloc) {
-            Ok(one) => one,
-            Err(memory) => return Err(memory),
-        };
-        let other = match no_record(alloc) {
-            Ok(other) => other,
-            Err(memory) => return Err(memory),
-        };
+        let one = no_record(alloc)?;
+        let other = no_record(alloc)?;
         Ok(Pair { one, other })
     }
 
@@ -145,10 +136,7 @@ pub fn first_difference<'a>(
     ensures { IfOk result (λ d. (rs ss : List Record) → IsRecords false Begin.AtOne names.now one.now rs None → IsRecords false Begin.AtOne names.now other.now ss None →
         IsDifference one.now other.now rs ss d) }
 {
-    let mut pair = match Pair::new(alloc) {
-        Ok(pair) => pair,
-        Err(memory) => return Err(memory),
-    };
+    let mut pair = Pair::new(alloc)?;
     let mut rest = behind_header(one);
     let mut other_rest = behind_header(other);
     let mut second: u32 = 1;

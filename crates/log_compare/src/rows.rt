@@ -59,10 +59,7 @@ pub fn rows_of(alloc: Global, table: &[u8]) -> Result<Vec<Row<'_>>, Memory>
     let mut rest = behind_first(table);
     while !rest.is_empty() {
         let (line, after) = first_line(rest);
-        match put_row(&mut rows, line) {
-            Ok(()) => {}
-            Err(memory) => return Err(memory),
-        }
+        put_row(&mut rows, line)?;
         rest = after;
     }
     Ok(rows)

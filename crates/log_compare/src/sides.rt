@@ -110,10 +110,7 @@ fn put_others<'a>(
         ≡ map side_in sides.old.items ++ flat_map (lone_sides (map row_in ones.now)) (map row_in others.now)) }
 {
     for row in others {
-        match put_lone(sides, ones, *row) {
-            Ok(()) => {}
-            Err(memory) => return Err(memory),
-        }
+        put_lone(sides, ones, *row)?;
     }
     Ok(())
 }
@@ -128,14 +125,9 @@ pub fn sides_of<'a>(
     ensures { IfOk result (λ sides. map side_in sides.items ≡ sides_of (map row_in ones.now) (map row_in others.now)) }
 {
     let mut sides = Vec::new(alloc);
-    match put_ones(&mut sides, ones, others) {
-        Ok(()) => {}
-        Err(memory) => return Err(memory),
-    }
-    match put_others(&mut sides, ones, others) {
-        Ok(()) => Ok(sides),
-        Err(memory) => Err(memory),
-    }
+    put_ones(&mut sides, ones, others)?;
+    put_others(&mut sides, ones, others)?;
+    Ok(sides)
 }
 
 // Puts a name behind a space, if there is one.

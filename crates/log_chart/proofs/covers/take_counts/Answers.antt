@@ -13,8 +13,8 @@ returns-then-second-from c = λ f r n next small here there is.
       spans_are = rw (same, c.add_counts.ensures.spans) is.spans_are;
     }
 
-pub returns-in-Ok : goal.returns-in-Ok
-returns-in-Ok c = λ f r n next small here there is.
+pub returns : goal.returns
+returns c = λ f r n next small here there is.
     let counts = c.add_counts.ensures.counts f r n next small here there is.counts_are in
     let old : max c.args.from (n + 1) ≡ c.args.second = omega (arith, next, c.if-second-from.false) in
     let new : max c.args.from (c.args.second + 1) ≡ c.args.second + 1 = omega (arith, c.if-second-from.false) in
@@ -25,6 +25,6 @@ returns-in-Ok c = λ f r n next small here there is.
         fronts_fit = counts.fronts_fit;
         rears_fit = counts.rears_fit;
       };
-      spans_are = rw new (c.in-Ok.ensures.shown (occupied f r) c.args.from (omega (arith, c.if-second-from.false))
+      spans_are = rw new (c.in_ok-show.ensures.shown (occupied f r) c.args.from (omega (arith, c.if-second-from.false))
           (occupied_next f r c.args.second _ counts ∙ sym c.is_covered-covered.ensures) (rw c.add_counts.ensures.spans (rw old at is.spans_are)));
     }

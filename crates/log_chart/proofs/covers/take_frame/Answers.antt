@@ -19,7 +19,7 @@ loop-place-preserved c =
       size = length-set xs i new ∙ before.size;
       covers = λ f r n p d next small less here there is.
           set_shown Cover xs i p new d (λ x. IsCover f r c.args.from c.args.second x) inside
-          (λ same. c.in-Ok.ensures f r n next small
+          (λ same. c.in_ok-take_counts.ensures f r n next small
           (here ∙ (count_at fronts p c.loop-place.place c.args.frame.now (same ∙ at) ∙ sym (ap (λ (x : ℕ × ℕ). x.0) item)))
           (there ∙ (count_at rears p c.loop-place.place c.args.frame.now (same ∙ at) ∙ sym (ap (λ (x : ℕ × ℕ). x.1) item)))
           (rw c.index_mut-cover.ensures.value (read_at Cover (λ x. IsCover f r c.args.from n x) xs c.args.covers.now.items i p d c.index_mut-cover.result.now inside same (before.rest i d (omega (arith, at))) is)))
