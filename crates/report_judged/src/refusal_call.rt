@@ -67,10 +67,8 @@ fn tell_at<'a, F: Files, O: Sink>(
     ensures write { IsWriteFault result → Rose (O.faults out.old) (O.faults out.new) }
     ensures later { F.faults files.old ≤ F.faults files.new }
 {
-    match find_refusals(alloc, tables, form.log, form.from, form.to, files) {
-        Ok(refusals) => write_refusals(&tables.plan, &refusals, form.csv, out),
-        Err(stop) => Err(stop),
-    }
+    let refusals = find_refusals(alloc, tables, form.log, form.from, form.to, files)?;
+    write_refusals(&tables.plan, &refusals, form.csv, out)
 }
 
 // Does what is asked for.

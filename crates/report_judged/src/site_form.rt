@@ -85,8 +85,6 @@ pub fn form_of(words: &[String]) -> Result<SiteForm<'_>, Stop>
         times: times.as_str(),
         intergreens: intergreens.as_str(),
     };
-    match window_of(from.as_str(), to.as_str()) {
-        Ok(window) => looks_form(log.as_str(), window, site, rest),
-        Err(stop) => Err(stop),
-    }
+    let window = window_of(from.as_str(), to.as_str())?;
+    looks_form(log.as_str(), window, site, rest)
 }

@@ -102,15 +102,11 @@ fn window_form<'a>(
     ensures order { IfOk result IsInOrder }
 {
     if word == "diagram" {
-        match window_of(from, to) {
-            Ok(window) => look_form(log, window, rest),
-            Err(stop) => Err(stop),
-        }
+        let window = window_of(from, to)?;
+        look_form(log, window, rest)
     } else if word == "text" {
-        match window_of(from, to) {
-            Ok(window) => letters_form(log, window, rest),
-            Err(stop) => Err(stop),
-        }
+        let window = window_of(from, to)?;
+        letters_form(log, window, rest)
     } else {
         Err(Stop::Words)
     }

@@ -69,10 +69,7 @@ fn add_fronts(fronts: &mut Vec<FrontMark>, second: u32, frame: &Frame) -> Result
 {
     for place in 0..64u8 {
         let (count, _) = frame.get(place);
-        match add_front(fronts, second, DetNo(place + 1), count) {
-            Ok(()) => {}
-            Err(memory) => return Err(memory),
-        }
+        add_front(fronts, second, DetNo(place + 1), count)?;
     }
     Ok(())
 }
@@ -96,10 +93,7 @@ fn add_commands(
     ensures { OnOk result (refusals.new.items ≡ refusals.old.items ++ commands_by second stages.now) }
 {
     for place in 0..stages.len() {
-        match add_refusal(refusals, second, Refused::Command(stages.get(place))) {
-            Ok(()) => {}
-            Err(memory) => return Err(memory),
-        }
+        add_refusal(refusals, second, Refused::Command(stages.get(place)))?;
     }
     Ok(())
 }
@@ -113,10 +107,7 @@ fn add_turns(
     ensures { OnOk result (refusals.new.items ≡ refusals.old.items ++ turns_by second turns.now) }
 {
     for place in 0..turns.len() {
-        match add_refusal(refusals, second, Refused::Turn(turns.get(place))) {
-            Ok(()) => {}
-            Err(memory) => return Err(memory),
-        }
+        add_refusal(refusals, second, Refused::Turn(turns.get(place)))?;
     }
     Ok(())
 }
@@ -125,10 +116,8 @@ fn add_turns(
 fn add_refusals(refusals: &mut Vec<RefusalMark>, rec: &Record) -> Result<(), Memory>
     ensures { OnOk result (refusals.new.items ≡ refusals.old.items ++ refusals_in rec.now) }
 {
-    match add_commands(refusals, rec.second.0, &rec.stages) {
-        Ok(()) => add_turns(refusals, rec.second.0, &rec.turns),
-        Err(memory) => Err(memory),
-    }
+    add_commands(refusals, rec.second.0, &rec.stages)?;
+    add_turns(refusals, rec.second.0, &rec.turns)
 }
 
 // Puts the fault of a second, if it has one.
@@ -165,22 +154,10 @@ fn add_second(diagram: &mut Diagram, rec: &Record) -> Result<(), Memory>
     ensures refusals { OnOk result (diagram.new.refusals.items ≡ diagram.old.refusals.items ++ refusals_in rec.now) }
     ensures faults { OnOk result (diagram.new.faults.items ≡ diagram.old.faults.items ++ faults_in rec.now) }
 {
-    match diagram.chart.take(&rec.picture) {
-        Ok(()) => {}
-        Err(memory) => return Err(memory),
-    }
-    match add_stay(&mut diagram.stays, rec.second, rec.place) {
-        Ok(()) => {}
-        Err(memory) => return Err(memory),
-    }
-    match add_fronts(&mut diagram.fronts, rec.second.0, &rec.frame) {
-        Ok(()) => {}
-        Err(memory) => return Err(memory),
-    }
-    match add_refusals(&mut diagram.refusals, rec) {
-        Ok(()) => {}
-        Err(memory) => return Err(memory),
-    }
+    diagram.chart.take(&rec.picture)?;
+    add_stay(&mut diagram.stays, rec.second, rec.place)?;
+    add_fronts(&mut diagram.fronts, rec.second.0, &rec.frame)?;
+    add_refusals(&mut diagram.refusals, rec)?;
     add_fault(&mut diagram.faults, rec.second.0, rec.fault)
 }
 
@@ -191,18 +168,9 @@ fn begin(alloc: Global, names: &[ShortName], window: Window) -> Result<Diagram, 
     ensures drawn { IfOk result (λ d. IsDrawn names.now [] window.from window.to d) }
     ensures covers { IfOk result (λ d. AreCovered [] window.from window.to d.covers.items) }
 {
-    let copies = match copy_names(alloc, names) {
-        Ok(copies) => copies,
-        Err(memory) => return Err(memory),
-    };
-    let chart = match Chart::new(alloc, names.len() as u8, Second(window.from)) {
-        Ok(chart) => chart,
-        Err(memory) => return Err(memory),
-    };
-    let covers = match no_covers(alloc) {
-        Ok(covers) => covers,
-        Err(memory) => return Err(memory),
-    };
+    let copies = copy_names(alloc, names)?;
+    let chart = Chart::new(alloc, names.len() as u8, Second(window.from))?;
+    let covers = no_covers(alloc)?;
     Ok(Diagram {
         names: copies,
         from: window.from,
@@ -244,10 +212,8 @@ fn take_covers(covers: &mut Vec<Cover>, from: u32, to: u32, rec: &Record) -> Res
     if to < rec.second.0 {
         return Ok(());
     }
-    match take_frame(covers, from, rec.second.0, &rec.frame) {
-        Ok(()) => Ok(()),
-        Err(memory) => Err(memory),
-    }
+    take_frame(covers, from, rec.second.0, &rec.frame)?;
+    Ok(())
 }
 
 // Takes the next record.
@@ -262,14 +228,9 @@ fn take_record(diagram: &mut Diagram, rec: &Record) -> Result<(), Memory>
         AreCovered records diagram.old.from diagram.old.to diagram.old.covers.items →
         AreCovered (records ++ rec.now ∷ []) diagram.old.from diagram.old.to diagram.new.covers.items) }
 {
-    match take_covers(&mut diagram.covers, diagram.from, diagram.to, rec) {
-        Ok(()) => {}
-        Err(memory) => return Err(memory),
-    }
-    match take_window(diagram, rec) {
-        Ok(()) => Ok(()),
-        Err(memory) => Err(memory),
-    }
+    take_covers(&mut diagram.covers, diagram.from, diagram.to, rec)?;
+    take_window(diagram, rec)?;
+    Ok(())
 }
 
 /// Reads a log to its end, and gathers what it has in these seconds.

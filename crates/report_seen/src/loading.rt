@@ -102,8 +102,6 @@ pub(crate) fn load<'a, F: Files>(
     ensures later { F.faults files.old ≤ F.faults files.new }
     ensures cause { IsFault result → Rose (F.faults files.old) (F.faults files.new) }
 {
-    match read_log(alloc, word, files) {
-        Ok(bytes) => sum_up(alloc, word, bytes),
-        Err(stop) => Err(stop),
-    }
+    let bytes = read_log(alloc, word, files)?;
+    sum_up(alloc, word, bytes)
 }

@@ -125,14 +125,9 @@ fn do_whole<F: Files, O: Sink>(
         Ok(records) => records,
         Err(stop) => return Err(stop_of(stop)),
     };
-    let serves = match serves_for(alloc, records.names(), form.serves) {
-        Ok(serves) => serves,
-        Err(stop) => return Err(stop),
-    };
-    match add_up(alloc, &mut records, form.from, form.to, &serves, files) {
-        Ok(sums) => write_sums(form.csv, records.names(), &sums, out),
-        Err(stop) => Err(stop),
-    }
+    let serves = serves_for(alloc, records.names(), form.serves)?;
+    let sums = add_up(alloc, &mut records, form.from, form.to, &serves, files)?;
+    write_sums(form.csv, records.names(), &sums, out)
 }
 
 // Does what is asked for of parts of so many seconds.
@@ -156,11 +151,8 @@ fn do_parts<F: Files, O: Sink>(
         Ok(records) => records,
         Err(stop) => return Err(stop_of(stop)),
     };
-    let serves = match serves_for(alloc, records.names(), form.serves) {
-        Ok(serves) => serves,
-        Err(stop) => return Err(stop),
-    };
-    match add_up_parts(
+    let serves = serves_for(alloc, records.names(), form.serves)?;
+    let parts = add_up_parts(
         alloc,
         &mut records,
         form.from,
@@ -168,10 +160,8 @@ fn do_parts<F: Files, O: Sink>(
         form.to,
         &serves,
         files,
-    ) {
-        Ok(parts) => write_parts(form.csv, records.names(), &parts, out),
-        Err(stop) => Err(stop),
-    }
+    )?;
+    write_parts(form.csv, records.names(), &parts, out)
 }
 
 // Does what is asked for.

@@ -46,14 +46,8 @@ fn table_of(alloc: Global, names: &[ShortName], sums: &LogSums) -> Result<GrowSi
 fn sides_in<'a>(alloc: Global, one: &'a [u8], other: &'a [u8]) -> Result<Vec<Side<'a>>, Memory>
     ensures { IfOk result (λ sides. map side_in sides.items ≡ sides_of (rows_of one.now) (rows_of other.now)) }
 {
-    let ones = match rows_of(alloc, one) {
-        Ok(rows) => rows,
-        Err(memory) => return Err(memory),
-    };
-    let others = match rows_of(alloc, other) {
-        Ok(rows) => rows,
-        Err(memory) => return Err(memory),
-    };
+    let ones = rows_of(alloc, one)?;
+    let others = rows_of(alloc, other)?;
     sides_of(alloc, &ones, &others)
 }
 
@@ -88,10 +82,8 @@ fn difference_of<'a>(
     if !same_names(names, others) {
         return Ok(None);
     }
-    match first_difference(alloc, names, one, other) {
-        Ok(difference) => Ok(Some(difference)),
-        Err(memory) => Err(memory),
-    }
+    let difference = first_difference(alloc, names, one, other)?;
+    Ok(Some(difference))
 }
 
 // Puts names, each after a space.

@@ -5,4 +5,4 @@ use Rattle.report_seen.proofs.gathering.add_commands.Goals as goal
 pub loop-place-preserved : goal.loop-place-preserved
 loop-place-preserved c =
     item_more (λ x. record { second = c.args.second; refused = Command x }) _ _ _ c.args.stages.now c.loop-place.place c.get.result
-    c.get.ensures c.in-Ok.ensures c.loop-place.invariant
+    c.get.ensures c.in_ok-add_refusal.ensures c.loop-place.invariant

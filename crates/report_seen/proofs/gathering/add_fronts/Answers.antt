@@ -9,7 +9,7 @@ loop-place-preserved c =
     let size = c.get-count.ensures.length in
     record {
       put = fronts_more _ _ c.args.fronts.now.items c.args.second c.args.frame.now c.loop-place.place (omega (arith, size, c.loop-place-test.true))
-          (rw c.get-count.ensures.item at c.in-Ok.ensures) c.loop-place.invariant.put;
+          (rw c.get-count.ensures.item at c.in_ok-add_front.ensures) c.loop-place.invariant.put;
       size = λ some. size;
     }
 
