@@ -58,7 +58,7 @@ stage_wished plan i k g le lt =
     ∙ tabulate_at (in_stage plan (interstage_at plan i).to) (groups_in plan) g lt
 
 -- the last picture of a history
-shows_new : (h : History) (p : Picture) (g : ℕ) → shows (h ++ p ∷ []) g ≡ shown p g
+pub shows_new : (h : History) (p : Picture) (g : ℕ) → shows (h ++ p ∷ []) g ≡ shown p g
 shows_new h p g =
     let last : length (h ++ p ∷ []) - 1 ≡ length h = omega (arith, length-append h (p ∷ [])) in
     ap (λ (k : ℕ). trace (h ++ p ∷ []) g k) last ∙ trace-append_new h p g (length h) refl

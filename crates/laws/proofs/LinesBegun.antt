@@ -11,6 +11,7 @@ use Rattle.vap_code.specs.Valid.{is_call}
 use Rattle.laws.specs.UnitsSpent.{line_by, spent_in}
 use Rattle.laws.proofs.OtherUnits.{Onward, computes, onward}
 use Rattle.laws.proofs.OrderlyCode.{calls, behind, Open, Orderly, behind_this}
+use Rattle.laws.proofs.UnitsSpent.{some_is}
 
 -- each of what is seen
 abbrev pub Each_sight : (Sight → Type 0) → List Sight → Type 0
@@ -23,9 +24,6 @@ spends_or_not (Tick l) zero = inl refl
 spends_or_not (Tick l) (suc units) = inr (l, refl)
 spends_or_not _ units = inl refl
 
-first_is : (l line : ℕ) → Some l ≡ Some line → l ≡ line
-first_is l line e = cc
-
 -- what holds of the line of each unit holds of a line at which one is spent
 pub spent_holds : (P : ℕ → Type 0) (xs : List Sight) (k line : ℕ)
     → Each_sight (λ x. (l : ℕ) → line_by x.instr x.state.units ≡ l ∷ [] → P l) xs → slice_get (spent_in xs) k ≡ Some line → P line
@@ -37,7 +35,7 @@ spent_holds P (x ∷ xs) k line each e = elim (spends_or_not x.instr x.state.uni
   where
     at : ((j : ℕ) → slice_get (spent_in xs) j ≡ Some line → P line) → (k l : ℕ) → line_by x.instr x.state.units ≡ l ∷ []
         → slice_get (l ∷ spent_in xs) k ≡ Some line → P line
-    at go zero l is e = subst P (first_is l line e) (each.0 l is)
+    at go zero l is e = subst P (some_is l line e) (each.0 l is)
     at go (suc k) l is e = go k e
 
 module _ (instrs : List Instr) (starts : List ℕ) (world : World) where

@@ -11,7 +11,7 @@ use Rattle.sig_types.specs.declared.numbers.StagePlace.TheVariants.{Stage}
 use Rattle.sig_types.specs.declared.record.Record.{Record}
 use Rattle.sig_types.specs.Counts.{Counts}
 use Rattle.sig_types.specs.Pass.{Logic, Store, commands_after}
-use Rattle.sig_types.specs.Turns.{Picture, History, shown, trace, is_red, is_green}
+use Rattle.sig_types.specs.Turns.{Picture, History, shown, is_red, is_green}
 use Rattle.sig_types.specs.Rules.{IsTwoWay}
 use Rattle.sig_types.specs.Words.{tabulate}
 use Rattle.pua_model.specs.Plan.{PlanOf, groups_in, in_stage}
@@ -19,7 +19,6 @@ use Rattle.stage_machine.specs.Orders.{place_at, stage, stage_wish}
 use Rattle.sig_guard.specs.Safety.{IsHistory, Safe}
 use Rattle.sig_guard.specs.Steady.{shows_wish}
 use Rattle.sig_guard.specs.Step.{guard_picture}
-use Rattle.sig_guard.proofs.Pictures.{trace-append_new}
 use Rattle.sig_guard.proofs.LawProofs.{step_keeps_safe, begins_safe}
 use Rattle.controller.specs.Past.{Site, Past, opening, next_second}
 use Rattle.controller.specs.Second.{record_after, record_of, past_after, past_after_second, past_of, run_from, wishes_in, wishes_of, wish, orders_after, last_direct}
@@ -34,6 +33,7 @@ use Rattle.sig_response.proofs.Whole.{turns_red, turns_green}
 use Rattle.laws.specs.Ways.{heading, left}
 use Rattle.laws.specs.StagesShown.{IsSteered, arrival, StageIsReached, StageIsShown}
 use Rattle.laws.proofs.SteeringOrders.{nearer, at_goal, stays_at_goal}
+use Rattle.laws.proofs.CleanInterstages.{shows_new}
 
 -- one second more of a run
 past_more : (logic : Logic) (site : Site) (store : Store) (frames : List Counts) (n : ℕ) → n < length frames →
@@ -163,12 +163,6 @@ kept logic site store frames (suc n) two count le =
     let before = kept logic site store frames n two count (omega arith) in
     let next = step_keeps_safe site.rules (past_at logic site store frames n).history (wishes_in site (past_at logic site store frames n) (pass_at logic site store frames n)) two before.0 before.1 in
     subst (λ (h : History). IsHistory site.rules.count h × Safe site.rules h) (sym (history_more logic site store frames n (omega arith))) next
-
--- the last picture of a history
-shows_new : (h : History) (p : Picture) (g : ℕ) → shows (h ++ p ∷ []) g ≡ shown p g
-shows_new h p g =
-    let last : length (h ++ p ∷ []) - 1 ≡ length h = omega (arith, length-append h (p ∷ [])) in
-    ap (λ (k : ℕ). trace (h ++ p ∷ []) g k) last ∙ trace-append_new h p g (length h) refl
 
 -- the wishes of the seconds from the n-th on
 abbrev wishes_from : Logic → Site → Store → List Counts → ℕ → ℕ → List Bool

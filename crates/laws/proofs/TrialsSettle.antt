@@ -1,5 +1,5 @@
 -- Trials settle.
-use Rattle.std.proofs.Common.{◌≡◌, ◌∙◌, ℕ, zero, suc, ◌+◌, ◌-◌, ◌<◌, ◌≤◌, max, Bool, true, false, Option, Some, None, is_some, List, [], length, slice_index_or, refl, sym, ap, arith, inl, inr}
+use Rattle.std.proofs.Common.{◌≡◌, ◌∙◌, ℕ, zero, suc, ◌+◌, ◌-◌, ◌<◌, ◌≤◌, max, Bool, true, false, Option, Some, None, List, [], length, slice_index_or, refl, sym, ap, arith, inl, inr}
 use Rattle.std.proofs.lemmas.Bool.{cases_eq, false_from_ne_true, and_parts, and_from}
 use Rattle.sig_types.specs.declared.aspect.Aspect.{Aspect}
 use Rattle.sig_types.specs.Turns.{History, Picture, shown, trace, is_on, is_red, is_green}
@@ -20,6 +20,7 @@ use Rattle.sig_response.proofs.Sites.{row_is, site_of}
 use Rattle.sig_response.proofs.Whole.{turns_red, turns_green}
 use Rattle.laws.specs.TrialsSettle.{BoundOfTables, SettlesExactly}
 use Rattle.laws.proofs.CleanInterstages.{made_kept, made_onward}
+use Rattle.laws.proofs.OneIntergreen.{some_is}
 
 -- numbers that are at most a bound
 greatest_bounded : (f : ℕ → ℕ) (n most : ℕ) → ((i : ℕ) → i < n → f i ≤ most) → greatest f n ≤ most
@@ -93,16 +94,12 @@ settles plan r i site bound apart = all_from _ _ r.count each
             (λ j lt' pair k hi. wished k j hi ∙ false_from_ne_true _ (λ both. apart j g lt' lt pair both is)) (omega (arith, most g lt)))
         go false is = ap is_red (turns_red r (made r (trial_wishes plan i) 0) (λ k. trial_wishes plan i (0 + k)) g 600 site kept.0 kept.1 lt (λ k hi. wished k g hi ∙ is) (omega (arith, most g lt)))
 
-pair_of : (o : Option ℕ) → is_some o ≡ true → (z : ℕ) × (o ≡ Some z)
-pair_of None h = absurd (cc)
-pair_of (Some z) h = (z, refl)
-
 -- a stage that settles has no two groups in conflict
 apart_where_settled : (plan : PlanOf) (r : Rules) (i : ℕ) → IsSite r → is_settled plan r i ≡ true → AreApart r (stage_wishes plan (interstage_at plan i).from)
 unfolding is_settled
 apart_where_settled plan r i site settled j g lt lt' pair first second =
     let kept = made_kept r (trial_wishes plan i) 600 site.two_way in
-    let conflict = pair_of (r.between j g) pair in
+    let conflict = some_is (r.between j g) pair in
     kept.1.conflict j g conflict.0 (record { clearing_of_site = lt; entering_of_site = lt'; listed = conflict.1 }) 600 (omega (arith, made_length r (trial_wishes plan i) 600))
     (green_on _ _ first (all_to _ _ r.count j settled lt)) (green_on _ _ second (all_to _ _ r.count g settled lt'))
 

@@ -18,7 +18,7 @@ no_line _ plain units = refl
 none_there : {A : Type 0} (k : ℕ) (a : A) {B : Type 0} → slice_get [] k ≡ Some a → B
 none_there k a e = cc
 
-some_is : (l line : ℕ) → Some l ≡ Some line → l ≡ line
+pub some_is : (l line : ℕ) → Some l ≡ Some line → l ≡ line
 some_is l line e = cc
 
 module _ (instrs : List Instr) (starts : List ℕ) (world : World) (n : ℕ) where

@@ -1,5 +1,5 @@
 -- The fronts of detectors that serve a group.
-use Rattle.std.proofs.Common.{◌≡◌, ◌∙◌, ℕ, suc, ◌+◌, ◌-◌, ◌<◌, ◌≤◌, Bool, true, false, List, [], ◌∷◌, ◌++◌, get_or, length, take, refl, sym, ap, subst, arith}
+use Rattle.std.proofs.Common.{◌≡◌, ◌∙◌, ℕ, suc, ◌+◌, ◌-◌, ◌<◌, ◌≤◌, Bool, false, List, [], ◌∷◌, ◌++◌, get_or, length, take, refl, sym, ap, subst, arith}
 use Rattle.std.specs.Prelude.{if◌then◌else◌}
 use Rattle.std.proofs.Math.ListN.{get_or-map}
 use Rattle.std.proofs.lemmas.List.{length-map, map-append, take_more}
@@ -19,10 +19,6 @@ use Rattle.log_sums.proofs.Telling.{agrees_last, agrees_still}
 -- the fronts of those of the first n detectors that serve it
 abbrev pub fronts_to : List Bool → Counts → ℕ → ℕ
 fronts_to detectors frame n = sum_to (λ d. if get_or detectors (d - 1) false then count_in fronts d frame else 0) n
-
-pub at_most : (b : Bool) (x m : ℕ) → x ≤ m → (if b then x else 0) ≤ m
-at_most true x m most = most
-at_most false x m most = omega arith
 
 -- one detector more
 pub fronts_more : (detectors : List Bool) (frame : Counts) (p : ℕ) (chosen : Bool) (more : ℕ) → chosen ≡ get_or detectors p false →

@@ -85,7 +85,7 @@ again text at quoted =
     ap filled (sym (onto-none quoted (drop at text)))
     ∙ ap (λ b. rest_of b quoted (drop at text)) (sym (none text at))
 
-cut : (text : List ℕ) (i : ℕ) → i < length text → drop i text ≡ get_or text i 0 ∷ drop (i + 1) text
+pub cut : (text : List ℕ) (i : ℕ) → i < length text → drop i text ≡ get_or text i 0 ∷ drop (i + 1) text
 cut text i h = grind (arith, common_steps, drop-cons)
 
 -- a record ends
@@ -143,7 +143,7 @@ rest_of-ended text from i quoted h k e =
     ∙ (filled-parted begun (unquoted_pieces q (drop (i + 1) text))
     ∙ ap (λ ps. filled (begun ∷ []) ++ ps) (again text (i + 1) q))))
 
-none_left : (text : List ℕ) (i : ℕ) → i ≡ length text → drop i text ≡ []
+pub none_left : (text : List ℕ) (i : ℕ) → i ≡ length text → drop i text ≡ []
 none_left text i h = grind (arith, common_steps)
 
 -- all bytes are passed

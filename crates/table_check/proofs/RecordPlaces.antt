@@ -1,14 +1,8 @@
 -- Where the records of a table begin, while its bytes are passed.
-use Rattle.std.proofs.Common.{◌≡◌, ℕ, ◌+◌, ◌<◌, ◌≤◌, ◌==◌, Bool, true, false, cond, List, [], ◌∷◌, ◌++◌, length, drop, get_or, Option, None, Some, unwrap_or, refl, ap, sym, ◌∙◌, append_assoc, append-nil, arith, drop-cons}
-use Rattle.std.proofs.lemmas.Grind.{common_steps}
+use Rattle.std.proofs.Common.{◌≡◌, ℕ, ◌+◌, ◌<◌, ◌≤◌, ◌==◌, Bool, true, false, cond, List, ◌∷◌, ◌++◌, length, drop, get_or, Option, None, Some, unwrap_or, ap, ◌∙◌, arith}
 use Rattle.table_check.specs.declared.lines.Begin.{Begin}
 use Rattle.table_check.specs.Lines.{begin_after, begins_of_rest, begun_at, ends_piece, quoted_after}
-
-cut : (text : List ℕ) (i : ℕ) → i < length text → drop i text ≡ get_or text i 0 ∷ drop (i + 1) text
-cut text i h = grind (arith, common_steps, drop-cons)
-
-none_left : (text : List ℕ) (i : ℕ) → i ≡ length text → drop i text ≡ []
-none_left text i h = grind (arith, common_steps)
+use Rattle.table_check.proofs.Pieces.{cut, none_left}
 
 -- a record ends, if one has begun
 pub rest_ended : (text : List ℕ) (i : ℕ) (at : Begin) (quoted : Bool) (begun : Option Begin) → i < length text →

@@ -1,6 +1,7 @@
 use Rattle.std.proofs.Common.{◌≤◌, ◌+◌, ◌∙◌, ℕ, false, ap, arith, get_or, sym}
 use Rattle.std.specs.Prelude.{if◌then◌else◌}
-use Rattle.log_sums.proofs.Serving.{at_most, fronts_more, fronts_whole}
+use Rattle.log_sums.proofs.Fits.{where_true}
+use Rattle.log_sums.proofs.Serving.{fronts_more, fronts_whole}
 use Rattle.log_sums.proofs.serves.fronts_at.Goals as goal
 
 pub loop-place-preserved : goal.loop-place-preserved
@@ -10,7 +11,7 @@ loop-place-preserved c =
     let detectors = c.args.detectors.now in
     let chosen = get_or detectors c.from.result false in
     let more = c.counted-sum.result in
-    let few : more ≤ 4294967295 = rw c.counted-sum.ensures (at_most chosen c.get-fronts.result.0 4294967295 (omega arith)) in
+    let few : more ≤ 4294967295 = rw c.counted-sum.ensures (where_true chosen c.get-fronts.result.0 4294967295 (omega arith)) in
     record {
       sum = ap (λ (s : ℕ). s + more) before.sum ∙ sym (fronts_more detectors c.args.frame.now p chosen more
           (ap (λ (k : ℕ). get_or detectors k false) c.from.ensures)
