@@ -1,9 +1,9 @@
 #!/usr/bin/env python3
 """tools/example_logs.py PROGRAM CHECK REPORT TRACE
 
-Writes what the gate compares of the examples, after a change of an example or of what a log says: in the crate test_examples,
-which checks, runs and judges them all, copies of their files, their logs, the words and the output. Beside each example it
-draws its diagram.svg, and of some with_site.svg. PROGRAM is a built `junction`, and CHECK, REPORT and TRACE are a built
+Writes what the gate compares of the examples, after a change of an example or of what a log says: in the crate test_told, which
+checks, runs and judges them all, copies of their files, their logs, and the cases with the words and what is written. Beside each
+example it draws its diagram.svg, and of some with_site.svg. PROGRAM is a built `junction`, and CHECK, REPORT and TRACE are a built
 `junction_check`, `log_report` and `junction_trace`. It stops where a call fails, a log isn't safe, or something is found in the
 files. Look at the difference before it is committed."""
 import argparse
@@ -14,8 +14,7 @@ from pathlib import Path
 
 CRATES = Path(__file__).resolve().parent.parent / "crates"
 EXAMPLES = CRATES / "junction" / "examples"
-CRATE = CRATES / "test_examples"
-DATA = CRATE / "data"
+DATA = CRATES / "test_told" / "data"
 TABLES = ["times.csv", "intergreens.csv"]
 
 # The seconds of a diagram, where they are not the first hundred.
@@ -47,6 +46,9 @@ TRACED = [
 SITE = [f"two_stages/{name}" for name in ["junction.pua", *TABLES]]
 TRACING = ["trace", "trace", "tracing/tracing.vap", *SITE, "tracing/detectors.txt"]
 
+# The forms whose first word is that of a program.
+PROGRAMS = ["report", "trace"]
+
 
 def call(program, words):
     done = subprocess.run([program, *words], cwd=DATA, stdout=subprocess.PIPE, stderr=subprocess.PIPE)
@@ -70,6 +72,18 @@ def calls_of(folder):
     return ["check", *words], ["run", *words], ["audit", str(example / "log.txt"), *site]
 
 
+def case(words, output, file=None):
+    """The case of a call: its name, its words and what it writes, or the file that has this."""
+    is_of_form = words[0] in PROGRAMS
+    form, files = (words[:2], words[2:]) if is_of_form else (words[:1], words[1:])
+    behind = files[5:] if words[0] == "trace" else []
+    name = " ".join([f"example {files[0].rsplit('/', 1)[0]}:", *form, *behind])
+    if any(line[:4] in (b"=== ", b"### ", b"--- ") for line in output.split(b"\n")):
+        sys.exit(f"{name}: a line of what it writes begins as one of a case")
+    wanted = f"same 0 {file}" if file else "out 0"
+    return f"=== {name}\n--- words {' '.join(words)}\n--- {wanted}\n".encode() + (b"" if file else output)
+
+
 def traced(runs, form, example, behind):
     """The words that tell of the inside of an example, of which `run` has the files."""
     (run,) = (run for run in runs if run[1].startswith(f"{example}/"))
@@ -82,9 +96,9 @@ def main():
         words.add_argument(name.lower(), metavar=name)
     program, checker, reporter, tracer = (str(Path(word).resolve()) for word in vars(words.parse_args()).values())
     for folder in DATA.iterdir():
-        if folder.name != "tracing":
+        if folder.is_dir() and folder.name != "tracing":
             shutil.rmtree(folder)
-    calls, output = [], b""
+    runs, cases = [], []
     for plan in sorted(EXAMPLES.glob("**/junction.pua")):
         check, run, audit = calls_of(plan.parent)
         found = call(checker, check[1:])
@@ -101,14 +115,12 @@ def main():
             picture = call(reporter, ["diagram", audit[1], str(first), str(last), "--site", *run[2:5]])
             (plan.parent / "with_site.svg").write_bytes(picture)
         reports = [["report", "text", audit[1], "1", "40"], ["report", "sums", audit[1]]]
-        output += found + log + verdict + b"".join(call(reporter, words[1:]) for words in reports)
-        calls += [check, run, ["calls", *run[1:], audit[1]], audit, *reports]
-    traces = [traced([words for words in calls if words[0] == "run"], *one) for one in TRACED]
-    traces.append(TRACING)
-    output += b"".join(call(tracer, words[1:]) for words in traces)
-    calls += traces
-    (CRATE / "args").write_text("\n--\n".join("\n".join(words) for words in calls) + "\n", encoding="utf-8")
-    (CRATE / "stdout").write_bytes(output)
+        runs.append(run)
+        cases += [case(check, found), case(run, log, audit[1]), case(["calls", *run[1:], audit[1]], b""), case(audit, verdict)]
+        cases += [case(words, call(reporter, words[1:])) for words in reports]
+    traces = [traced(runs, *one) for one in TRACED] + [TRACING]
+    cases += [case(words, call(tracer, words[1:])) for words in traces]
+    (DATA / "examples.txt").write_bytes(b"".join(cases))
 
 
 if __name__ == "__main__":

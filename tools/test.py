@@ -35,9 +35,9 @@ def run(script, text, *words):
 class Examples(unittest.TestCase):
     def test_the_gate_runs_the_examples_as_they_stand(self):
         crates = HERE.parent / "crates"
-        data, examples = crates / "test_examples" / "data", crates / "junction" / "examples"
-        # `tracing` has a program that prints, and is no example.
-        files = [file for file in data.glob("**/*") if file.is_file() and file.parent.name != "tracing"]
+        data, examples = crates / "test_told" / "data", crates / "junction" / "examples"
+        # Beside the folders of the examples lie files of cases; `tracing` has a program that prints, and is no example.
+        files = [file for file in data.glob("*/**/*") if file.is_file() and file.parent.name != "tracing"]
         copies = [file.relative_to(data) for file in files if file.name != "log.txt"]
         plans = [plan.relative_to(examples) for plan in examples.glob("**/junction.pua")]
         self.assertLessEqual(set(plans), set(copies))

@@ -18,7 +18,7 @@ import reading
 __all__ = ["FromEvents", "ThereAndBack", "FromSumo", "Scripts"]
 
 HERE = Path(__file__).resolve().parent
-LOGS = sorted((HERE.parent / "crates" / "test_examples" / "data").glob("**/log.txt"))
+LOGS = sorted((HERE.parent / "crates" / "test_told" / "data").glob("**/log.txt"))
 PLAIN = {"begin": None, "seconds": None, "all_red": False, "silence": None, "without_detectors": False}
 
 

@@ -40,11 +40,14 @@ def detectors(seconds):
 
 
 def hostile_texts(repository):
-    """the texts of crates/test_hostile that stand in place of a program or a PUA file, by 0 and 1"""
-    source = (repository / "crates/test_hostile/src/hostile.rt").read_text()
+    """the refused texts of crates/test_told that stand in place of a program or a PUA file, by 0 and 1"""
+    cases = (repository / "crates/test_told/data/run_refused.txt").read_bytes()
     found = []
-    for part, text in re.findall(r'Part::(Program|Plan),\s*b"(.*?)",\s*\d', source, re.S):
-        found.append((("Program", "Plan").index(part), text.encode().decode("unicode_escape").encode("latin-1")))
+    for case in re.split(rb"(?m)^=== .*\n", cases)[1:]:
+        for escapes, name, text in re.findall(rb"(?m)^--- (\\?)(p\.vap|p\.pua)\n((?:(?!--- ).*\n)*)", case):
+            if escapes:
+                text = re.sub(rb"\\([0-9a-f]{2})|\\\n", lambda at: bytes([int(at[1], 16)]) if at[1] else b"", text)
+            found.append(((b"p.vap", b"p.pua").index(name), text))
     return found
 
 
@@ -78,7 +81,7 @@ def changed(text):
 
 
 def hostile(repository, junction, folder, sites, code_of):
-    """junctions of which one text is changed, or is one of test_hostile, or far too long"""
+    """junctions of which one text is changed, or is refused in test_told, or far too long"""
     given = texts(repository)
     base = [given["TIMER"], given["TWO_STAGES"], given["TIMES"], given["INTERGREENS"]]
     made = [[*base[:at], text, *base[at + 1 :]] for at, text in hostile_texts(repository)]

@@ -15,7 +15,7 @@ import chromium
 
 TEST = Path(__file__).resolve().parent
 VIEWER = TEST.parent
-EXAMPLES = VIEWER.parent / "crates" / "test_examples" / "data"
+EXAMPLES = VIEWER.parent / "crates" / "test_told" / "data"
 FOUR = EXAMPLES / "four_arms"
 FAULTS = TEST / "data" / "faults.log"
 LEFT, RIGHT, HOME, END, PAGE_DOWN = "\ue012", "\ue014", "\ue011", "\ue010", "\ue00f"

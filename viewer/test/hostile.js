@@ -60,19 +60,19 @@ const fields = [
   ...all(["Number@0", "Budget@1048577", "ZeroDivisor@10"], "accepted", fault),
 ];
 
-// The text of a byte string of Rattle.
-const unescaped = (text) => text.replace(/\\(n|r|"|\\)/g, (_, letter) => ({ n: "\n", r: "\r" })[letter] || letter);
+// The lines of a part whose title begins with a backslash: `\HH` is a byte, and a backslash at the end of a line no line end.
+const unescaped = (text) =>
+  text.replace(/\\([0-9a-f]{2})|\\\n/g, (_, digits) => (digits ? String.fromCharCode(parseInt(digits, 16)) : ""));
 
-/** The cases that the gate tries on the reader of log_report, from the sources of its tests in this folder. */
-function casesOfTheGate(folder) {
-  const text = fs.readdirSync(folder).map((name) => fs.readFileSync(path.join(folder, name), "utf8")).join("\n");
-  const string = 'b"((?:[^"\\\\]|\\\\.)*)"', told = "(?:None|Some\\(\\((\\d+), LogWhy::(\\w+)\\)\\))";
-  const records = [...text.matchAll(new RegExp(`\\(\\s*${string},\\s*${told},?\\s*\\)`, "g"))];
-  const heads = [...text.matchAll(new RegExp(`\\(${string}, (true|false)\\)`, "g"))];
-  return [
-    ...records.map(([, rest, line, why]) => [HEADER + unescaped(rest), why ? `${line}: ${why}` : "accepted"]),
-    ...heads.map(([, head, isAccepted]) => [unescaped(head), isAccepted === "true" ? "accepted" : "1: Header"]),
-  ];
+/** The logs of a file of cases of `log_report sums l`, each with how it is accepted or refused. */
+function casesOfTheGate(file) {
+  const text = fs.readFileSync(file, "latin1");
+  return text.split(/^(?:===|###) .*\n/m).slice(1).map((one) => {
+    const parts = {};
+    for (const [, escapes, title, lines] of one.matchAll(/^--- (\\?)(.*)\n((?:(?!--- ).*\n)*)/gm)) parts[title] = escapes ? unescaped(lines) : lines;
+    const told = /^log_report: l:([0-9]+: \w+)\n$/.exec(parts.notes || "");
+    return [parts.l, told ? told[1] : "accepted"];
+  });
 }
 
 module.exports = { hostile: [...headers, ...lines, ...watched, ...fields], casesOfTheGate, HEADER };

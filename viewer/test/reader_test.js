@@ -6,7 +6,7 @@ const { spawnSync } = require("child_process");
 const { page, readLog, refusalOf, test, repository } = require("./load.js");
 const { hostile, casesOfTheGate, HEADER } = require("./hostile.js");
 const { recordText, secondsOf, jumpFrom } = page("recordText", "secondsOf", "jumpFrom");
-const [reporter] = process.argv.slice(2), examples = path.join(repository, "crates", "test_examples", "data");
+const [reporter] = process.argv.slice(2), examples = path.join(repository, "crates", "test_told", "data");
 const bytesOf = (text) => Buffer.from(text, "latin1"), start = (text) => JSON.stringify(text.slice(0, 90));
 
 const found = fs.readdirSync(examples, { recursive: true }).filter((name) => path.basename(name) === "log.txt");
@@ -21,7 +21,7 @@ test(`${logs.length} logs of runs are read, and written again byte for byte`, ()
   }
 });
 
-const ofTheGate = casesOfTheGate(path.join(repository, "crates", "test_logs", "src")), cases = [...hostile, ...ofTheGate];
+const ofTheGate = casesOfTheGate(path.join(examples, "report_lines.txt")), cases = [...hostile, ...ofTheGate];
 test(`${cases.length} hostile logs, ${ofTheGate.length} of them those of the gate`, () => {
   assert.ok(ofTheGate.length >= 30, "the cases of the gate aren't found");
   for (const [text, wanted] of cases) {

@@ -4,7 +4,7 @@ const assert = require("assert"), fs = require("fs"), path = require("path");
 const { page, readLog, refusalOf, test, repository } = require("./load.js");
 const { readTimes, readIntergreens, readStages } = page("readTimes", "readIntergreens", "readStages");
 const { whyRefused, shownAt } = page("whyRefused", "shownAt");
-const examples = path.join(repository, "crates", "test_examples", "data");
+const examples = path.join(repository, "crates", "test_told", "data");
 const TIMES = "group,min_green,red_amber,amber", INTERGREENS = "from,to,seconds", names = ["K1", "K2"];
 
 test("tables are judged by the rules of docs/formats.md", () => {

@@ -1,7 +1,7 @@
 """A log of a week, 604,800 seconds: the hour of the four arms again and again, with its seconds counted on."""
 from pathlib import Path
 
-HOUR = Path(__file__).resolve().parents[2] / "crates" / "test_examples" / "data" / "four_arms" / "log.txt"
+HOUR = Path(__file__).resolve().parents[2] / "crates" / "test_told" / "data" / "four_arms" / "log.txt"
 
 
 def week_log():

@@ -1,0 +1,71 @@
+// The programs whose calls the cases make. Nothing else here knows them.
+use junction_run::{Status, junction};
+use report_judged::{has_site, report_breaches, report_protocol, report_refusals, report_site};
+use report_seen::{report, report_compare, report_sums};
+use sig_io::{Files, Sink};
+use site_check::{check_junction, check_status};
+use std::alloc::Global;
+use test_calls::logs::tells_log;
+use trace_call::trace;
+
+// The exit status of a call of `log_report`.
+fn report_log<F: Files, O: Sink, N: Sink>(
+    alloc: Global,
+    words: &[String],
+    files: &mut F,
+    out: &mut O,
+    notes: &mut N,
+) -> u8 {
+    match words.first() {
+        Some(word) if word.as_str() == "sums" => {
+            report_seen::exit_status(report_sums(alloc, words, files, out, notes))
+        }
+        Some(word) if word.as_str() == "breaches" => {
+            report_words::exit_status(report_breaches(alloc, words, files, out, notes))
+        }
+        Some(word) if word.as_str() == "protocol" => {
+            report_words::exit_status(report_protocol(alloc, words, files, out, notes))
+        }
+        Some(word) if word.as_str() == "refusals" => {
+            report_words::exit_status(report_refusals(alloc, words, files, out, notes))
+        }
+        Some(word) if word.as_str() == "compare" => {
+            report_words::exit_status(report_compare(alloc, words, files, out, notes))
+        }
+        _ if has_site(words) => {
+            report_words::exit_status(report_site(alloc, words, files, out, notes))
+        }
+        _ => report_seen::exit_status(report(alloc, words, files, out, notes)),
+    }
+}
+
+// The exit status of a comparison of a log with what the calls of the library add up to.
+fn compare_calls<F: Files>(alloc: Global, names: &[String], files: &mut F) -> u8 {
+    junction_run::exit_status(match tells_log(alloc, names, files) {
+        Ok(true) => Status::Done,
+        Ok(false) | Err(_) => Status::RefusedFile,
+    })
+}
+
+/// The exit status of a call with these words.
+pub fn call<F: Files, O: Sink, N: Sink>(
+    alloc: Global,
+    words: &[String],
+    files: &mut F,
+    out: &mut O,
+    notes: &mut N,
+) -> u8 {
+    match words {
+        [first, site @ ..] if first.as_str() == "check" => {
+            check_status(check_junction(alloc, site, files, out, notes))
+        }
+        [first, asked @ ..] if first.as_str() == "report" => {
+            report_log(alloc, asked, files, out, notes)
+        }
+        [first, asked @ ..] if first.as_str() == "trace" => {
+            junction_run::exit_status(trace(alloc, asked, files, out, notes))
+        }
+        [first, names @ ..] if first.as_str() == "calls" => compare_calls(alloc, names, files),
+        _ => junction_run::exit_status(junction(alloc, words, files, out, notes)),
+    }
+}
