@@ -1,6 +1,7 @@
 // The numbers that a judge of pictures asks.
 ghost use Rattle.std.specs.Prelude.{◌≡◌, ◌<◌, ◌≤◌, IfSome, length};
 ghost use Rattle.sig_tables.specs.TimesTable.{row_of};
+ghost use Rattle.sig_tables.specs.Limits.{AreNumbers};
 ghost use Rattle.sig_tables.specs.Pairs.{between};
 
 use crate::intergreens::{Intergreens, place_of};
@@ -92,6 +93,19 @@ impl<'a> Limits<'a> {
             groups: intergreens.groups(),
             rows: times.rows(),
             cells: intergreens.cells(),
+        }
+    }
+
+    /// The numbers of these rows and cells: a row for each group, and the cell of a pair at 64 times its first group and its
+    /// second.
+    pub fn by(groups: u8, rows: &'a [TimesRow], cells: &'a [Option<u16>]) -> Limits<'a>
+        requires { AreNumbers (record { times = rows.now; pairs = record { count = groups; cells = cells.now } }) }
+        ensures { result ≡ record { times = rows.now; pairs = record { count = groups; cells = cells.now } } }
+    {
+        Limits {
+            groups,
+            rows,
+            cells,
         }
     }
 }
