@@ -1,5 +1,5 @@
 -- Warnings that are allowed, so that they are not told.
-use Rattle.std.specs.Prelude.{◌≡◌, ◌==◌, ℕ, Bool, false, not, ◌&&◌, if◌then◌else◌, List, [], ◌∷◌, codes, filter, Option, Some, None}
+use Rattle.std.specs.Prelude.{◌≡◌, ◌==◌, ℕ, Bool, false, not, ◌&&◌, if◌then◌else◌, List, [], ◌∷◌, length, codes, filter, Option, Some, None}
 use Rattle.std.specs.List.{list_all, list_any, slice_split}
 use Rattle.std.specs.Str.{bytes_eq}
 use Rattle.sig_types.specs.Text.{cut_at, is_digit, is_letter, same_name}
@@ -14,9 +14,9 @@ use Rattle.site_findings.specs.Warnings.{warning_name, warning_text}
 abbrev pub parts_words : ℕ → Bool
 parts_words b = not (is_letter b) && not (is_digit b)
 
--- a sentence has this word, whatever its case
+-- a sentence has this word, whatever its case; no sentence has an empty one
 abbrev pub has_word : List ℕ → List ℕ → Bool
-has_word sentence word = list_any (λ w. same_name word w) (slice_split parts_words sentence)
+has_word sentence word = not (length word == 0) && list_any (λ w. same_name word w) (slice_split parts_words sentence)
 
 -- a sentence has each of these words, which commas part
 abbrev pub has_words : List ℕ → List ℕ → Bool

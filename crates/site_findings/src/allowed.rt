@@ -17,13 +17,14 @@ fn parts_words(b: u8) -> bool
     !is_letter(b) && !is_digit(b)
 }
 
-// Whether a sentence has this word, whatever its case.
+// Whether a sentence has this word, whatever its case. No sentence has an empty one.
 fn has_word(sentence: &[u8], word: &[u8]) -> bool
     ensures { result ≡ has_word sentence.now word.now }
 {
-    sentence
-        .split(|b| parts_words(*b))
-        .any(|w| same_name(word, w))
+    !word.is_empty()
+        && sentence
+            .split(|b| parts_words(*b))
+            .any(|w| same_name(word, w))
 }
 
 // Whether a sentence has each of these words, which commas part.
