@@ -17,6 +17,7 @@ sys.path.insert(0, str(HERE))
 sys.dont_write_bytecode = True
 import answers
 import believe
+import crates
 import detectors_from_events as events
 import intergreens_from_matrix as matrix
 from test_records import *
@@ -34,8 +35,7 @@ def run(script, text, *words):
 
 class Examples(unittest.TestCase):
     def test_the_gate_runs_the_examples_as_they_stand(self):
-        crates = HERE.parent / "crates"
-        data, examples = crates / "test_told" / "data", crates / "junction" / "examples"
+        data, examples = TOP / "crates" / "test_told" / "data", TOP / "crates" / "junction" / "examples"
         # Beside the folders of the examples lie files of cases; `tracing` has a program that prints, and is no example.
         files = [file for file in data.glob("*/**/*") if file.is_file() and file.parent.name != "tracing"]
         copies = [file.relative_to(data) for file in files if file.name != "log.txt"]
@@ -195,20 +195,12 @@ class Sentences(unittest.TestCase):
 
 
 class Crates(unittest.TestCase):
-    """Each crate of crates.txt has its row in docs/crates.md, in its order, and its sentence in README; test crates share one there."""
+    """Each crate of crates.txt stands on those above it, and has its row in docs/crates.md."""
 
     def setUp(self):
         text = (TOP / "crates.txt").read_text(encoding="utf-8")
         rows = re.findall(r"^(\w+)[^:#\n]*:(.*)$", text, re.MULTILINE)
         self.uses = {name: used.split() for name, used in rows}
-
-    def stands_on(self, name):
-        """The crates of the repository on which one stands, itself among them."""
-        below = {name}
-        for used in self.uses[name]:
-            if used in self.uses:
-                below |= self.stands_on(used)
-        return below
 
     def test_each_stands_on_those_above(self):
         order = list(self.uses)
@@ -217,24 +209,15 @@ class Crates(unittest.TestCase):
             self.assertEqual(late, [], name)
 
     def test_each_has_its_row(self):
+        """The tables of docs/crates.md are those that tools/crates.py makes, with a row for each crate."""
+        self.assertEqual(crates.main(["--check"]), 0, "tools/crates.py")
         page = (TOP / "docs" / "crates.md").read_text(encoding="utf-8")
-        self.assertEqual(re.findall(r"^\| `(\w+)` \|", page, re.MULTILINE), list(self.uses))
-        for name, tests in re.findall(r"^\| `(\w+)` \|.*\|.*\|(.*)\|$", page, re.MULTILINE):
-            for test in re.findall(r"`(\w+)`", tests):
-                self.assertIn(name, self.stands_on(test), test)
+        self.assertEqual(re.findall(r"^\| \[`(\w+)`\]", page, re.MULTILINE), list(self.uses))
 
-    def test_each_has_its_sentence(self):
-        page = (TOP / "README.md").read_text(encoding="utf-8")
-        part = page.split("\n## Crate by crate\n")[1].split("\n## ")[0]
-        rows = [[cell.strip() for cell in row.split("|")[1:-1]] for row in part.split("\n") if row.startswith("| `")]
-        told = [re.findall(r"`(\w+)`", row[0]) for row in rows]
-        first = [names[0] for names in told[:-1]]
-        self.assertEqual(first, [name for name in self.uses if name in first])
-        self.assertCountEqual(sum(told[:-1], []), [name for name in self.uses if not name.startswith("test_")])
-        self.assertTrue(told[-1][0].startswith("test_"))
-        for (name, *_), (_, calls, sentence) in zip(told, rows):
-            self.assertTrue(0 < len(sentence) <= 120, f"{name}: {len(sentence)} letters")
-            self.assertEqual(bool(calls), not name.startswith("test_"), name)
+    def test_each_begins_with_what_it_is(self):
+        for name in self.uses:
+            sentence = crates.sentence_of(crates.root_of(name).read_text(encoding="utf-8"))
+            self.assertTrue(20 <= len(sentence) <= 700, f"{name}: {sentence}")
 
     def test_each_call_is_there(self):
         """The calls of README's and proved.md's rows are public words of their crates."""
@@ -480,9 +463,8 @@ class Pictures(unittest.TestCase):
     """The picture of the page is what the gate expects of the program."""
 
     def test_the_four_arms(self):
-        crates = HERE.parent / "crates"
-        picture = crates / "junction" / "examples" / "four_arms" / "diagram.svg"
-        self.assertEqual(picture.read_bytes(), (crates / "log_report" / "stdout").read_bytes())
+        picture = TOP / "crates" / "junction" / "examples" / "four_arms" / "diagram.svg"
+        self.assertEqual(picture.read_bytes(), (TOP / "crates" / "log_report" / "stdout").read_bytes())
 
 
 class Viewer(unittest.TestCase):

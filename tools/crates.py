@@ -1,0 +1,96 @@
+#!/usr/bin/env python3
+"""Makes the tables of docs/crates.md: of each crate its first sentence, its definitions, and the test crates that stand on it.
+
+usage: tools/crates.py [--check]
+
+The crates, their order and their headings are those of crates.txt, the sentences those with which their root files begin. Without a
+word the page is written anew between its two marks; --check writes nothing, and answers 1 where the page is another.
+"""
+import re
+import sys
+from pathlib import Path
+
+TOP = Path(__file__).resolve().parent.parent
+PAGE = TOP / "docs" / "crates.md"
+BEGIN = "<!-- the tables from here on are made by tools/crates.py -->"
+END = "<!-- the tables end here -->"
+
+
+def layers_of(text):
+    """The headings of a crates.txt, each with its crates, and each crate with those that it stands on."""
+    layers, said = [], []
+    for line in text.splitlines():
+        if line.startswith("#"):
+            said.append(line[1:].strip())
+        elif not line.strip():
+            said = []
+        else:
+            if said:
+                layers.append((re.split(r"[:.]", " ".join(said))[0], []))
+                said = []
+            name, below = line.split(":", 1)
+            layers[-1][1].append((name.split()[0], below.split()))
+    return layers
+
+
+def root_of(name, top=TOP):
+    """The root file of a crate."""
+    folder = top / "crates" / name / "src"
+    return folder / "main.rt" if (folder / "main.rt").exists() else folder / "lib.rt"
+
+
+def sentence_of(text):
+    """The first sentence of what a root file says of its crate."""
+    lines = []
+    for line in text.splitlines():
+        if not line.startswith("//!") or line.strip() == "//!":
+            break
+        lines.append(line[3:].strip())
+    return re.split(r"(?<=[.:]) (?=[A-Z`])", " ".join(lines))[0].rstrip(".:")
+
+
+def tests_of(name, layers):
+    """The test crates that stand on a crate."""
+    return [crate for _, crates in layers for crate, below in crates if crate.startswith("test_") and name in below]
+
+
+def row_of(name, layers, top=TOP):
+    """The row of a crate."""
+    root = root_of(name, top)
+    specs = "[specs](../crates/%s/specs)" % name if (top / "crates" / name / "specs").is_dir() else "–"
+    tests = ", ".join("`%s`" % test for test in tests_of(name, layers)) or "–"
+    link = "[`%s`](../%s)" % (name, root.relative_to(top))
+    return "| %s | %s | %s | %s |" % (link, sentence_of(root.read_text(encoding="utf-8")), specs, tests)
+
+
+def tables_of(text, top=TOP):
+    """All tables, a heading each."""
+    layers = layers_of(text)
+    # the first comment of the file is about all of it, and heads nothing
+    said = []
+    for heading, crates in layers:
+        said.append("## %s\n" % heading)
+        said.append("| crate | what it does | definitions | tests |\n|---|---|---|---|")
+        said.extend(row_of(name, layers, top) for name, _ in crates)
+        said.append("")
+    return "\n".join(said)
+
+
+def page_of(page, tables):
+    """The page with these tables in the place of its own."""
+    before, rest = page.split(BEGIN)
+    return before + BEGIN + "\n\n" + tables + "\n" + END + rest.split(END)[1]
+
+
+def main(words):
+    if words not in ([], ["--check"]):
+        sys.exit(__doc__.split("\n\n")[1])
+    page = PAGE.read_text(encoding="utf-8")
+    made = page_of(page, tables_of((TOP / "crates.txt").read_text(encoding="utf-8")))
+    if not words:
+        PAGE.write_text(made, encoding="utf-8")
+    return int(page != made)
+
+
+if __name__ == "__main__":
+    sys.exit(main(sys.argv[1:]))
