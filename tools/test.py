@@ -18,6 +18,7 @@ sys.dont_write_bytecode = True
 import answers
 import believe
 import crates
+import style
 import detectors_from_events as events
 import intergreens_from_matrix as matrix
 from test_records import *
@@ -231,6 +232,22 @@ class Crates(unittest.TestCase):
                     for word in call.split("::"):
                         said = re.search(rf"\b(fn|struct|enum|trait|mod) {word}\b|pub use [^;]*\b{word}\b", sources)
                         self.assertTrue(said, f"{page}: {name} has no {call}")
+
+
+class Style(unittest.TestCase):
+    def test_no_kind_becomes_more(self):
+        """What the sources should not have stays below the limits of tools/style.py."""
+        places = style.places_in(TOP)
+        for kind, most in style.LIMITS.items():
+            self.assertLessEqual(len(places[kind]), most, f"{kind}: {places[kind][:5]}")
+
+    def test_each_kind_is_seen(self):
+        body = ["fn long()", "{", *["    step();"] * 41, "}"]
+        self.assertEqual(list(style.long_bodies(body)), [1])
+        self.assertEqual(list(style.long_bodies(body[:2] + body[3:])), [])
+        self.assertEqual(list(style.bare_items(["/// One.", "pub fn one()", "pub fn two()"])), [3])
+        self.assertEqual(list(style.unused_imports("ghost use Rattle.a.{used, spare};\nensures { used }\n")), [1])
+        self.assertEqual(list(style.meaningless(["-- what it means", "pub a : T", "b", "abbrev pub c : T"])), [4])
 
 
 class Answers(unittest.TestCase):
