@@ -66,7 +66,7 @@ fn write_words<'a, O: Sink>(plan: &Plan, found: &Found, out: &mut O) -> Result<(
 }
 
 // Writes the breaches of a log.
-#[tactic(auto, unfolding(crate::specs::Call::text_of))]
+#[tactic(auto, unfolding(crate::specs::BreachCall::text_of))]
 fn write_found<'a, O: Sink>(
     plan: &Plan,
     found: &Found,

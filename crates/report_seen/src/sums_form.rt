@@ -43,7 +43,7 @@ fn seconds_of(from: &str, to: &str) -> Option<Seconds>
 }
 
 // Whether these two words ask for detectors that serve a group: `--serves DETECTORS:GROUP`.
-#[tactic(auto, unfolding(crate::specs::Form::is_serve))]
+#[tactic(auto, unfolding(crate::specs::SumsForm::is_serve))]
 fn is_serve(option: &str, word: &str) -> bool
     ensures { result ≡ is_serve option.now word.now }
 {

@@ -30,7 +30,7 @@ fn lowered(alloc: Global, word: &[u8]) -> Result<Vec<u8>, AllocError>
 }
 
 // Whether bytes are these digits, and then a bracket.
-#[tactic(auto, using(crate::proofs::Named::fronts))]
+#[tactic(auto, using(crate::proofs::ValuesNamed::fronts))]
 fn ends_place(digits: &[u8], bytes: &[u8]) -> bool
     ensures { result ≡ bytes_eq (digits.now ++ codes "]") bytes.now }
 {
@@ -41,7 +41,7 @@ fn ends_place(digits: &[u8], bytes: &[u8]) -> bool
 }
 
 // Whether bytes are a place in brackets.
-#[tactic(auto, using(crate::proofs::Named::fronts))]
+#[tactic(auto, using(crate::proofs::ValuesNamed::fronts))]
 fn is_place(place: u16, bytes: &[u8]) -> bool
     ensures { result ≡ bytes_eq (codes "[" ++ (decimal place ++ codes "]")) bytes.now }
 {
@@ -55,7 +55,7 @@ fn is_place(place: u16, bytes: &[u8]) -> bool
 }
 
 // Whether bytes are a name, and then a place in brackets.
-#[tactic(auto, using(crate::proofs::Named::fronts))]
+#[tactic(auto, using(crate::proofs::ValuesNamed::fronts))]
 fn is_cell(name: &[u8], place: u16, bytes: &[u8]) -> bool
     ensures { result ≡ bytes_eq (name.now ++ (codes "[" ++ (decimal place ++ codes "]"))) bytes.now }
 {
@@ -66,7 +66,7 @@ fn is_cell(name: &[u8], place: u16, bytes: &[u8]) -> bool
 }
 
 // Whether bytes in small letters name a value: as it is named, or by the name of its array.
-#[tactic(auto, using(crate::proofs::Named::named_alone))]
+#[tactic(auto, using(crate::proofs::ValuesNamed::named_alone))]
 fn is_named(checked: &Checked, column: Column, bytes: &[u8]) -> bool
     ensures { result ≡ is_named (program_of checked.now.tree) bytes.now column }
 {

@@ -92,7 +92,7 @@ fn bytes_of(name: Option<&Name>) -> &[u8]
 }
 
 // The name of an array; no byte where there is none of that number.
-#[tactic(auto, using(crate::proofs::Named::names))]
+#[tactic(auto, using(crate::proofs::ValuesNamed::names))]
 fn array_name(arrays: &[ArrayDecl], array: usize) -> &[u8]
     ensures { result.now ≡ slice_index_or (map (λ a. a.name) (map array_of arrays.now)) array [] }
 {
@@ -104,7 +104,7 @@ fn array_name(arrays: &[ArrayDecl], array: usize) -> &[u8]
 }
 
 /// The name of a variable, of a timer, or of the array of a cell, in lower case.
-#[tactic(auto, using(crate::proofs::Named::or_none))]
+#[tactic(auto, using(crate::proofs::ValuesNamed::or_none))]
 pub fn name_of(checked: &Checked, column: Column) -> &[u8]
     ensures { result.now ≡ name_of (program_of checked.now.tree) column }
 {

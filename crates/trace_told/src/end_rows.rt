@@ -13,7 +13,7 @@ use stage_machine::StageState;
 use trace_run::Teller;
 
 // Puts the row above those of a table.
-#[tactic(auto, unfolding(crate::specs::Rows::csv_header))]
+#[tactic(auto, unfolding(crate::specs::EndRows::csv_header))]
 fn put_csv_header<O: Sink>(draft: &mut Draft, out: &mut O)
     ensures { Puts O.taken O.faults draft.old draft.new out.old out.new csv_header }
 {

@@ -73,7 +73,7 @@ fn put_fields<O: Sink>(vm: &Vm, columns: &[Column], draft: &mut Draft, out: &mut
 }
 
 // Puts the number of a second and the values as they stand.
-#[tactic(auto, unfolding(crate::specs::Rows::row_text))]
+#[tactic(auto, unfolding(crate::specs::ValueRows::row_text))]
 fn put_row<O: Sink>(second: u32, columns: &[Column], vm: &Vm, draft: &mut Draft, out: &mut O)
     ensures { Puts O.taken O.faults draft.old draft.new out.old out.new (row_text second vm.now.store columns.now) }
 {
@@ -100,7 +100,7 @@ fn put_label_fields<O: Sink>(checked: &Checked, columns: &[Column], draft: &mut 
 }
 
 /// Puts the row above those of the seconds: `SECOND`, and how the values are named.
-#[tactic(auto, unfolding(crate::specs::Rows::header_text))]
+#[tactic(auto, unfolding(crate::specs::ValueRows::header_text))]
 pub fn put_value_header<O: Sink>(
     checked: &Checked,
     columns: &[Column],

@@ -186,7 +186,7 @@ pub(crate) fn put_slot<O: Sink>(checked: &Checked, slot: Slot, draft: &mut Draft
 }
 
 // The name of a subroutine; no byte where there is none of that number.
-#[tactic(auto, using(crate::proofs::Named::names))]
+#[tactic(auto, using(crate::proofs::WordsNamed::names))]
 fn sub_name(subs: &[Routine], sub: usize) -> &[u8]
     ensures { result.now ≡ slice_index_or (map (λ r. r.name) (map routine_of subs.now)) sub [] }
 {
