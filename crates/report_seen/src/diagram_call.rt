@@ -1,7 +1,7 @@
 // The top call.
-ghost use Rattle.std.specs.Prelude.{◌≡◌, ◌+◌, ◌*◌, ◌^◌, ◌<◌, ◌≤◌, ◌++◌, ℕ, List, Option, Err, IfErr, OnErr, IsTrue, ◌⊎◌, map, string_bytes};
+ghost use Rattle.std.specs.Prelude.{◌≡◌, ◌+◌, ◌*◌, ◌^◌, ◌<◌, ◌≤◌, ◌++◌, Option, Err, IfErr, OnErr, ◌⊎◌, map, string_bytes};
 ghost use Rattle.std.specs.Option.{ForSome};
-ghost use Rattle.sig_io.specs.Draft.{IsDraft, Puts};
+ghost use Rattle.sig_io.specs.Draft.{Puts};
 ghost use Rattle.sig_io.specs.Outside.{Rose};
 ghost use Rattle.sig_io.specs.Seen.{seen};
 ghost use Rattle.log_svg.specs.Diagram.{IsShowable, diagram_text};
@@ -14,6 +14,7 @@ ghost use Rattle.report_seen.specs.DiagramForm.{form_of};
 ghost use Rattle.report_seen.specs.Letters.{letters_text};
 
 use crate::diagram_form::{Form, form_of};
+use crate::end::end;
 use crate::gathering::gather;
 use crate::letters::put_text;
 use crate::named::{FormName, form_words};
@@ -23,7 +24,7 @@ use sig_io::{Draft, Files, Sink, put_version};
 use std::alloc::Global;
 
 // Puts how it is called.
-#[tactic(auto, unfolding(crate::specs::Call::usage_text))]
+#[tactic(auto, unfolding(crate::specs::DiagramCall::usage_text))]
 fn put_usage<O: Sink>(draft: &mut Draft, sink: &mut O)
     ensures { Puts O.taken O.faults draft.old draft.new sink.old sink.new usage_text }
 {
@@ -59,20 +60,6 @@ fn put_usage<O: Sink>(draft: &mut Draft, sink: &mut O)
         sink,
         b"log_report --help | --version    this text; the version\n",
     );
-}
-
-// Gives a sink the rest of a text.
-fn end<O: Sink>(draft: Draft, out: &mut O) -> Result<(), Stop>
-    ensures written { (start : Option (List ℕ)) (text : List ℕ) → IsDraft start (O.taken out.old) draft text →
-        IsWritten text result start (O.taken out.new) }
-    ensures stop { IfErr result (λ stop. stop ≡ Stop.WriteFault) }
-    ensures later { O.faults out.old ≤ O.faults out.new }
-    ensures cause { OnErr result (IsTrue draft.failed ⊎ Rose (O.faults out.old) (O.faults out.new)) }
-{
-    match draft.finish(out) {
-        Ok(()) => Ok(()),
-        Err(_fault) => Err(Stop::WriteFault),
-    }
 }
 
 // Writes how it is called.

@@ -9,6 +9,7 @@ pub mod compare_laws;
 mod covers;
 mod diagram_call;
 mod diagram_form;
+mod end;
 mod gathering;
 mod letters;
 mod loading;

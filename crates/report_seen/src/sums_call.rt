@@ -1,7 +1,7 @@
 // The call.
-ghost use Rattle.std.specs.Prelude.{◌≡◌, ◌≤◌, ◌⊎◌, ℕ, IsTrue, List, None, Some, Option, Err, IfErr, OnErr, length, map, string_bytes};
+ghost use Rattle.std.specs.Prelude.{◌≡◌, ◌≤◌, ◌⊎◌, None, Some, Option, Err, IfErr, OnErr, length, map, string_bytes};
 ghost use Rattle.std.specs.Option.{ForSome};
-ghost use Rattle.sig_io.specs.Draft.{IsDraft, Puts};
+ghost use Rattle.sig_io.specs.Draft.{Puts};
 ghost use Rattle.sig_io.specs.Outside.{Rose};
 ghost use Rattle.sig_io.specs.Seen.{seen};
 ghost use Rattle.report_seen.specs.DiagramCall.{IsWritten};
@@ -10,6 +10,7 @@ ghost use Rattle.sums_text.specs.Words.{AreTextual};
 ghost use Rattle.report_seen.specs.SumsForm.{HasSeconds, asked_in, form_of};
 ghost use Rattle.report_seen.specs.SumsCall.{IsAnswered, IsReported, written_parts, written_text};
 
+use crate::end::end;
 use crate::parting::add_up_parts;
 use crate::serve::serves_for;
 use crate::stop::{Status, Stop, status_of, stop_of, write_stop};
@@ -21,20 +22,6 @@ use sig_io::{Draft, Files, Sink};
 use sig_types::ShortName;
 use std::alloc::Global;
 use sums_text::{put_parts, put_parts_table, put_sums, put_table};
-
-// Gives a sink the rest of a text.
-fn end<O: Sink>(draft: Draft, out: &mut O) -> Result<(), Stop>
-    ensures written { (start : Option (List ℕ)) (text : List ℕ) → IsDraft start (O.taken out.old) draft text →
-        IsWritten text result start (O.taken out.new) }
-    ensures stop { IfErr result (λ stop. stop ≡ Stop.WriteFault) }
-    ensures later { O.faults out.old ≤ O.faults out.new }
-    ensures cause { OnErr result (IsTrue draft.failed ⊎ Rose (O.faults out.old) (O.faults out.new)) }
-{
-    match draft.finish(out) {
-        Ok(()) => Ok(()),
-        Err(_fault) => Err(Stop::WriteFault),
-    }
-}
 
 // Puts sums, of groups with these names, as a table or as lines.
 fn put_asked<O: Sink>(
