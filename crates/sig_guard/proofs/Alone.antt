@@ -1,12 +1,12 @@
 -- A turn that is wished alone is decided as if it were the only one.
-use Rattle.std.proofs.Common.{◌≡◌, ◌≢◌, ◌∙◌, ℕ, zero, suc, ◌<◌, Bool, true, false, not, ◌&&◌, Option, Some, None, List, [], ◌∷◌, ◌++◌, length, Contains, set, if◌then◌else◌, inl, inr, refl, sym, ap, subst, arith}
+use Rattle.std.proofs.Common.{◌≡◌, ◌≢◌, ◌∙◌, ℕ, zero, suc, ◌<◌, Bool, true, false, not, ◌&&◌, Option, Some, None, List, [], Contains, set, if◌then◌else◌, inl, inr, refl, sym, ap, subst, arith}
 use Rattle.std.proofs.lemmas.Bool.{cases_eq, and_parts, not-true}
 use Rattle.sig_types.specs.declared.aspect.Aspect.{Aspect}
 use Rattle.sig_types.specs.declared.refused.TurnRefusal.{TurnRefusal}
 use Rattle.sig_types.specs.Rules.{Rules}
 use Rattle.sig_types.specs.Turns.{Picture, History, shown, is_on}
 use Rattle.sig_guard.specs.declared.turn.Breach.{Breach}
-use Rattle.sig_guard.specs.Alone.{may_end, turn_breach, refusal_by, turn_refusal, listed, turned, picture_by, IsAlone, AloneAsTold, EndsAsTold}
+use Rattle.sig_guard.specs.Alone.{may_end, turn_breach, refusal_by, turn_refusal, listed, picture_by, IsAlone, AloneAsTold, EndsAsTold, UnwishedIsNatural}
 use Rattle.sig_guard.specs.Step.{Decided, decide, aspect_at_start, aspect_at_end, end_breach, start_breach, natural_picture, shown_and_refused, ends_below, starts_below, wants_end, wants_start, is_green_wished, refusal, guard_picture, guard_refused}
 use Rattle.sig_guard.proofs.Decided.{below, below-none, below-listed, below-still}
 
@@ -144,3 +144,16 @@ ends_as_told r h w g turn lt ends is =
     subst (λ (t : TurnRefusal). Contains (starts_below r h w r.count).refused t) by.2
     (below-still (wants_start r h w) (λ k. aspect_at_start (r.red_amber k)) (start_breach r h) (ends_below r h w r.count) r.count (refusal g by.0)
     (below-listed (wants_end r h w) (λ k. aspect_at_end (r.amber k)) (λ p k. end_breach r h k) (shown_and_refused (natural_picture r h) []) r.count g by.0 lt ends broken))
+
+-- ---- no turn
+
+pub unwished_is_natural : UnwishedIsNatural
+unfolding guard_picture guard_refused
+unwished_is_natural r h w no_end no_start =
+    let begun = shown_and_refused (natural_picture r h) [] in
+    let ends : begun ≡ ends_below r h w r.count =
+    below-none (wants_end r h w) (λ k. aspect_at_end (r.amber k)) (λ p k. end_breach r h k) begun r.count (λ j lt. no_end j) in
+    let starts : ends_below r h w r.count ≡ starts_below r h w r.count =
+    below-none (wants_start r h w) (λ k. aspect_at_start (r.red_amber k)) (start_breach r h) (ends_below r h w r.count) r.count (λ j lt. no_start j) in
+    let all : starts_below r h w r.count ≡ begun = sym (ends ∙ starts) in
+    (ap (λ (d : Decided). d.picture) all, ap (λ (d : Decided). d.refused) all)
