@@ -22,5 +22,6 @@ abbrev pub tenths_cut : List ℕ → Option (List ℕ × List ℕ) → Option �
 tenths_cut text None = whole_with text 48
 tenths_cut text (Some p) = pointed p.0 p.1
 
+-- the tenths of a text that is a whole number, or one with a point and a digit behind it
 unfoldable pub tenths_of : List ℕ → Option ℕ
 tenths_of text = tenths_cut text (cut_at 46 text)
