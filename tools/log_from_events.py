@@ -4,7 +4,7 @@
 Turns a high-resolution controller log into a log that `log_report` reads (and `junction audit`, where it begins all red), and
 with --detectors FILE into the detector file of the same seconds for `junction run`. EVENTS is a CSV with time stamp, event code
 and parameter, or with the signal's id before them; a first line of names is passed over. Time stamps are 2024-05-01 07:00:12.4,
-05/01/2024 07:00:12.4, 07:00:12.4 or seconds, and don't fall.
+05/01/2024 07:00:12.4, 01.05.2024 07:00:12,4, 07:00:12.4 or seconds, and don't fall.
 
 Groups: by --map MAP, a CSV `kind,number,name` with kind phase, overlap, walk or detector; without it each phase of the file is
 K<number>. They stand in the order of --times TIMES, else of MAP, else of their numbers.
@@ -20,7 +20,6 @@ Refused, with line and cause: what can't be read, an aspect that doesn't follow 
 any picture, signals dark or flashing, a loss of power, a detector that goes on or off twice, codes above 255. Told on standard
 error: what second 1 is, what was rounded, passed over, and the longest time without an event."""
 import argparse
-import datetime
 import math
 import re
 import sys
@@ -28,14 +27,13 @@ from collections import Counter
 from dataclasses import dataclass
 from fractions import Fraction
 
-from event_codes import (AMBER_ENDS, DARK, DETECTOR_OFF, DETECTOR_ON, FLASH, MOST_CODE, NOT_FLASHING, OF_CODE, POWER_FAILED,
+from event_codes import (AMBER_ENDS, DETECTOR_OFF, DETECTOR_ON, FLASH, MOST_CODE, NOT_FLASHING, OF_CODE, POWER_FAILED,
                          SILENT, WALK_ENDS, map_of)
-from reading import (CLOCK, MOST_DETECTOR, MOST_SECONDS, Refused, number_in, rows_of, table_of, text_of, time_of, told,
+from reading import (MOST_DETECTOR, MOST_SECONDS, Refused, moment_of, number_in, rows_of, stamp_of, table_of, text_of, told,
                      whole_from)
 
 BEFORE = {"G": "R", "A": "G"}  # the aspect that must stand before
 WORDS = {"R": "red", "A": "amber", "G": "green"}
-STAMPS = [(re.compile(r"(\d{4})-(\d\d?)-(\d\d?)[ T](.+)"), (0, 1, 2)), (re.compile(r"(\d\d?)/(\d\d?)/(\d{4}) (.+)"), (2, 0, 1))]
 
 
 @dataclass
@@ -44,28 +42,6 @@ class Event:
     time: Fraction
     code: int
     number: int
-
-
-def moment_of(text):
-    """The seconds of a time stamp, exactly, from its first day on; None where it is none."""
-    for form, (year, month, day) in STAMPS:
-        found = form.fullmatch(text)
-        if found:
-            parts = [int(found[k]) for k in (1, 2, 3)]
-            try:
-                days = datetime.date(parts[year], parts[month], parts[day]).toordinal()
-            except ValueError:
-                return None
-            return 86_400 * days + time_of(found[4])[0] if CLOCK.fullmatch(found[4]) else None
-    time = time_of(text)
-    return time[0] if time else None
-
-
-def stamp_of(moment):
-    """A moment in words: with its day where it has one."""
-    days, seconds = divmod(math.floor(moment), 86_400)
-    clock = f"{seconds // 3600:02}:{seconds // 60 % 60:02}:{seconds % 60:02}"
-    return f"{datetime.date.fromordinal(days)} {clock}" if days else clock
 
 
 def event_of(line, fields):
@@ -105,8 +81,6 @@ def events_of(text, signal=None):
 def check_whole(events, silence):
     """Refuses moments in which signals weren't under the controller, and a time without events that is too long."""
     for event in events:
-        if event.code in DARK:
-            raise Refused(event.line, f"signal {event.number} is dark, which is no aspect")
         if event.code == POWER_FAILED or (event.code == FLASH and event.number != NOT_FLASHING):
             raise Refused(event.line, "from here the signals flash or have no power: cut the file")
     for before, event in zip(events, events[1:]):
@@ -130,6 +104,8 @@ def changes_of(events, groups):
         name = groups.get((kind, event.number))
         if name is None:
             continue
+        if aspect is None:
+            raise Refused(event.line, f"{kind} {event.number} ({name}) is dark, which is no aspect")
         now = changes[name][-1][2] if changes[name] else first.setdefault(name, first_of(event.code, aspect))
         if aspect == "R" and now == "G" and kind != "walk":
             raise Refused(event.line, f"{kind} {event.number} ({name}) becomes red from green: its begin of amber is missing")

@@ -1,13 +1,22 @@
 """What the scripts of this folder share: reading tables, times and files, and refusing what can't be read with its line."""
 import argparse
+import codecs
 import contextlib
 import csv
+import datetime
 import re
 import sys
 from fractions import Fraction
 
 NUMBER = re.compile(r"[0-9]+(\.[0-9]+)?")
 CLOCK = re.compile(r"([0-9]{1,2}):([0-5][0-9]):([0-5][0-9](?:\.[0-9]+)?)")
+STAMP_CLOCK = re.compile(r"([0-9]{1,2}):([0-5][0-9]):([0-5][0-9](?:[.,][0-9]{1,9})?)( ?[AaPp][Mm])?(Z|[+-][0-9]{2}:?[0-9]{2})?")
+DAYS = [(re.compile(r"([0-9]{1,2})\.([0-9]{1,2})\.([0-9]{4}|[0-9]{2})[ T]+(.+)"), (2, 1, 0)),
+        (re.compile(r"([0-9]{4})-([0-9]{1,2})-([0-9]{1,2})[ T]+(.+)"), (0, 1, 2)),
+        (re.compile(r"([0-9]{1,2})/([0-9]{1,2})/([0-9]{4})[ T]+(.+)"), (2, 0, 1))]
+STAMPS = "12.05.2026 07:00:00,0, 2026-05-12 07:00:00.0, 05/12/2026 07:00:00.0, 07:00:00.0 or seconds"
+NAME = re.compile("[A-Za-z_][A-Za-z0-9_]{0,31}")
+LINE_END = re.compile("\r\n|\n|\r")
 RECORD = re.compile(r"([0-9]{1,9})\|[^|]*\|([RUGA]*)\|(-|[0-9: ]*)(\|.*)?")
 MOST_SECONDS = 604_800
 MOST_DETECTOR = 64
@@ -32,26 +41,46 @@ def told(name):
         sys.exit(f"{name}:{refused}")
 
 
+def decoded(name):
+    """The text of a file, without a byte order mark, and in which code it was read: UTF-8 or UTF-16, else ISO 8859-1."""
+    with open(name, "rb") as file:
+        data = file.read()
+    if data.startswith((codecs.BOM_UTF16_LE, codecs.BOM_UTF16_BE)):
+        return data.decode("utf-16"), "UTF-16"
+    try:
+        return data.decode("utf-8-sig"), "UTF-8"
+    except UnicodeDecodeError:
+        return data.decode("latin-1"), "ISO 8859-1"
+
+
 def text_of(name):
-    """The text of a file, without the byte order mark that some programs put before it."""
-    with open(name, encoding="utf-8-sig", newline="") as file:
-        return file.read()
+    """The text of a file, in whichever of the codes it is."""
+    return decoded(name)[0]
+
+
+def fields_of(line, sign):
+    """The trimmed fields of a line; one in double quotes may hold the sign that parts them."""
+    fields = next(csv.reader([line], delimiter=sign), []) if '"' in line else line.split(sign)
+    return [field.strip() for field in fields]
 
 
 def rows_of(text):
-    """The lines that aren't blank: number and trimmed fields. The sign that stands in the first one parts the fields."""
-    first = next((line for line in text.splitlines() if line.strip()), "")
-    reader = csv.reader(text.splitlines(), delimiter=";" if ";" in first else ",")
-    rows = [(reader.line_num, [field.strip() for field in row]) for row in reader]
-    return [(line, fields) for line, fields in rows if any(fields)]
+    """The lines that aren't blank: number and trimmed fields. `;`, a tab or `,` parts the fields: the first of them that stands
+    in the first line."""
+    lines = LINE_END.split(text)
+    first = next((line for line in lines if line.strip()), "")
+    sign = next((sign for sign in ";\t" if sign in first), ",")
+    rows = ((number, fields_of(line, sign)) for number, line in enumerate(lines, 1))
+    return [(number, fields) for number, fields in rows if any(fields)]
 
 
 def table_of(text, *columns):
-    """The rows of a table whose first line names its columns, as dictionaries with their line in `line`."""
+    """The rows of a table whose first line names its columns, in any case, as dictionaries with their line in `line`."""
     rows = rows_of(text)
-    if not rows or not set(columns) <= set(rows[0][1]):
+    names = [name.lower() for name in rows[0][1]] if rows else []
+    if not set(columns) <= set(names):
         raise Refused(rows[0][0] if rows else 1, f"the first line doesn't have the columns {', '.join(columns)}")
-    (_, names), found = rows[0], []
+    found = []
     for line, fields in rows[1:]:
         if len(fields) != len(names):
             raise Refused(line, f"{len(fields)} fields, where the first line has {len(names)}")
@@ -72,6 +101,65 @@ def time_of(text):
     if clock:
         return 3600 * int(clock[1]) + 60 * int(clock[2]) + Fraction(clock[3]), True
     return (Fraction(text), False) if NUMBER.fullmatch(text) else None
+
+
+def clock_of(text, most=99):
+    """The seconds of a time of day, exactly, with a point or a comma; None where it is none. Without a day hours may count on."""
+    clock = STAMP_CLOCK.fullmatch(text)
+    if not clock:
+        return None
+    hour = int(clock[1])
+    if clock[4]:
+        hour = hour % 12 + 12 * ("p" in clock[4].lower()) if 1 <= hour <= 12 else 100
+    if hour > most:
+        return None
+    seconds = 3600 * hour + 60 * int(clock[2]) + Fraction(clock[3].replace(",", "."))
+    if clock[5] and clock[5] != "Z":
+        zone = clock[5].replace(":", "")
+        seconds -= (1 if zone[0] == "+" else -1) * (3600 * int(zone[1:3]) + 60 * int(zone[3:]))
+    return seconds
+
+
+def stamp_in(text):
+    """The seconds of a time stamp, exactly, from the first day of all on, and what it is: `date`, `clock` or `seconds`; None
+    where it is none."""
+    for form, (year, month, day) in DAYS:
+        found = form.fullmatch(text)
+        if found:
+            parts, clock = [int(found[k]) for k in (1, 2, 3)], clock_of(found[4], 23)
+            parts[year] += 2000 if parts[year] < 100 else 0
+            try:
+                days = datetime.date(parts[year], parts[month], parts[day]).toordinal()
+            except ValueError:
+                return None
+            return None if clock is None else (86_400 * days + clock, "date")
+    if re.fullmatch("[0-9]{1,9}([.,][0-9]{1,9})?", text):
+        return Fraction(text.replace(",", ".")), "seconds"
+    clock = clock_of(text)
+    return None if clock is None else (clock, "clock")
+
+
+def moment_of(text):
+    """The seconds of a time stamp, exactly; None where it is none."""
+    found = stamp_in(text)
+    return found and found[0]
+
+
+def stamp_of(moment, digits=0):
+    """A moment in words, rounded down: with its day where it has one, and with so many digits behind the seconds."""
+    days, seconds = divmod(moment, 86_400)
+    parts = int(seconds * 10 ** digits)
+    whole, rest = divmod(parts, 10 ** digits)
+    clock = f"{whole // 3600:02}:{whole // 60 % 60:02}:{whole % 60:02}" + (f".{rest:0{digits}}" if digits else "")
+    return f"{datetime.date.fromordinal(int(days))} {clock}" if days else clock
+
+
+def moment(text):
+    """The reader of an option's moment, for argparse."""
+    found = moment_of(text)
+    if found is None:
+        raise argparse.ArgumentTypeError(f"'{text}' is no time, as {STAMPS}")
+    return found
 
 
 def whole_from(least, most):

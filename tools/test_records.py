@@ -71,12 +71,12 @@ class FromEvents(unittest.TestCase):
         self.assertEqual(self.made([(0, 12, 1), (0, 12, 2)], times={"K2": 1, "K1": 1})[0][0], "VAPLOG 1 K2 K1")
 
     def test_time_stamps(self):
-        day = log_from_events.moment_of("2024-05-01 07:00:12.4")
-        self.assertEqual(day, log_from_events.moment_of("05/01/2024 07:00:12.4"))
-        self.assertEqual((day % 60, log_from_events.stamp_of(day)), (Fraction(124, 10), "2024-05-01 07:00:12"))
-        self.assertEqual(log_from_events.moment_of("12.4"), Fraction(124, 10))
+        day = reading.moment_of("2024-05-01 07:00:12.4")
+        self.assertEqual(day, reading.moment_of("05/01/2024 07:00:12.4"))
+        self.assertEqual((day % 60, reading.stamp_of(day)), (Fraction(124, 10), "2024-05-01 07:00:12"))
+        self.assertEqual(reading.moment_of("12.4"), Fraction(124, 10))
         for text in ("2024-13-01 07:00:00", "2024-05-01 7", "7:60:00", "x", ""):
-            self.assertIsNone(log_from_events.moment_of(text), text)
+            self.assertIsNone(reading.moment_of(text), text)
 
     def refused(self, rows, cause, **more):
         with self.assertRaises(reading.Refused) as caught:
@@ -98,7 +98,7 @@ class FromEvents(unittest.TestCase):
         self.refused([(0, 256, 1)], "1: 256 is no event code")
         self.refused([("a", 0, 12, 1), ("b", 0, 12, 2)], "2: signal b after signal a: --signal names one of them")
         self.refused(red + [(2, 173, 4)], "3: from here the signals flash")
-        self.refused(red + [(2, 24, 1)], "3: signal 1 is dark")
+        self.refused(red + [(2, 66, 1), (2, 24, 3)], "4: walk 3 (F3) is dark", groups={**self.GROUPS, ("walk", 3): "F3"})
         self.refused(red + [(2, 81, 5), (3, 81, 5)], "4: detector 5 goes off, and is that already")
         self.refused(red + [(2, 82, 99)], "3: detector 99 isn't 1 to 64: name it in MAP")
         self.refused(red + [(100, 1, 1)], "3: 100 s without an event before this one, more than 60", silence=60)
