@@ -4,13 +4,13 @@
 Turns a log into events of the high-resolution enumeration at whole seconds, as ATSPM tools read them: a CSV with time stamp,
 code and parameter, with --signal the signal's id before them. Second k stands at STAMP + k - 1 seconds (2024-01-01 00:00:00
 where it isn't said). The groups are phases by their places in the log, or what MAP says, a CSV `kind,number,name`
-(log_from_events.py).
+(log_from_events.py); --write-map FILE writes this table of them, for the way back.
 
 In the first second each phase tells what it shows: 1 green, 8 amber, 12 red. Later a green is 1, its end 7 and 8, the end of
 amber 9, 10 and 11 in one second, since a log has no red clearance. Walks have 21, and 22 and 23 at their end; overlaps 61, 63,
 64 and 65. Red-amber isn't in the enumeration and is red. Detectors go on (82) with the first vehicle that covers them and off
 (81) with the last. log_from_events.py makes the same pictures of it, with --times also the red-ambers; `--seconds` gives those
-after the last event."""
+after the last event. What is lost stands in docs/records.md."""
 import argparse
 import csv
 import datetime
@@ -96,6 +96,7 @@ def main():
     words.add_argument("--map", metavar="MAP")
     words.add_argument("--begin", type=datetime.datetime.fromisoformat, default=datetime.datetime(2024, 1, 1), metavar="STAMP")
     words.add_argument("--signal", metavar="ID")
+    words.add_argument("--write-map", metavar="FILE")
     words.add_argument("log", metavar="LOG")
     given, groups, detectors = words.parse_args(), {}, {}
     if given.map:
@@ -104,6 +105,11 @@ def main():
     with told(given.log):
         names, records = log_of(text_of(given.log))
         events = events_of(names, records, groups, detectors)
+    if given.write_map:
+        rows = [f"{kind},{number},{name}\n" for name, (kind, number) in kinds_of(names, groups).items()]
+        rows += [f"detector,{number},{detector}\n" for number, detector in detectors.items()]
+        with told(given.write_map), open(given.write_map, "w", encoding="ascii") as out:
+            out.writelines(["kind,number,name\n", *rows])
     out = csv.writer(sys.stdout, lineterminator="\n")
     before = [given.signal] if given.signal else []
     out.writerow((["SignalID"] if given.signal else []) + ["Timestamp", "EventCode", "EventParam"])

@@ -3,17 +3,17 @@
 
 Turns a matrix of intergreens into the table of pairs that Vantulig reads. The first line names the entering groups, and the
 first field of each further line a clearing group (with --transposed the other way round); a field has the seconds of the pair,
-or is empty or '-' where there is no conflict. Fields are parted by ',' or by ';'. Without MATRIX standard input is read. The
-pairs in no conflict, which may be green at once, are told on standard error."""
+as 5 or 4.5 (or 4,5), or is empty or '-' where there is no conflict. Fields are parted by `;`, a tab or `,`. Without MATRIX
+standard input is read. The pairs in no conflict, which may be green at once, are told on standard error, and that tenths of a
+second are for the judge of records alone, where there are any."""
 import argparse
 import itertools
 import re
 import sys
 
-from reading import Refused, rows_of, text_of, told
+from reading import NAME, Refused, rows_of, text_of, told
 
-NAME = re.compile(r"[A-Za-z_][A-Za-z0-9_]{0,31}")
-SECONDS = re.compile(r"0|[1-9][0-9]?")
+SECONDS = re.compile(r"(0|[1-9][0-9]?)(?:[.,]([0-9]))?")
 
 
 def add_name(names, name, line):
@@ -49,12 +49,13 @@ def matrix_of(text):
 
 
 def seconds_of(line, pair, field):
-    """The seconds in a field; None where it says that there is no conflict."""
+    """The seconds in a field, as they are written; None where it says that there is no conflict."""
     if field in ("", "-"):
         return None
-    if not SECONDS.fullmatch(field):
-        raise Refused(line, f"'{field}' ({pair}) is no whole number from 0 to 99")
-    return int(field)
+    seconds = SECONDS.fullmatch(field)
+    if not seconds or int(seconds[1]) == 99 and seconds[2] not in (None, "0"):
+        raise Refused(line, f"'{field}' ({pair}) is no number from 0 to 99 with one decimal at most")
+    return seconds[1] if seconds[2] in (None, "0") else f"{seconds[1]}.{seconds[2]}"
 
 
 def pairs_of(names, fields, transposed=False):
@@ -85,6 +86,8 @@ def main():
     for one, other in itertools.combinations(names.values(), 2):
         if frozenset((one, other)) not in conflicts:
             print(f"no conflict: {one} and {other}", file=sys.stderr)
+    if any("." in seconds for _, _, seconds in pairs):
+        print("tenths of a second: these intergreens are for `log_report` over records alone", file=sys.stderr)
     print("from,to,seconds")
     for clearing, entering, seconds in pairs:
         print(f"{clearing},{entering},{seconds}")

@@ -21,7 +21,9 @@ import crates
 import style
 import detectors_from_events as events
 import intergreens_from_matrix as matrix
+from test_acceptance import *
 from test_records import *
+from test_records_in_tenths import *
 from test_sumo import *
 
 
@@ -56,12 +58,17 @@ class Matrix(unittest.TestCase):
         self.assertEqual(str(stop.exception), said)
 
     def test_commas_and_semicolons(self):
-        pairs = [("K1", "K2", 5), ("K2", "K1", 4)]
+        pairs = [("K1", "K2", "5"), ("K2", "K1", "4")]
         self.assertEqual(self.pairs("from,K1,K2,K3\nK1,-,5,\nK2,4,,-\nK3,,,\n"), pairs)
         self.assertEqual(self.pairs(";K1;K2\r\n\r\nK1; ; 5\r\nk2;4;-\r\n"), pairs)
 
     def test_transposed(self):
-        self.assertEqual(self.pairs(";A;B\nA;;7\nB;3;\n", True), [("B", "A", 7), ("A", "B", 3)])
+        self.assertEqual(self.pairs(";A;B\nA;;7\nB;3;\n", True), [("B", "A", "7"), ("A", "B", "3")])
+
+    def test_tenths(self):
+        self.assertEqual(self.pairs(";A;B\nA;;4,5\nB;3,0;\n"), [("A", "B", "4.5"), ("B", "A", "3")])
+        told = "tenths of a second: these intergreens are for `log_report` over records alone\n"
+        self.assertEqual(run("intergreens_from_matrix.py", ",A,B\nA,,4.5\nB,3,\n"), (0, "from,to,seconds\nA,B,4.5\nB,A,3\n", told))
 
     def test_no_conflict_at_all(self):
         self.assertEqual(self.pairs(",A,B\nA,,\nB,,\n"), [])
@@ -74,8 +81,9 @@ class Matrix(unittest.TestCase):
         self.refused(",A\nA,\nB,\n", "3: B has no column")
         self.refused(",A,B\nA,,1\nA,,1\n", "3: A stands twice")
         self.refused(",A,B\nA,,1,2\nB,1,\n", "2: 4 fields, where the first line has 3")
-        self.refused(",A,B\nA,,5.5\nB,1,\n", "2: '5.5' (A to B) is no whole number from 0 to 99")
-        self.refused(",A,B\nA,,100\nB,1,\n", "2: '100' (A to B) is no whole number from 0 to 99")
+        self.refused(",A,B\nA,,5.55\nB,1,\n", "2: '5.55' (A to B) is no number from 0 to 99 with one decimal at most")
+        self.refused(",A,B\nA,,100\nB,1,\n", "2: '100' (A to B) is no number from 0 to 99 with one decimal at most")
+        self.refused(",A,B\nA,,99.1\nB,1,\n", "2: '99.1' (A to B) is no number from 0 to 99 with one decimal at most")
         self.refused(",A,B\nA,0,1\nB,1,\n", "2: A has an intergreen with itself")
         self.refused(",A,B\nA,,\n\nB,1,\n", "4: B and A conflict one way only")
 
@@ -89,7 +97,7 @@ class Matrix(unittest.TestCase):
             run("intergreens_from_matrix.py", "\ufeff;K1;K2\nK1;;5\nK2;4;\n"), (0, "from,to,seconds\nK1,K2,5\nK2,K1,4\n", "")
         )
         self.assertEqual(
-            run("intergreens_from_matrix.py", ",A,B\nA,,x\nB,1,\n"), (1, "", "FILE:2: 'x' (A to B) is no whole number from 0 to 99\n")
+            run("intergreens_from_matrix.py", ",A,B\nA,,x\nB,1,\n"), (1, "", "FILE:2: 'x' (A to B) is no number from 0 to 99 with one decimal at most\n")
         )
 
 

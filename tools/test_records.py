@@ -251,8 +251,9 @@ class Scripts(unittest.TestCase):
             (folder / "times.csv").write_text("group,min_green,red_amber,amber\nA,5,1,1\nB,5,1,1\n")
             (folder / "map.csv").write_text("kind,number,name\nphase,7,A\nphase,3,B\ndetector,40,2\n")
             status, made, note = call("events_from_log.py", "--map", folder / "map.csv", "--begin", "2024-05-01T07:00:00",
-                                      "--signal", "9", folder / "log")
+                                      "--signal", "9", "--write-map", folder / "map2.csv", folder / "log")
             self.assertEqual((status, note), (0, ""))
+            self.assertEqual((folder / "map2.csv").read_text(), "kind,number,name\nphase,7,A\nphase,3,B\ndetector,40,2\n")
             self.assertEqual(made.splitlines()[:3], ["SignalID,Timestamp,EventCode,EventParam", "9,2024-05-01 07:00:00.000,1,7",
                                                      "9,2024-05-01 07:00:00.000,12,3"])
             (folder / "events.csv").write_text(made)
@@ -263,6 +264,31 @@ class Scripts(unittest.TestCase):
                                    "moments that were rounded to their second: 0 of 9\n"
                                    "the longest time without an event: 1 s, before line 5\n")
             self.assertEqual((folder / "counts").read_text(), "2:1:0\n\n2:0:1\n\n")
+
+    def test_the_page_goes_there_and_back_on_each_example(self):
+        """The two calls of docs/records.md, on the log of each example: all aspects and counts come back but for red-ambers
+        whose green comes after the log's end."""
+        for file in LOGS:
+            with tempfile.TemporaryDirectory() as name, self.subTest(file):
+                folder, times = Path(name), file.parent / "times.csv"
+                names, records = reading.log_of(file.read_text(encoding="ascii"))
+                status, made, note = call("events_from_log.py", "--write-map", folder / "map.csv", file)
+                self.assertEqual((status, note), (0, ""))
+                (folder / "events.csv").write_text(made)
+                status, back, note = call("log_from_events.py", "--map", folder / "map.csv", "--times", times,
+                                          "--seconds", len(records), folder / "events.csv")
+                self.assertEqual(status, 0, note)
+                order = [row["group"] for row in reading.table_of(times.read_text(encoding="ascii"), "group")]
+                places = [names.index(name) for name in order]
+                turned = [(second, "".join(aspects[place] for place in places), counts) for second, aspects, counts in records]
+                there, here = reading.log_of(back), (order, turned)
+                self.assertEqual(there[0], here[0])
+                self.assertEqual([row[2] for row in there[1]], [row[2] for row in here[1]])
+                for k, (got, wanted) in enumerate(zip(there[1], here[1])):
+                    if got != wanted:
+                        rest = [{row[1][place] for row in here[1][k:]} for place in range(len(order))]
+                        lost = "".join("R" if rest[place] == {"U"} else wanted[1][place] for place in range(len(order)))
+                        self.assertEqual(got[1], lost, f"second {got[0]}")
 
     def test_a_refusal_has_the_file_and_the_line(self):
         with tempfile.NamedTemporaryFile("w", suffix=".csv") as file:
