@@ -23,6 +23,7 @@ import detectors_from_events as events
 import intergreens_from_matrix as matrix
 from test_acceptance import *
 from test_charts import *
+from test_closed_loop import *
 from test_records import *
 from test_records_in_tenths import *
 from test_sumo import *
