@@ -22,6 +22,7 @@ import style
 import detectors_from_events as events
 import intergreens_from_matrix as matrix
 from test_acceptance import *
+from test_build import *
 from test_charts import *
 from test_closed_loop import *
 from test_records import *

@@ -1,10 +1,8 @@
-#!/usr/bin/env python3
-"""without_checks.py KIT REPOSITORY IN.ll OUT.ll: takes the checks of `rt try` out of a module, and puts the inline attributes of the
-sources in, so that it is what the kit compiles of a proved program. For counting instructions alone."""
+"""Takes the checks of `rt try` out of a module, and puts the inline attributes of the sources in, so that it is what the kit compiles
+of a proved program."""
 import glob
 import os
 import re
-import sys
 
 import inline_attributes
 
@@ -141,8 +139,8 @@ def converted(module, functions):
         yield f"attributes {number} = {{ {words} {TARGET} }}\n"
 
 
-def main():
-    kit, repository, source, target = sys.argv[1:5]
+def convert(kit, repository, source, target):
+    """Writes a module without its checks, with the inline attributes of the sources below the repository and of the kit's."""
     roots = {os.path.basename(folder)[: -len(".rlib")]: f"{folder}/lang/src/lib.rt" for folder in glob.glob(f"{kit}/rlibs/*.rlib")}
     for folder in glob.glob(f"{repository}/crates/*"):
         for root in (f"{folder}/src/lib.rt", f"{folder}/src/main.rt"):
@@ -151,7 +149,3 @@ def main():
     functions = inline_attributes.table(roots)
     with open(source, encoding="utf-8") as module, open(target, "w", encoding="utf-8") as out:
         out.writelines(converted(module, functions))
-
-
-if __name__ == "__main__":
-    main()

@@ -1,0 +1,116 @@
+#!/usr/bin/env python3
+"""tools/proved.py ARCHIVE
+
+The proved static library of crates/junction_c, for library/Makefile: taken from what `rt ci` has proved on this machine, in a minute;
+else proved by `rt lib`, in half an hour on an idle machine. tools/build.py --proved builds all programs and the library in this way."""
+import hashlib
+import shutil
+import subprocess
+import sys
+import tempfile
+from pathlib import Path
+
+import install
+import kept_proofs
+import lowering
+from lowering import Refused
+
+CRATE = "junction_c"
+ARCHIVE = f"lib{CRATE}.a"
+KEPT = "as `rt ci` kept it on this machine after its proof"
+
+
+def take_kept(top, out, names):
+    """Copies what `rt ci` has proved of these crates to a folder; answers whether it had all."""
+    script = Path(__file__).with_name("kept_proofs.py")
+    done = subprocess.run([sys.executable, "-B", script, lowering.kit(), top, out, *names], capture_output=True, text=True)
+    if done.returncode not in (0, kept_proofs.NOT_KEPT):
+        raise Refused(f"what `rt ci` has kept can't be taken\n{done.stdout}{done.stderr}".rstrip())
+    return done.returncode == 0
+
+
+def prove(top, crate, *words):
+    """Proves a crate where it stands, with the kit's lines on standard error."""
+    done = subprocess.run(["rt", *words], cwd=top / "crates" / crate, stdout=sys.stderr)
+    if done.returncode:
+        raise Refused(f"{crate} isn't proved: in crates/{crate}, `rt {' '.join(words)}` ends with status {done.returncode}")
+
+
+def take_archive(top, out, say):
+    """The proved static library, with what tells of its proof."""
+    with tempfile.TemporaryDirectory(prefix="proved-") as folder:
+        if take_kept(top, folder, [CRATE]):
+            shutil.copy(Path(folder) / ARCHIVE, out)
+            return "proved anew over what `rt ci` kept on this machine"
+    say(f"{CRATE}: not all below it is kept by `rt ci`, so `rt lib` proves it, which may take an hour")
+    prove(top, CRATE, "lib")
+    made = top / "crates" / CRATE / "out" / ARCHIVE
+    if made != Path(out):
+        shutil.copy(made, out)
+    return "as `rt lib` left it after its proof"
+
+
+def take_program(top, name, out, say):
+    """A proved program, with what tells of its proof."""
+    if install.why_not(name) is None and install.origin(name) != install.UNKNOWN:
+        shutil.copy(install.built(name), out)
+        return install.origin(name)
+    if take_kept(top, out, [name]):
+        return KEPT
+    say(f"{name}: not all below it is kept by `rt ci`, so `rt run` proves it, which may take an hour")
+    prove(top, name, "run", "--", "--version")
+    shutil.copy(install.built(name), out)
+    return install.origin(name)
+
+
+def write_sums(folder, origins):
+    """Writes the list of what was proved, beside it."""
+    head = [*install.where_from(), *(f"# {place}: {origin}" for place, origin in origins.items())]
+    files = sorted(file for part in ("bin", "lib", "include") for file in (folder / part).rglob("*") if file.is_file() and not file.is_symlink())
+    files += sorted(folder.glob("*.whl"))
+    sums = [f"{hashlib.sha256(file.read_bytes()).hexdigest()}  {file.relative_to(folder)}" for file in files]
+    (folder / "checksums.txt").write_text("\n".join([*head, *sums]) + "\n", encoding="utf-8")
+
+
+def build(top, folder, names, say):
+    """Puts proved programs, and the library, into a folder."""
+    import build as building
+
+    (folder / "bin").mkdir(parents=True, exist_ok=True)
+    (folder / "checksums.txt").unlink(missing_ok=True)
+    origins = {}
+    for name in names:
+        if name != building.LIBRARY:
+            origins[f"bin/{name}"] = take_program(top, name, folder / "bin", say)
+            say(f"{name}: {origins[f'bin/{name}']}")
+            continue
+        with tempfile.TemporaryDirectory(prefix="proved-") as made:
+            room = Path(made)
+            origins["lib/libjunction.a"] = take_archive(top, room / ARCHIVE, say)
+            shutil.copytree(top / "library" / "include", room / "include")
+            shutil.copytree(top / "library" / "python", room / "module", ignore=building.MADE)
+            building.make(top, room, f"KIT={lowering.kit()}", f"PROVED={room}/{ARCHIVE}", f"PACKAGE={room}/module/", "all", "wheel")
+            building.take_library(room, folder)
+        say(f"library: {origins['lib/libjunction.a']}")
+    write_sums(folder, origins)
+    say(f"proved: {folder}")
+    return 0
+
+
+def main(words):
+    if words == ["--help"] or len(words) != 1:
+        print(__doc__)
+        return 0 if words == ["--help"] else 2
+    out = Path(words[0]).resolve()
+    try:
+        out.parent.mkdir(parents=True, exist_ok=True)
+        told = take_archive(lowering.TOP, out, lambda text: print(text, file=sys.stderr))
+    except Refused as refused:
+        print(refused, file=sys.stderr)
+        return 1
+    print(f"{out.name}: {told}", file=sys.stderr)
+    return 0
+
+
+if __name__ == "__main__":
+    sys.exit(main(sys.argv[1:]))
