@@ -13,9 +13,12 @@ import dataclasses
 import math
 from dataclasses import dataclass
 
-from sumo_net import length_of
-
 STEP = 0.5  # metres between two points of a way
+
+
+def length_of(way):
+    """Metres along a line of points."""
+    return sum(math.dist(a, b) for a, b in zip(way, way[1:]))
 
 
 def value(default, meaning):
@@ -28,15 +31,19 @@ class Values:
     overrun_straight: float = value(3.0, "seconds in which cars straight on still cross their stop line after the end of green")
     overrun_turning: float = value(2.0, "the same of cars that turn")
     overrun_bicycle: float = value(1.0, "the same of bicycles; on foot it is 0")
+    overrun_tram: float = value(5.0, "the same of trams")
+    tram_length: float = value(15.0, "metres that a tram has to clear besides; the rest of it is seen")
     vehicle_length: float = value(6.0, "metres that a car has to clear besides; of bicycles and on foot 0")
     clear_straight: float = value(10.0, "metres a second of a car that clears straight on")
     clear_turning: float = value(7.0, "the same of one that turns")
     clear_tight: float = value(5.0, "the same of one that turns on a way shorter than --tight-way")
     tight_way: float = value(12.0, "metres")
     clear_bicycle: float = value(4.0, "metres a second of a bicycle that clears")
+    clear_tram: float = value(7.0, "metres a second of a tram that clears")
     clear_foot: float = value(1.2, "metres a second of people who clear")
     enter_car: float = value(11.1, "metres a second of a car that enters; the lane's speed where that is higher")
     enter_bicycle: float = value(5.0, "metres a second of a bicycle that enters")
+    enter_tram: float = value(13.9, "metres a second of a tram that enters; the lane's speed where that is higher")
 
 
 def number_from(least):
@@ -113,6 +120,8 @@ def clearing_of(link, values):
         return 0.0, 0.0, values.clear_foot
     if link.kind == "bicycle":
         return values.overrun_bicycle, 0.0, values.clear_bicycle
+    if link.kind == "tram":
+        return values.overrun_tram, values.tram_length, values.clear_tram
     if not link.is_turning:
         return values.overrun_straight, values.vehicle_length, values.clear_straight
     is_tight = length_of(link.way) < values.tight_way
@@ -127,5 +136,8 @@ def seconds_between(clearing, entering, values):
         clear = length_of(clearing.way)
     if entering.kind == "foot":
         enter = 0.0
-    faster = values.enter_bicycle if entering.kind == "bicycle" else max(values.enter_car, entering.speed)
+    if entering.kind == "bicycle":
+        faster = values.enter_bicycle
+    else:
+        faster = max(values.enter_tram if entering.kind == "tram" else values.enter_car, entering.speed)
     return overrun + (clear + length) / speed - enter / faster
