@@ -1,4 +1,6 @@
 """Who is in conflict with whom, who is permitted beside whom, and the intergreens of a site."""
+from dataclasses import replace
+
 import clearing
 from reading import Refused
 from sumo.stages import GREEN, whole
@@ -27,46 +29,83 @@ def note_permitted(site, a, b, both):
     of_links.update(yields)
 
 
+def phases_with(site, a, b):
+    """The phases of the own program that show both links green."""
+    one, other = site.light.links[a].index, site.light.links[b].index
+    return [k for k, phase in enumerate(site.light.phases) if phase.state[one] in GREEN and phase.state[other] in GREEN]
+
+
 def conflicts_of(site):
-    """The pairs of links in conflict: foes that no phase of the own program shows green together. The others are permitted."""
-    links, phases, conflicts = site.light.links, site.light.phases, []
+    """The pairs of links in conflict, each with the lines on which they meet: foes that no phase of the own program shows green
+    together, and links that meet behind a way which isn't under the light. The others are permitted."""
+    links, conflicts = site.light.links, []
     for a, link in enumerate(links):
         for b in sorted(foe for foe in link.foes if foe > a):
-            both = [k for k, p in enumerate(phases) if p.state[link.index] in GREEN and p.state[links[b].index] in GREEN]
+            both = phases_with(site, a, b)
             if both:
                 note_permitted(site, a, b, both)
             else:
-                conflicts.append((a, b))
+                conflicts.append((a, b, link, links[b]))
+    for a, b, line in site.light.detours:
+        if not phases_with(site, a, b) and site.of_link[a] != site.of_link[b]:
+            conflicts.append((a, b, replace(links[a], way=line), links[b]))
+            site.notes.append(f"links {links[a].index} and {links[b].index} meet behind a way that isn't under the light")
+    site.notes = list(dict.fromkeys(site.notes))
     return conflicts
 
 
-def own_intergreen(site, group, others):
-    """From the end of a group's green to the next begin of one of others, the longest in the network's own program."""
+def own_intergreen(site, group):
+    """From the end of a group's green to the begin of the next stage, the longest in the network's own program."""
     phases, column, longest = site.light.phases, site.columns[group], 0.0
-    count = len(phases)
+    count, stages = len(phases), {k for stage in site.stages for run in stage.phases for k in run}
     for k in range(count):
-        if column[k] not in GREEN or column[(k + 1) % count] in GREEN:
-            continue
-        seconds, at = 0.0, (k + 1) % count
-        while at != k and not any(site.columns[other][at] in GREEN for other in others):
-            seconds += phases[at].duration
-            at = (at + 1) % count
-        longest = max(longest, seconds if at != k else 0.0)
+        if column[k] in GREEN and column[(k + 1) % count] not in GREEN:
+            seconds, at = 0.0, (k + 1) % count
+            while at not in stages:
+                seconds += phases[at].duration
+                at = (at + 1) % count
+            longest = max(longest, seconds)
     return longest
 
 
-def set_intergreens(site, conflicts, given):
-    """Of each pair of groups in conflict, both ways, the whole seconds: the longest of their links, at least the amber."""
-    values, others, own = clearing.values_of(given), {}, {}
-    for a, b in conflicts:
+def own_clearing(site, group, others):
+    """From the end of a group's green to the first green of one of others, the shortest in the network's own program: people on
+    foot clear while cars beside them are still green."""
+    phases, column, shortest = site.light.phases, site.columns[group], None
+    count = len(phases)
+    for k in range(count):
+        if column[k] in GREEN and column[(k + 1) % count] not in GREEN:
+            seconds, at = 0.0, (k + 1) % count
+            while at != k and not any(site.columns[other][at] in GREEN for other in others):
+                seconds += phases[at].duration
+                at = (at + 1) % count
+            shortest = seconds if shortest is None else min(seconds, shortest)
+    return shortest or 0.0
+
+
+def own_of(site, conflicts):
+    """Of each group the network's own seconds to its next stage, and of those of people those to the first foe's green."""
+    others = {}
+    for a, b, _, _ in conflicts:
         for x, y in ((a, b), (b, a)):
             others.setdefault(site.of_link[x], set()).add(site.of_link[y])
-    if given.intergreens == "own":
-        own = {group: own_intergreen(site, group, against) for group, against in others.items()}
-    for a, b in conflicts:
-        for x, y in ((a, b), (b, a)):
+    return {group: (own_intergreen(site, group), own_clearing(site, group, against)) for group, against in others.items()}
+
+
+def set_intergreens(site, conflicts, given):
+    """Of each pair of groups in conflict, both ways, the whole seconds: the longest of their links, at least the amber. Behind a
+    detour they are computed in any case: amber and all-red of the network's program don't reach so far."""
+    values = clearing.values_of(given)
+    own = own_of(site, conflicts) if given.intergreens == "own" else {}
+    for a, b, one, other in conflicts:
+        for x, y, clears, enters in ((a, b, one, other), (b, a, other, one)):
             pair = site.of_link[x], site.of_link[y]
-            seconds = own[pair[0]] if own else clearing.seconds_between(site.light.links[x], site.light.links[y], values)
+            is_detour = clears is not site.light.links[x] or enters is not site.light.links[y]
+            needs_way = not own or is_detour or clears.kind == "foot"
+            seconds = clearing.seconds_between(clears, enters, values) if needs_way else 0.0
+            if own:
+                to_stage, to_foe = own[pair[0]]
+                seconds = max(to_stage, seconds if is_detour else min(to_foe, seconds))
             seconds = max(whole(seconds, f"the intergreen from K{pair[0] + 1} to K{pair[1] + 1}", 99), site.amber[pair[0]], 1)
             site.intergreens[pair] = max(seconds, site.intergreens.get(pair, 0))
 

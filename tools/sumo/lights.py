@@ -6,6 +6,7 @@ from sumo.network import lane_name, shape_of
 from sumo.programs import program_of
 
 RAIL = {"tram", "rail", "rail_urban", "rail_electric", "rail_fast", "subway", "cable_car"}
+NEAR = 100.0  # metres within which two junctions of a light are one place to clear
 
 
 @dataclass
@@ -27,7 +28,8 @@ class Link:
 @dataclass
 class Light:
     """A traffic light: its links in the order of their places, its program, the lanes that lead to it, and of each crossing the
-    areas in which people wait for it."""
+    areas in which people wait for it. A detour is a link, another one that meets it behind its own way, and its line up to there:
+    over a lane and a way that isn't under the light."""
     name: str
     junction: str
     program: object
@@ -35,6 +37,7 @@ class Light:
     lanes: dict
     waits: dict
     notes: list
+    detours: list = field(default_factory=list)
 
     @property
     def phases(self):
@@ -134,6 +137,26 @@ def set_rights(links, network):
     return list(dict.fromkeys(notes))
 
 
+def detours_of(links, network):
+    """The links that lead to a way which isn't under the light and meets another link: with this link and the line up to there.
+    The lane between them is at most NEAR metres long."""
+    places, found, outside = {link.request: k for k, link in enumerate(links)}, [], {}
+    for k, link in enumerate(links):
+        name, here = link.request
+        for there in network.rights_of(name)[here][0]:
+            way = network.orders[name][there]
+            if (name, there) not in places and not way.get("tl") and not is_unused(way, network.lanes):
+                outside.setdefault(id(way), (way, []))[1].append(k)
+    for k, link in enumerate(links):
+        lane = network.lanes[link.to_lane]
+        edge = link.to_lane.rsplit("_", 1)[0]
+        for way, met in outside.values():
+            if way.get("from") == edge and link.kind != "foot" and float(lane.get("length")) <= NEAR:
+                line = link.way + shape_of(lane.get("shape")) + way_of(way, network)
+                found += [(k, other, line) for other in met if other != k]
+    return found
+
+
 def read_light(network, name, program=None, rounds_up=False):
     """The traffic light of this name with its program, or a refusal."""
     if name not in network.logics:
@@ -144,9 +167,11 @@ def read_light(network, name, program=None, rounds_up=False):
     chosen = program_of(network.logics[name], program, rounds_up)
     links = make_links(own, network)
     notes = chosen.notes + set_rights(links, network)
+    detours = detours_of(links, network)
     junctions = list(dict.fromkeys(link.request[0] for link in links))
     if len(junctions) > 1:
         notes.append(f"its links lie on {len(junctions)} junctions, and ways of different junctions don't meet")
     waits = {link.to_lane.rsplit("_", 1)[0]: [] for link in links if link.kind == "foot"}
     waits = {crossing: network.areas.get(crossing, []) for crossing in waits}
-    return Light(name, " ".join(junctions), chosen, links, {link.lane: network.lanes[link.lane] for link in links}, waits, notes)
+    lanes = {link.lane: network.lanes[link.lane] for link in links}
+    return Light(name, " ".join(junctions), chosen, links, lanes, waits, notes, detours)

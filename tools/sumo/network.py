@@ -55,7 +55,7 @@ class Network:
                 self.logics.setdefault(logic.get("id"), []).append(logic)
         self.follow = {lane: leaving[0].get("via") for lane, leaving in self.by_lane.items()
                        if lane.startswith(":") and len(leaving) == 1 and leaving[0].get("via")}
-        self.orders, self.junctions, self.place = {}, {}, {}
+        self.orders, self.junctions, self.place, self.rights = {}, {}, {}, {}
         for junction in root.iter("junction"):
             if junction.find("request") is not None:
                 self.add_junction(junction)
@@ -86,12 +86,15 @@ class Network:
 
     def rights_of(self, name):
         """Of each connection of a junction, by its place: its foes, and those to which it yields."""
+        if name in self.rights:
+            return self.rights[name]
         rows = sorted((int(row.get("index")), row) for row in self.junctions[name].iter("request"))
         if len(rows) != len(self.orders[name]):
             raise Refused(0, f"junction {name} has {len(rows)} rows of right of way for {len(self.orders[name])} links; "
                              "`netconvert -s NET -o NET` writes them anew")
-        return [({k for k, bit in enumerate(row.get("foes")[::-1]) if bit == "1"},
-                 {k for k, bit in enumerate(row.get("response")[::-1]) if bit == "1"}) for _, row in rows]
+        self.rights[name] = [({k for k, bit in enumerate(row.get("foes")[::-1]) if bit == "1"},
+                              {k for k, bit in enumerate(row.get("response")[::-1]) if bit == "1"}) for _, row in rows]
+        return self.rights[name]
 
 
 def read_network(file):

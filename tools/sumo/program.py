@@ -313,7 +313,7 @@ def coordinated_of(site, given):
         return None
     ends = ends_of(site)
     main = max(range(len(bases)), key=lambda place: (ends[place][1] if bases[place].lanes else 0, -place))
-    shift = (given.begin - round(site.light.program.offset)) % cycle
+    shift = (given.begin + 1 - round(site.light.program.offset)) % cycle
     need = [max(site.least[group] for group in stage.greens) + max(
         interstage_of(site, a, b)[0] for a, b in pairs_of(site, reach_of(site)) if b == place)
         for place, stage in enumerate(bases)]
