@@ -34,7 +34,7 @@ from types import SimpleNamespace
 
 import queues
 from reading import MOST_DETECTOR, NAME, Refused, table_of, text_of, told, whole_from
-from study_sumo import interval
+from sumo.tables import interval
 
 FIELDS = ["program", "seed", "stream", "vehicles", "delay", "stops", "queue", "greens", "left"]
 SHOWN = [("delay", "delay s", 1), ("stops", "stopped %", 0), ("queue", "longest queue", 1)]
