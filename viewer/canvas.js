@@ -48,13 +48,13 @@ class CanvasSurface {
     const { context, look } = this, [size, anchor, isBold] = WORDS[kind];
     context.font = `${isBold ? "bold " : ""}${size}px ${FONT}`;
     context.textAlign = anchor === "middle" ? "center" : anchor;
-    if (kind === "m") {
+    if (HALOED.includes(kind)) {
       context.strokeStyle = look.ground;
       context.lineWidth = 4;
       context.lineJoin = "round";
       context.strokeText(words, x, y);
     }
-    context.fillStyle = kind === "k" ? look.word : look.ink;
+    context.fillStyle = kind === "k" ? look.word : kind === "b" ? look.alarm : look.ink;
     context.fillText(words, x, y);
   }
   path(kind, points) { // lines of two points each; those across and down are filled, which is faster than strokes

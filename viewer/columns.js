@@ -71,15 +71,18 @@ function drawFrontColumns(surface, log, layout, view, seconds, step) {
 
 const OVERVIEW_HEIGHT = 58;
 
-/** Draws the whole log as two rows: how many commands were refused, and how many faults came. Heights grow with the
-    logarithm. */
+/** Draws the whole log as rows: how many commands were refused, how many faults came, and how many breaches where it was judged.
+    Heights grow with the logarithm. */
 function drawOverview(surface, log, layout) {
-  const view = { from: 1, scale: layout.fit }, step = clockStep(2 / view.scale);
+  const view = { from: 1, scale: layout.fit }, step = log.unit * clockStep(2 / (log.unit * view.scale));
   surface.ground(layout.width, OVERVIEW_HEIGHT);
-  [["refused", log.refused.second, 26], ["faults", log.faults.second, 50]].forEach(([name, seconds, y]) => {
+  const ofLog = log.unit === 1 ? [["refused", log.refused.second], ["faults", log.faults.second]] : [];
+  const rows = [...ofLog, ...(log.breaches ? [["breaches", breachSeconds(log)]] : [])], height = OVERVIEW_HEIGHT / (rows.length || 1);
+  rows.forEach(([name, seconds], row) => {
+    const y = Math.round((row + 1) * height) - 4, most = Math.min(20, height - 6) - 3;
     const counts = new Float32Array(columnOf(log.seconds, step) + 1);
     for (const t of seconds) counts[columnOf(t, step)]++;
-    const most = highest([counts]), heights = counts.map((n) => n && 3 + (17 * Math.log(1 + n)) / Math.log(1 + most));
+    const top = highest([counts]), heights = counts.map((n) => n && 3 + (most * Math.log(1 + n)) / Math.log(1 + top));
     surface.text("d", layout.left - 12, y - 4, name);
     surface.path("b", [layout.left, y + 0.5, layout.right, y + 0.5]);
     surface.columns("x", y, columnsIn(layout, view, [1, log.seconds], step, heights));

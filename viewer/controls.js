@@ -3,9 +3,9 @@
 
 // Keys
 
-const JUMPS = { r: "refused", f: "fault", g: "group", s: "stage" };
+const JUMPS = { b: "breach", l: "lost", r: "refused", f: "fault", g: "group", s: "stage" };
 const KEYS = {
-  ArrowLeft: (step) => choose(state.chosen - step), ArrowRight: (step) => choose(state.chosen + step),
+  ArrowLeft: (step) => choose(state.chosen - step), ArrowRight: (step) => choose(state.chosen + step), // a tenth of a record
   Home: () => choose(1), End: () => choose(state.log.seconds),
   PageUp: () => move(-shownSeconds()), PageDown: () => move(shownSeconds()),
   "+": () => zoom(1.5), "=": () => zoom(1.5), "-": () => zoom(1 / 1.5), 0: () => zoom(0), j: () => $("second").focus(),
@@ -14,6 +14,7 @@ const KEYS = {
 addEventListener("keydown", (event) => {
   if (!state.log || event.altKey || event.metaKey || /^(INPUT|SELECT|TEXTAREA)$/.test(event.target.tagName)) return;
   const key = event.key.length === 1 ? event.key.toLowerCase() : event.key;
+  if (key.length === 1 && !$("letters").checked) return;
   const isJump = !event.ctrlKey && (JUMPS[key] || key === "n");
   if (!isJump && (!KEYS[key] || (event.ctrlKey && !key.startsWith("Arrow")))) return;
   event.preventDefault();
@@ -108,7 +109,8 @@ $("out").onclick = () => zoom(1 / 1.5);
 $("whole").onclick = () => zoom(0);
 $("on").onclick = () => jump($("target").value, true);
 $("back").onclick = () => jump($("target").value, false);
-$("second").onchange = () => Number($("second").value) && choose(Number($("second").value), true);
+$("second").onchange = () => $("second").value !== "" && choose(momentOf(state.log, Number($("second").value)), true);
+$("skip").onclick = () => $("cursor").focus();
 $("clock").onchange = () => {
   const [hours, minutes, seconds = 0] = $("clock").value.split(":").map(Number);
   state.clock = 3600 * hours + 60 * minutes + seconds || 0;
@@ -131,7 +133,10 @@ addEventListener("drop", (event) => {
   document.body.classList.remove("dropping");
   takeFiles([...event.dataTransfer.files]);
 });
-addEventListener("resize", () => state.log && showAll());
+new ResizeObserver(() => {
+  const width = Math.max(LEAST_WIDTH, Math.floor($("drawn").getBoundingClientRect().width));
+  if (state.log && state.layout && state.layout.width !== width) showAll();
+}).observe($("drawn"));
 addEventListener("hashchange", takeAddress);
 dark.addEventListener("change", () => state.log && showAll());
 takeAddress();

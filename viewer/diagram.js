@@ -11,8 +11,12 @@ function eachSpan(log, layout, view, first, [from, to], take) {
   }
 }
 
+/** Whether a log has stages; a record of another controller has none. */
+const hasStages = (log) => log.stays.place.some((place) => place > 0);
+
 function drawBand(surface, { log, site }, layout, view, seconds) {
   const { first, place } = log.stays, words = [];
+  if (!hasStages(log)) return;
   eachSpan(log, layout, view, first, seconds, (at, x, width) => {
     const name = placeName(place[at]), stage = stageName(site, place[at]), long = stage ? `${name} ${stage}` : name;
     surface.box(isInterstage(place[at]) ? "i" : "s", x, BAND, width, BAND_HEIGHT);
@@ -26,10 +30,11 @@ function drawGroup(surface, { log, site }, layout, view, seconds, group) {
   const { first, aspect } = log.spans[group], y = groupTop(group), least = site.times ? site.times[group].minGreen : 0;
   eachSpan(log, layout, view, first, seconds, (at, x, width, next) => {
     if (aspect[at] === RED) return surface.box("r", x, y + 10, width, 2);
-    surface.box("ruga"[aspect[at]], x, y + 5, width, 12);
+    surface.box("ruga?"[aspect[at]], x, y + 5, width, 12);
     if (aspect[at] !== GREEN) return;
-    const end = Math.min(x + width, xOf(layout, view, first[at] + least)), length = String(next - first[at]);
-    if (end > x) surface.box("e", x, y + 11, end - x, 6);
+    const end = Math.min(x + width, xOf(layout, view, first[at] + least)), length = lengthOf(log, next - first[at]);
+    const isCut = at === 0 && !isAtRest(log);
+    if (end > x && !isCut) surface.box("e", x, y + 11, end - x, 6);
     const isWhole = first[at] > view.from && next < endOf(layout, view) && next <= log.seconds;
     if (isWhole && length.length * LETTER_WIDTH + 4 <= width) surface.text("k", x + width / 2, y + 15, length);
   });
@@ -49,6 +54,41 @@ function marksOf(layout, view, seconds, [from, to], rowOf, letterOf, least) {
   return marks;
 }
 
+// What a breach is marked by: a frame around what was too short, too long or in conflict; of an intergreen a line from the end to
+// the green, and one down from the row of the group that ended. Beside it stands what was shown of what is needed.
+function breachLines(layout, view, { t, rule, group, other, since }) {
+  const within = (moment) => Math.min(layout.right, Math.max(layout.left, xOf(layout, view, moment)));
+  const begin = within(since || t), end = within(t), y = groupTop(group), down = [end, y + 2, end, y + 19];
+  if (rule === 4 && since) {
+    const from = groupTop(other) + 11, to = y + 3;
+    return [begin, from, begin, to, begin, to, end, to, end, to - 3, end, to + 3];
+  }
+  if (begin === end) return down;
+  const frame = (top) => [begin, top, end, top, begin, top + 17, end, top + 17, begin, top, begin, top + 17, end, top, end, top + 17];
+  return rule === 3 ? [...frame(y + 2), ...frame(groupTop(other) + 2)] : frame(y + 2);
+}
+
+const MOST_MARKS = 2000;
+
+function drawBreaches(surface, { log }, layout, view, [from, to], areMany) {
+  const inView = (log.breaches || []).filter(({ t, since }) => t >= from && (since || t) <= to).slice(0, MOST_MARKS);
+  const lines = inView.flatMap((breach) => {
+    const x = xOf(layout, view, Math.min(breach.t, log.seconds + 1)), y = groupTop(breach.group);
+    if (areMany) return x >= layout.left && x <= layout.right ? [x, y + 2, x, y + 19] : [];
+    return breachLines(layout, view, breach);
+  });
+  surface.path("v", lines);
+  if (areMany || view.scale * log.unit < 3) return;
+  const rights = new Map(); // up to where words stand in a row
+  for (const { t, group, length, needed } of inView) {
+    const x = xOf(layout, view, t) + 4, words = length < 0 ? "" : `${lengthOf(log, length)}${needed < 0 ? "" : ` of ${lengthOf(log, needed)}`} s`;
+    const end = x + 6.4 * words.length;
+    if (!words || x < (rights.get(group) || layout.left) || end > layout.right + 20) continue;
+    surface.text("b", x, groupTop(group) + 4, words);
+    rights.set(group, end);
+  }
+}
+
 const LETTERS_FROM = 14; // units of a second from which the letters of rules stand beside their marks
 
 // A triangle above the row of the group, or above the band for a stage command, with the letter of the rule where there is
@@ -56,10 +96,10 @@ const LETTERS_FROM = 14; // units of a second from which the letters of rules st
 function drawRefused(surface, { refused }, layout, view, seconds) {
   const rowOf = (k) => (refused.rule[k] >= FIRST_COMMAND_RULE ? -1 : refused.one[k]);
   const letterOf = (k) => RULE_LETTERS[refused.rule[k]];
-  const marks = marksOf(layout, view, refused.second, seconds, rowOf, letterOf, view.scale < 1 ? 7 : 3);
+  const marks = marksOf(layout, view, refused.second, seconds, rowOf, letterOf, view.scale * layout.unit < 1 ? 7 : 3);
   const tipOf = (row) => (row < 0 ? BAND : groupTop(row) + 6);
   surface.triangles(marks.map(({ x, row }) => [x, tipOf(row)]));
-  if (view.scale >= LETTERS_FROM) for (const { x, row, letters } of marks) surface.text("r", x + 3, tipOf(row), letters);
+  if (view.scale * layout.unit >= LETTERS_FROM) for (const { x, row, letters } of marks) surface.text("r", x + 3, tipOf(row), letters);
 }
 
 function drawFaults(surface, { faults }, layout, view, seconds) {
@@ -92,7 +132,7 @@ function drawFronts(surface, log, layout, view, [from, to]) {
 // The names of the rows and the lines below them.
 function drawRows(surface, log, layout) {
   const { left, right } = layout, lines = [];
-  surface.text("n", left - 12, BAND + 13, "stage");
+  if (hasStages(log)) surface.text("n", left - 12, BAND + 13, "stage");
   log.names.forEach((name, group) => {
     surface.text("n", left - 12, groupTop(group) + 15, name);
     lines.push(12, groupTop(group) + 20, right, groupTop(group) + 20);
@@ -106,34 +146,39 @@ function drawRows(surface, log, layout) {
 }
 
 // What stands for what.
-const LEGEND = [
-  ["r", "red"], ["u", "red-amber"], ["g", "green, seconds"], ["e", "its minimum"], ["a", "amber"], ["i", "interstage"],
-  ["x", "refused, rule"], ["f", "fault"], ["t", "1, 2, more fronts"], ["c", "covered"],
-];
+const ASPECT_LEGEND = [["r", "red"], ["u", "red-amber"], ["g", "green, seconds"], ["e", "its minimum"], ["a", "amber"]];
+const LOG_LEGEND = [["i", "interstage"], ["x", "refused, rule"], ["f", "fault"], ["t", "1, 2, more fronts"], ["c", "covered"]];
+const BREACH_LEGEND = ["v", "breach: shown of needed"];
+function legendOf(log, areMany = false) {
+  const aspects = areMany ? [["g", "green, its share of the time"]] : ASPECT_LEGEND;
+  return [...aspects, ...(log.unit === 1 ? LOG_LEGEND : [["?", "not known"]]), ...(log.breaches ? [BREACH_LEGEND] : [])];
+}
 const LEGEND_ROW = 22;
 
 // Where each entry of the legend stands, from its top: [x, y].
-function legendPlaces(width) {
+function legendPlaces(entries, width) {
   let x = 12, y = 0;
-  return LEGEND.map(([, words]) => {
+  return entries.map(([, words]) => {
     const needed = 44 + 7.3 * words.length;
     if (x > 12 && x + needed > width) [x, y] = [12, y + LEGEND_ROW];
     x += needed;
     return [x - needed, y];
   });
 }
-const legendHeight = (width) => legendPlaces(width).pop()[1] + LEGEND_ROW;
+const legendHeight = (log, width) => legendPlaces(legendOf(log), width).pop()[1] + LEGEND_ROW;
 
 const cross = (x, y) => [x - 4, y, x + 4, y + 8, x + 4, y, x - 4, y + 8]; // below y, around x
 
-function drawLegend(surface, layout) {
-  legendPlaces(layout.width).forEach(([x, below], at) => {
-    const [kind, words] = LEGEND[at], y = layout.end + 42 + below;
+function drawLegend(surface, log, layout, areMany) {
+  const entries = legendOf(log, areMany), places = legendPlaces(entries, layout.width);
+  entries.forEach(([kind, words], at) => {
+    const [x, below] = places[at], y = layout.end + 42 + below;
     if (kind === "r") surface.box("r", x, y + 5, 24, 2);
     else if (kind === "x") surface.triangles([[x + 8, y + 10]]);
     else if (kind === "f") surface.path("f", cross(x + 12, y + 2));
     else if (kind === "t") surface.path("t", [1, 2, 3].flatMap((n) => [x + 8 * n - 4, y + 9 - 3 * n, x + 8 * n - 4, y + 12]));
     else if (kind === "c") surface.box("c", x, y + 5, 24, 5);
+    else if (kind === "v") surface.path("v", [x, y - 2, x + 24, y - 2, x, y + 13, x + 24, y + 13, x, y - 2, x, y + 13, x + 24, y - 2, x + 24, y + 13]);
     else surface.box(kind === "e" ? "g" : kind, x, y, 24, 12);
     if (kind === "e") surface.box("e", x, y + 6, 16, 6);
     if (kind === "g") surface.text("k", x + 12, y + 10, "12");
@@ -150,7 +195,8 @@ function drawLog(surface, shown, layout, view) {
   drawAxes(surface, log, layout, view, clock);
   drawRows(surface, log, layout);
   const stretches = Math.max(...[log.stays, ...log.spans].map(({ first }) => lastAtMost(first, to) - lastAtMost(first, from)));
-  const areMany = stretches > layout.plot / 2.5, step = clockStep(Math.max(3 / view.scale, areMany ? 300 : 0));
+  const areMany = stretches > layout.plot / 2.5, { unit } = log;
+  const step = unit * clockStep(Math.max(3 / (unit * view.scale), areMany ? 300 : 0));
   if (areMany) heights.push(drawShares(surface, log, layout, view, seconds, step));
   else {
     drawBand(surface, shown, layout, view, seconds);
@@ -164,8 +210,9 @@ function drawLog(surface, shown, layout, view) {
   }
   drawRefused(surface, log, layout, view, seconds);
   drawFaults(surface, log, layout, view, seconds);
-  const title = `Signal timing diagram, seconds ${from} to ${to}`;
-  const columns = `Seconds ${from} to ${to}; columns of ${lengthText(step)}: ${heights.join(", ")}`;
-  surface.text("h", 12, 20, heights.length ? columns : title);
-  drawLegend(surface, layout);
+  drawBreaches(surface, shown, layout, view, seconds, areMany);
+  const stretch = `${unit === 1 ? "seconds" : "times"} ${timeText(log, from)} to ${timeText(log, to)}`;
+  const columns = `${stretch[0].toUpperCase()}${stretch.slice(1)}; columns of ${lengthText(step / unit)}: ${heights.join(", ")}`;
+  surface.text("h", 12, 20, heights.length ? columns : `Signal timing diagram, ${stretch}`);
+  drawLegend(surface, log, layout, areMany);
 }

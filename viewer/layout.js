@@ -10,7 +10,10 @@ function layoutOf(log, width) {
   const right = Math.max(width - 24, left + 100), plot = right - left;
   const faults = GROUPS + 6 + GROUP_ROW * log.names.length, detectors = faults + (log.faults.second.length ? FAULT_ROW : 0);
   const end = detectors + DETECTOR_ROW * log.detectors.length;
-  return { width, height: end + 42 + legendHeight(width), left, right, plot, faults, detectors, end, fit: plot / log.seconds };
+  return {
+    width, height: end + 42 + legendHeight(log, width), left, right, plot, faults, detectors, end, fit: plot / log.seconds,
+    unit: log.unit,
+  };
 }
 
 const groupTop = (group) => GROUPS + GROUP_ROW * group;
@@ -33,10 +36,18 @@ const CLOCK_STEPS = [1, 2, 5, 10, 20, 30, 60, 120, 300, 600, 900, 1800, 3600, 72
 const clockStep = (least) => CLOCK_STEPS.find((step) => step >= least) || 604800;
 const twoDigits = (n) => String(n).padStart(2, "0");
 
-/** A moment as a clock shows it, so many seconds after midnight of the first day; a later day is told. */
+// The number at which the clock of the page stands: second 1 of a log, and time 0.0 of a record.
+const originOf = (log) => (log.unit === 1 ? 1 : 0);
+
+/** The seconds after midnight at which a moment of the log begins. */
+const clockAt = (log, clock, t) => clock + (log.first + t - 1 - originOf(log)) / log.unit;
+
+/** A moment as a clock shows it, so many seconds after midnight of the first day; a later day is told, and a tenth. */
 function clockText(moment) {
-  const day = Math.floor(moment / 86400), rest = moment % 86400;
-  return `${day ? `+${day}d ` : ""}${Math.floor(rest / 3600)}:${twoDigits(Math.floor(rest / 60) % 60)}:${twoDigits(rest % 60)}`;
+  const tenths = Math.round(10 * moment), day = Math.floor(tenths / 864000), rest = Math.floor((tenths % 864000) / 10);
+  const tenth = tenths % 10 ? `.${tenths % 10}` : "";
+  const clock = `${Math.floor(rest / 3600)}:${twoDigits(Math.floor(rest / 60) % 60)}:${twoDigits(rest % 60)}${tenth}`;
+  return `${day ? `+${day}d ` : ""}${clock}`;
 }
 
 const UNITS = [[3600, "h"], [60, "min"], [1, "s"]];
@@ -58,16 +69,18 @@ function drawAxes(surface, log, layout, view, clock) {
   const [first, last] = secondsIn(log, layout, view), x = (t) => xOf(layout, view, t);
   const label = labelStep(view.scale), tick = Math.max(1, label / 5), lines = [], ticks = [];
   const isIn = (t) => first <= t && t <= last && x(t) >= layout.left;
-  for (let t = Math.ceil(first / tick) * tick; t <= last; t += tick) {
+  const numberText = (number) => (log.unit > 1 && label % log.unit === 0 ? String(number / log.unit) : lengthOf(log, number));
+  for (let number = Math.ceil((log.first + first - 1) / tick) * tick; number <= log.first + last - 1; number += tick) {
+    const t = number - log.first + 1;
     if (!isIn(t)) continue;
-    ticks.push(x(t), t % label ? TOP - 4 : TOP - 8, x(t), TOP);
-    if (t % label) continue;
+    ticks.push(x(t), number % label ? TOP - 4 : TOP - 8, x(t), TOP);
+    if (number % label) continue;
     lines.push(x(t), TOP, x(t), layout.end + 2);
-    surface.text("l", x(t), TOP - 11, String(t));
+    surface.text("l", x(t), TOP - 11, numberText(number));
   }
-  const step = clockStep(76 / view.scale);
-  for (let moment = Math.ceil((clock + first - 1) / step) * step; moment <= clock + last - 1; moment += step) {
-    const t = moment - clock + 1;
+  const step = clockStep(76 / (view.scale * log.unit)), end = clockAt(log, clock, last);
+  for (let moment = Math.ceil(clockAt(log, clock, first) / step) * step; moment <= end; moment += step) {
+    const t = (moment - clock) * log.unit + originOf(log) - log.first + 1;
     if (!isIn(t)) continue;
     ticks.push(x(t), layout.end + 2, x(t), layout.end + 10);
     surface.text("l", x(t), layout.end + 21, clockText(moment));

@@ -45,6 +45,13 @@ function findByte(b, byte, from, to) {
   return -1;
 }
 
+/** The names of groups in a text, each after one space; null where they aren't 1 to 64 different ones. */
+function namesIn(text) {
+  const names = text.split(" "), areNew = new Set(names.map((name) => name.toLowerCase())).size === names.length;
+  const areNames = names.every((name) => /^[A-Za-z_][A-Za-z0-9_]{0,31}$/.test(name));
+  return names.length <= MOST_GROUPS && areNew && areNames ? names : null;
+}
+
 const isDash = (b, from, to) => to - from === 1 && b[from] === DASH;
 
 // Whether the line is a watcher's, which stands behind a log.
@@ -78,7 +85,8 @@ function refusalsIn(text, groups) {
 /** Takes the bytes of a log, and gives its columns in the end. It throws a Refusal at the first line that is no record. */
 class LogReader {
   constructor() {
-    this.lines = 0; // lines read, and so the second that comes next
+    this.lines = 0; // lines read, and so the place of the second that comes next
+    this.first = 1; // the number of the first second
     this.over = false; // a watcher's line was read, and nothing behind it is
     this.before = 0; // bytes before the piece that is read
     this.rest = new Uint8Array(0); // the beginning of a line whose end has not come
@@ -111,7 +119,7 @@ class LogReader {
     if (!this.over && this.rest.length > 0) this.line(this.rest, 0, this.rest.length);
     if (this.lines === 0) throw new Refusal(1, "Header");
     return {
-      names: this.names, seconds: this.lines - 1, ...doneColumns(this.seconds), ...doneColumns(this.counts),
+      names: this.names, unit: 1, first: this.first, seconds: this.lines - 1, ...doneColumns(this.seconds), ...doneColumns(this.counts),
       spans: this.spans.map(doneColumns), refused: doneColumns(this.refused), faults: doneColumns(this.faults),
     };
   }
@@ -129,10 +137,8 @@ class LogReader {
   // The next two tell the reason to refuse their line, or nothing; those after them whether a field has its form.
 
   takeHeader(text) {
-    const names = text.startsWith("VAPLOG 1 ") ? text.slice(9).split(" ") : [];
-    const areNew = new Set(names.map((name) => name.toLowerCase())).size === names.length;
-    const areNames = names.every((name) => /^[A-Za-z_][A-Za-z0-9_]{0,31}$/.test(name));
-    if (names.length === 0 || names.length > MOST_GROUPS || !areNew || !areNames) return "Header";
+    const names = text.startsWith("VAPLOG 1 ") ? namesIn(text.slice(9)) : null;
+    if (names === null) return "Header";
     this.names = names;
     this.groups = new Map(names.map((name, place) => [name, place]));
     this.letters = new Uint8Array(names.length); // of the second before
@@ -145,7 +151,10 @@ class LogReader {
     let count = 0;
     for (let i = from; i < to && count < 5; i++) if (b[i] === BAR) bars[count++] = i;
     if (count < 5) return "Fields";
-    if (numberIn(b, from, bars[0], this.lines, this.lines) < 0) return "Second";
+    const due = this.first + this.lines - 1, isFirst = this.lines === 1;
+    const second = numberIn(b, from, bars[0], isFirst ? 1 : due, isFirst ? MOST_FIRST : due);
+    if (second < 0) return "Second";
+    if (isFirst) this.first = second;
     if (!this.takePlace(b, bars[0] + 1, bars[1])) return "Stage";
     if (!this.takeAspects(b, bars[1] + 1, bars[2])) return "Aspects";
     if (!this.takeCounts(b, bars[2] + 1, bars[3])) return "Counts";

@@ -10,17 +10,23 @@ function make(name, attributes, ...inside) {
 }
 
 const cellOf = (cell, kind) => (cell instanceof Node ? cell : make(kind, {}, String(cell)));
-const rowOf = (cells, kind = "td") => make("tr", {}, ...cells.map((cell) => cellOf(cell, kind)));
+const scoped = (cell, scope) => {
+  const element = cellOf(cell, "th");
+  element.setAttribute("scope", scope);
+  return element;
+};
+const headOf = (cells) => make("tr", {}, ...cells.map((cell) => (cell === "" ? make("td", {}) : scoped(cell, "col"))));
+const rowOf = ([name, ...cells]) => make("tr", {}, scoped(name, "row"), ...cells.map((cell) => cellOf(cell, "td")));
 
 function tableOf(title, head, rows) {
-  const table = make("table", {}, make("thead", {}, rowOf(head, "th")), make("tbody", {}, ...rows.map((row) => rowOf(row))));
-  return make("div", {}, make("h3", {}, title), table);
+  const body = make("tbody", {}, ...rows.map(rowOf));
+  return make("div", {}, make("table", {}, make("caption", {}, title), make("thead", {}, headOf(head)), body));
 }
 
 function listOf(title, items) {
   return items.length ? [make("h3", {}, title), make("ul", {}, ...items.map((item) => make("li", {}, item)))] : [];
 }
-const countWords = (n, word) => `${n.toLocaleString("en")} ${word}${n === 1 ? "" : "s"}`;
+const countWords = (n, word, words = `${word}s`) => `${n.toLocaleString("en")} ${n === 1 ? word : words}`;
 
 /** A stage or interstage in words, with the stage's name where it is known. */
 function placeWords(site, place) {
@@ -33,21 +39,24 @@ function placeWords(site, place) {
 function stayWords(log, site, t) {
   const place = log.place[t - 1], since = log.stays.first[lastAtMost(log.stays.first, t)], words = placeWords(site, place);
   if (place === 0) return words;
-  if (isInterstage(place)) return `${words}, its second ${log.inter[t - 1]}, since second ${since}`;
-  return `${words}, since second ${since}, for ${t + 1 - since} s`;
+  const begun = `since second ${timeText(log, since)}`;
+  if (isInterstage(place)) return `${words}, its second ${log.inter[t - 1]}, ${begun}`;
+  return `${words}, ${begun}, for ${t + 1 - since} s`;
 }
 
 // How long a group has shown what it shows, and of how many seconds where the table tells.
-function forWords({ aspect, since }, t, times) {
+function forWords(log, { aspect, since, isCut }, t, times) {
   const least = times && [times.minRed, times.redAmber, times.minGreen, times.amber][aspect];
-  const shown = since === 0 ? t : t + 1 - since;
-  return least && aspect !== RED && shown <= least ? `${shown} s of ${least}` : `${shown} s`;
+  const shown = since === 0 ? t : t + 1 - since, text = lengthOf(log, shown);
+  if (isCut) return `${text} s or more`;
+  return least && aspect !== RED && shown <= least ? `${text} s of ${lengthOf(log, least)}` : `${text} s`;
 }
 
 function groupRow(log, site, t, group) {
   const shown = shownAt(log, group, t), word = ASPECTS[shown.aspect];
-  const cell = make("td", { class: "word" }, make("span", { class: `lamp ${word}` }), word);
-  return [log.names[group], cell, shown.since, forWords(shown, t, site.times && site.times[group])];
+  const cell = make("td", { class: "word" }, make("span", { class: `lamp ${word.replace(" ", "-")}` }), word);
+  const since = shown.since === 0 ? "0" : timeText(log, shown.since);
+  return [log.names[group], cell, since, forWords(log, shown, t, site.times && site.times[group])];
 }
 
 function countedWords(log, t) {
@@ -60,7 +69,7 @@ function countedWords(log, t) {
 function coveredWords(log, t) {
   const since = ({ turns }) => (lastAtMost(turns, t) % 2 === 0 ? turns[lastAtMost(turns, t)] : 0);
   const covered = log.detectors.filter((detector) => since(detector) > 0);
-  return covered.map((detector) => `D${detector.number} is covered, since second ${since(detector)}`);
+  return covered.map((detector) => `D${detector.number} is covered, since second ${timeText(log, since(detector))}`);
 }
 
 function refusalWords(log, site, t) {
@@ -79,12 +88,29 @@ function faultParts({ log, site }, t) {
   return [make("h3", {}, "Fault"), words, make("pre", {}, shown)];
 }
 
+const MOST_TOLD = 100;
+
+// The breaches that are complete in a moment, or under way.
+function breachItems(log, t) {
+  const told = (log.breaches || []).filter((breach) => (breach.since || breach.t) <= t && t <= Math.max(breach.t, breach.since));
+  const items = told.slice(0, MOST_TOLD).map((breach) => {
+    const at = `${JUDGED_RULES[breach.rule]}, ${momentWord(log)} ${timeText(log, breach.t)}: `;
+    return `${at}${breachWords(log, breach)}`;
+  });
+  return told.length > MOST_TOLD ? [...items, `and ${told.length - MOST_TOLD} more`] : items;
+}
+
+const lostWords = (log, t) => lostStarts(log).filter(({ lost }) => lost === t)
+  .map(({ group, asked }) => `${log.names[group]} was asked to start from second ${timeText(log, asked)} on; the wish is gone.`);
+
 /** Shows a second in the panel. */
 function showSecond(panel, shown, t) {
   const { log, site, clock } = shown, head = ["group", make("th", { class: "word" }, "shows"), "since", "for"];
   panel.replaceChildren(
-    make("h2", {}, `Second ${t} `, make("small", {}, `at ${clockText(clock + t - 1)}`)),
-    make("div", {}, stayWords(log, site, t)),
+    make("h2", {}, `${log.unit === 1 ? "Second" : "Time"} ${timeText(log, t)} `, make("small", {}, `at ${clockText(clockAt(log, clock, t))}`)),
+    ...(hasStages(log) ? [make("div", {}, stayWords(log, site, t))] : []),
+    ...listOf("Breaches", breachItems(log, t)),
+    ...listOf("Lost starts", lostWords(log, t)),
     ...listOf("Refused", refusalWords(log, site, t)),
     ...faultParts(shown, t),
     tableOf("Groups", head, log.names.map((_, group) => groupRow(log, site, t, group))),
@@ -98,7 +124,9 @@ function secondWords({ log, site }, t) {
   const aspects = log.names.map((name, group) => `${name} ${ASPECTS[shownAt(log, group, t).aspect]}`).join(", ");
   const at = faultAt(log, t);
   const fault = at < 0 ? "" : ` Fault: ${faultWords(log.faults.kind[at], log.faults.line[at])}`;
-  return `Second ${t}, ${stayWords(log, site, t)}. ${refusalWords(log, site, t).join(" ")}${fault} ${aspects}.`;
+  const begin = `${log.unit === 1 ? "Second" : "Time"} ${timeText(log, t)}${hasStages(log) ? `, ${stayWords(log, site, t)}` : ""}.`;
+  const told = [...breachItems(log, t), ...lostWords(log, t), ...refusalWords(log, site, t)].join(" ");
+  return `${begin} ${told}${fault} ${aspects}.`;
 }
 
 const MOST_ROWS = 200;

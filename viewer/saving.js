@@ -9,15 +9,30 @@ let summed = {}; // the log and the site of the sums that stand there, and their
 
 const visibleSeconds = () => secondsIn(state.log, state.layout, state.view);
 const sumSeconds = () => (sumChoice.value === "whole" ? [1, state.log.seconds] : visibleSeconds());
-const tablesOf = (seconds) => sumTables(sumsOf(state.log, ...seconds), (place) => placeWords(state.site, place));
+const tablesOf = (seconds) => sumTables(state.log, sumsOf(state.log, ...seconds), (place) => placeWords(state.site, place));
+const breachSave = make("button", {}, "save breaches as CSV");
+
+// A table of the breaches that are complete between two moments, where the log was judged.
+function breachTables(log, [from, to]) {
+  if (!log.breaches) return [];
+  const all = to === log.seconds ? Infinity : to, found = log.breaches.filter(({ t }) => from <= t && t <= all);
+  const head = ["rule", "breach", "shown s", "needed s"].map((word, at) => (at < 2 ? make("th", { class: "word" }, word) : word));
+  const rows = found.map((breach) => [
+    timeText(log, breach.t), make("td", { class: "word" }, JUDGED_RULES[breach.rule]), make("td", { class: "word" }, breachWords(log, breach)),
+    breach.length < 0 ? "" : lengthOf(log, breach.length), breach.needed < 0 ? "" : lengthOf(log, breach.needed),
+  ]);
+  return rows.length ? [{ title: `Breaches, by ${momentWord(log)}`, head, rows }] : [];
+}
 
 /** Shows the sums of the chosen seconds, where they don't stand there. */
 function showSums() {
   if (!state.log) return;
-  const [from, to] = sumSeconds();
+  const { log } = state, [from, to] = sumSeconds();
   if (summed.site === state.site && summed.from === from && summed.to === to) return;
   summed = { site: state.site, from, to };
-  showTables($("sums"), `Sums of seconds ${from} to ${to}`, tablesOf([from, to]), [sumChoice, sumSave]);
+  const title = `Sums of ${log.unit === 1 ? "seconds" : "times"} ${timeText(log, from)} to ${timeText(log, to)}`;
+  const tables = [...breachTables(log, [from, to]), ...tablesOf([from, to])];
+  showTables($("sums"), title, tables, [sumChoice, sumSave, ...(log.breaches ? [breachSave] : [])]);
 }
 
 // What is visible as SVG, on a width that prints well.
@@ -25,7 +40,8 @@ function pictureOf() {
   const layout = layoutOf(state.log, 1290), surface = new SvgSurface(layout.width, layout.height, LIGHT);
   drawLog(surface, state, layout, { from: state.view.from, scale: layout.plot / shownSeconds() });
   const [from, to] = visibleSeconds(), title = surface.element("title", {});
-  title.textContent = `Signal timing diagram of ${state.name}, seconds ${from} to ${to}`;
+  const { log } = state, word = log.unit === 1 ? "seconds" : "times";
+  title.textContent = `Signal timing diagram of ${state.name}, ${word} ${timeText(log, from)} to ${timeText(log, to)}`;
   surface.svg.prepend(title);
   return surface.svg;
 }
@@ -39,9 +55,9 @@ function canvasOf() {
   return canvas;
 }
 
-function save(content, type, ending) {
-  const [from, to] = ending === "csv" ? sumSeconds() : visibleSeconds(), name = state.name.replace(/\.[a-z]+$/, "");
-  const link = make("a", { download: `${name}_${from}_${to}.${ending}` });
+function save(content, type, ending, part) {
+  const [from, to] = (ending === "csv" ? sumSeconds() : visibleSeconds()).map((t) => timeText(state.log, t));
+  const link = make("a", { download: `${state.name.replace(/\.[a-z]+$/, "")}_${part || `${from}_${to}`}.${ending}` });
   link.href = URL.createObjectURL(new Blob([content], { type }));
   link.click();
   setTimeout(() => URL.revokeObjectURL(link.href), 10000);
@@ -52,5 +68,6 @@ $("png").onclick = () => canvasOf().toBlob((blob) => save(blob, "image/png", "pn
 $("print").onclick = () => print();
 addEventListener("beforeprint", () => state.log && $("printed").replaceChildren(pictureOf()));
 addEventListener("afterprint", () => $("printed").replaceChildren());
-sumSave.onclick = () => save(sumsCsv(tablesOf(sumSeconds()), ...sumSeconds()), "text/csv", "csv");
+sumSave.onclick = () => save(sumsCsv(state.log, tablesOf(sumSeconds()), ...sumSeconds()), "text/csv", "csv");
+breachSave.onclick = () => save(breachesCsv(state.log, state.log.breaches), "text/csv", "csv", "breaches");
 sumChoice.onchange = showSums;

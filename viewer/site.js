@@ -35,9 +35,12 @@ const isTimes = (text) => /^group,min_green,red_amber,amber(,min_red)?$/.test(cs
 const isIntergreens = (text) => csvHeader(text) === "from,to,seconds";
 const isPlan = (text) => /^[ \t\ufeff]*\$SIGNAL_GROUPS/im.test(text);
 
-// The number of a field, where it is one from `least` to `most`; else -1.
-function fieldNumber(field, least, most) {
-  return /^(0|[1-9][0-9]{0,2})$/.test(field) && least <= +field && +field <= most ? +field : -1;
+// The number of a field in moments, where it is one from `least` to `most` seconds; else -1. In tables of a record a decimal may
+// stand.
+function fieldNumber(field, least, most, unit) {
+  const [, whole, tenth = "0"] = /^(0|[1-9][0-9]{0,2})(?:\.([0-9]))?$/.exec(field) || [];
+  const moments = whole === undefined || (unit === 1 && field.includes(".")) ? -1 : unit * whole + (unit * tenth) / 10;
+  return unit * least <= moments && moments <= unit * most ? moments : -1;
 }
 
 // Judges each record behind the header; `judge` is told its fields, what finds a group and its number, and tells the reason to
@@ -51,12 +54,12 @@ function eachRecord(names, text, judge) {
   });
 }
 
-/** The minimum green, red-amber, amber and minimum red of each group. */
-function readTimes(names, text) {
+/** The minimum green, red-amber, amber and minimum red of each group, in moments of which a second has so many. */
+function readTimes(names, text, unit = 1) {
   const times = names.map(() => null);
   eachRecord(names, text, ([name, ...numbers], groupOf) => {
     const rangeOf = (at) => (at === 0 || at === 3 ? [1, 255] : [0, 9]); // of a minimum, and of red-amber and amber
-    const [minGreen, redAmber, amber, minRed = 1] = numbers.map((field, at) => fieldNumber(field, ...rangeOf(at)));
+    const [minGreen, redAmber, amber, minRed = unit] = numbers.map((field, at) => fieldNumber(field, ...rangeOf(at), unit));
     const group = groupOf(name);
     if ([minGreen, redAmber, amber, minRed].includes(-1)) return "Number";
     if (group === undefined) return "UnknownName";
@@ -70,11 +73,11 @@ function readTimes(names, text) {
 
 const pairOf = (one, other) => 64 * one + other;
 
-/** The seconds from the end of green of one group to the green of another, by the pair. */
-function readIntergreens(names, text) {
+/** The moments from the end of green of one group to the green of another, by the pair. */
+function readIntergreens(names, text, unit = 1) {
   const seconds = new Map(), records = new Map();
   eachRecord(names, text, ([from, to, field], groupOf, record) => {
-    const needed = fieldNumber(field, 0, 99), [one, other] = [groupOf(from), groupOf(to)], pair = pairOf(one, other);
+    const needed = fieldNumber(field, 0, 99, unit), [one, other] = [groupOf(from), groupOf(to)], pair = pairOf(one, other);
     if (needed < 0) return "Number";
     if (one === undefined || other === undefined) return "UnknownName";
     if (seconds.has(pair)) return "Twice";

@@ -5,9 +5,15 @@
 /** Numbers that are added up one by one. */
 class Lengths {
   constructor() {
-    Object.assign(this, { count: 0, sum: 0, shortest: Infinity, longest: 0 });
+    Object.assign(this, { count: 0, sum: 0, shortest: Infinity, longest: 0, all: [] });
+  }
+  /** The least of them that so many in a hundred don't exceed. */
+  rank(percent) {
+    this.inOrder = this.inOrder || Int32Array.from(this.all).sort();
+    return this.count ? this.inOrder[Math.ceil((percent * this.count) / 100) - 1] : null;
   }
   add(length) {
+    this.all.push(length);
     this.count++;
     this.sum += length;
     this.shortest = Math.min(this.shortest, length);
@@ -30,27 +36,38 @@ function eachStretch(log, first, from, to, take) {
   }
 }
 
-// The first second of the green before the stretch at this place, or 0.
-function greenBefore({ first, aspect }, at) {
-  for (let k = at - 1; k >= 0; k--) if (aspect[k] === GREEN) return first[k];
+// Whether a stretch may have begun long before its first second: at the begin of a log whose past isn't known, and behind a time
+// of which nothing is known.
+const isCutAt = (log, { aspect }, at) => (at === 0 ? !isAtRest(log) : aspect[at - 1] === UNKNOWN);
+
+// The first second of the green before the stretch at this place, where it begins there; else 0.
+function greenBefore(log, spans, at) {
+  const { first, aspect } = spans;
+  for (let k = at - 1; k >= 0 && aspect[k] !== UNKNOWN; k--) {
+    if (aspect[k] === GREEN) return isCutAt(log, spans, k) ? 0 : first[k];
+  }
   return 0;
 }
 
 // Of a group: seconds of green, greens that begin, greens and reds that end, its longest red, from one green to the next.
 function groupSums(log, group, from, to) {
-  const spans = log.spans[group], sums = { name: log.names[group], greenSeconds: 0, begun: 0, longestRed: 0, longestRedAt: 0 };
-  const seconds = to + 1 - from, isWhole = to === log.seconds; // a red that runs at the end of the log counts for the longest
+  const spans = log.spans[group];
+  const sums = { name: log.names[group], greenSeconds: 0, begun: 0, longestRed: 0, longestRedAt: 0, cut: 0, cutRed: 0 };
+  const seconds = to + 1 - from, isToEnd = to === log.seconds; // a red that runs at the end of the log counts for the longest
   const greens = new Lengths(), reds = new Lengths(), cycles = new Lengths();
   eachStretch(log, spans.first, from, to, (at, first, next, isEnded) => {
-    const isGreen = spans.aspect[at] === GREEN, isRed = spans.aspect[at] === RED;
+    const isGreen = spans.aspect[at] === GREEN, isRed = spans.aspect[at] === RED, isBegun = !isCutAt(log, spans, at);
+    const isWhole = isBegun && spans.aspect[at + 1] !== UNKNOWN;
     if (isGreen) sums.greenSeconds += secondsWithin(first, next, from, to);
-    if (isGreen && isEnded) greens.add(next - first);
-    if (isRed && isEnded) reds.add(next - first);
-    const isLonger = isRed && (isEnded || (isWhole && next > log.seconds)) && next - first > sums.longestRed;
+    if (isGreen && isEnded && isWhole) greens.add(next - first);
+    if (isRed && isEnded && isWhole) reds.add(next - first);
+    if (isEnded && !isWhole) sums.cut += isGreen;
+    if (isEnded && !isWhole) sums.cutRed += isRed;
+    const isLonger = isRed && (isEnded || (isToEnd && next > log.seconds)) && next - first > sums.longestRed;
     if (isLonger) Object.assign(sums, { longestRed: next - first, longestRedAt: first });
-    if (!isGreen || first < from) return;
+    if (!isGreen || first < from || !isBegun) return;
     sums.begun++;
-    const before = greenBefore(spans, at);
+    const before = greenBefore(log, spans, at);
     if (before > 0) cycles.add(first - before);
   });
   return { ...sums, greens, reds, cycles, seconds };
@@ -58,13 +75,14 @@ function groupSums(log, group, from, to) {
 
 // Of each stage and interstage: stays that begin and seconds; the longest stay that ends.
 function placeSums(log, from, to) {
-  const sums = new Map();
+  const sums = new Map(), isCut = !isAtRest(log);
   eachStretch(log, log.stays.first, from, to, (at, first, next, isEnded) => {
     const place = log.stays.place[at], seconds = secondsWithin(first, next, from, to);
     if (seconds === 0 && !isEnded) return;
     if (!sums.has(place)) sums.set(place, { place, times: 0, seconds: 0, stays: new Lengths() });
     const sum = sums.get(place);
     sum.seconds += seconds;
+    if (at === 0 && isCut) return;
     if (first >= from) sum.times++;
     if (isEnded) sum.stays.add(next - first);
   });
@@ -115,7 +133,11 @@ function headwaySums(detector, from, to) {
     const last = lastDetection(detector, t), isLonger = sums.headway === null || t - last > sums.headway;
     if (last > 0 && isLonger) Object.assign(sums, { headway: t - last, headwayAfter: last });
   };
-  for (let [k, end] = eventsIn(fronts, from + 1, to); k < end; k++) look(fronts[k] - 1);
+  look(from);
+  for (let [k, end] = eventsIn(fronts, from + 1, to); k < end; k++) {
+    look(fronts[k] - 1);
+    look(fronts[k]); // 0, where nothing longer came before
+  }
   look(to);
   return sums;
 }
@@ -133,6 +155,17 @@ function detectorSums(log, from, to) {
   }));
 }
 
+// Of each group: askings that began, those that were lost, the longest lost one and its first second.
+function lostSums(log, from, to) {
+  const lost = lostStarts(log);
+  return log.names.map((name, group) => {
+    const own = lost.filter((start) => start.group === group && from <= start.lost && start.lost <= to);
+    const longest = own.reduce((most, { asked, lost: t }) => Math.max(most, t - asked), 0);
+    const at = own.find(({ asked, lost: t }) => t - asked === longest), [begin, end] = eventsIn(log.starts.asked[group], from, to);
+    return { name, asked: end - begin, lost: own.length, longest, longestAt: at ? at.asked : 0 };
+  }).filter(({ asked, lost: count }) => asked > 0 || count > 0);
+}
+
 /** What the seconds from `from` to `to` add up to. */
 function sumsOf(log, from, to) {
   const { refused, faults } = log, refusals = eventsIn(refused.second, from, to);
@@ -145,52 +178,70 @@ function sumsOf(log, from, to) {
     groupRules: refusedBy((k) => (isTurn(k) ? `${log.names[refused.one[k]]}:${RULES[refused.rule[k]]}` : null)),
     refused: refusedBy((k) => refusedText(log, k)),
     faults: tally(faults.second, eventsIn(faults.second, from, to), (k) => `${FAULTS[faults.kind[k]]}@${faults.line[k]}`),
+    lost: lostSums(log, from, to),
     detectors: detectorSums(log, from, to),
   };
 }
 
-const spreadCells = ({ count, sum, shortest, longest }) => (count ? [shortest, tenthsText(sum, count), longest] : ["", "", ""]);
-
+// The columns of the tables behind their name, and what stands in them: of a group, a place, a refused command or fault, a
+// detector. Lengths are told in seconds, and moments by their numbers.
+const SPREAD = ["shortest s", "mean s", "longest s"], RANKS = [15, 50, 85, 95];
+const GREEN_HEAD = ["begun", "ended", ...SPREAD, "seconds", "share %"];
+const CYCLE_HEAD = ["cycles", ...SPREAD, "mean red s", "longest red s", "from second"];
+const RANK_HEAD = ["green", "red", "cycle"].flatMap((what) => RANKS.map((rank) => `${what} ${rank}`));
+const CUT_HEAD = ["greens", "reds"], LOST_HEAD = ["asked", "lost", "longest lost s", "from second"];
+const PLACE_HEAD = ["times", "seconds", "longest s"];
+const TIMES_HEAD = ["times", "longest run s", "from second"];
+const DETECTOR_HEAD = ["fronts", "rears", "covered s", "covered %", "longest s", "from second", "headway s", "after second"];
 const percentText = (seconds, all) => tenthsText(100 * seconds, all);
 
-// The columns of the tables behind their name, and what stands in them: of a group, a place, a refused command or fault, a
-// detector.
-const SPREAD = ["shortest s", "mean s", "longest s"];
-const GREEN_HEAD = ["begun", "ended", ...SPREAD, "seconds", "share %"];
-const greenCells = ({ begun, greens, greenSeconds, seconds }) =>
-  [begun, greens.count, ...spreadCells(greens), greenSeconds, percentText(greenSeconds, seconds)];
-const CYCLE_HEAD = ["cycles", ...SPREAD, "mean red s", "longest red s", "from second"];
-const cycleCells = ({ cycles, reds, longestRed, longestRedAt }) =>
-  [cycles.count, ...spreadCells(cycles), tenthsText(reds.sum, reds.count), longestRed, longestRedAt || ""];
-const PLACE_HEAD = ["times", "seconds", "longest s"];
-const placeCells = ({ times, seconds, stays }) => [times, seconds, stays.count ? stays.longest : ""];
-const TIMES_HEAD = ["times", "longest run s", "from second"];
-const timesCells = ({ times, longest, longestAt }) => [times, longest, longestAt];
-const DETECTOR_HEAD = ["fronts", "rears", "covered s", "covered %", "longest s", "from second", "headway s", "after second"];
-const detectorCells = ({ fronts, rears, covered, seconds, longest, longestAt, headway, headwayAfter }) =>
-  [fronts, rears, covered, percentText(covered, seconds), longest, longestAt || "", headway ?? "", headwayAfter || ""];
+function cellsOf(log) {
+  const length = (moments) => lengthOf(log, moments), at = (t) => (t ? timeText(log, t) : "");
+  const mean = ({ sum, count }) => tenthsText(sum, count * log.unit);
+  const spread = (lengths) =>
+    (lengths.count ? [length(lengths.shortest), mean(lengths), length(lengths.longest)] : ["", "", ""]);
+  const ranks = (lengths) => RANKS.map((rank) => (lengths.count ? length(lengths.rank(rank)) : ""));
+  return {
+    green: ({ begun, greens, greenSeconds, seconds }) =>
+      [begun, greens.count, ...spread(greens), length(greenSeconds), percentText(greenSeconds, seconds)],
+    cycle: ({ cycles, reds, longestRed, longestRedAt }) =>
+      [cycles.count, ...spread(cycles), mean(reds), length(longestRed), at(longestRedAt)],
+    percentile: ({ greens, reds, cycles }) => [...ranks(greens), ...ranks(reds), ...ranks(cycles)],
+    cut: ({ cut, cutRed }) => [cut, cutRed],
+    stage: ({ times, seconds, stays }) => [times, length(seconds), stays.count ? length(stays.longest) : ""],
+    times: ({ times, longest, longestAt }) => [times, length(longest), at(longestAt)],
+    lost: ({ asked, lost, longest, longestAt }) => [asked, lost, lost ? length(longest) : "", at(longestAt)],
+    detector: ({ fronts, rears, covered, seconds, longest, longestAt, headway, headwayAfter }) => [
+      fronts, rears, covered, percentText(covered, seconds), longest, at(longestAt), headway ?? "", at(headwayAfter),
+    ],
+  };
+}
 
-/** The tables of the sums: a short name, a title, what stands in the columns behind the name, and the rows. `placeWords` names
-    places. */
-function sumTables(sums, placeWords) {
+/** The tables of the sums of a log: a short name, a title, what stands in the columns behind the name, and the rows. `placeWords`
+    names places. */
+function sumTables(log, sums, placeWords) {
   const nameOf = ({ name, place, number }) => name ?? (number === undefined ? placeWords(place) : `D${number}`);
+  const cells = cellsOf(log), places = log.stays.place.some((place) => place > 0) ? sums.places : [];
   return [
-    ["green", "Greens", GREEN_HEAD, sums.groups, greenCells],
-    ["cycle", "From green to green; reds", CYCLE_HEAD, sums.groups, cycleCells],
-    ["stage", "Stages and interstages", PLACE_HEAD, sums.places, placeCells],
-    ["rule", "Refused, by rule", TIMES_HEAD, sums.rules, timesCells],
-    ["group_rule", "Refused, by group and rule", TIMES_HEAD, sums.groupRules, timesCells],
-    ["refused", "Refused", TIMES_HEAD, sums.refused, timesCells],
-    ["fault", "Faults, by line", TIMES_HEAD, sums.faults, timesCells],
-    ["detector", "Detectors", DETECTOR_HEAD, sums.detectors, detectorCells],
-  ].filter(([, , , rows]) => rows.length > 0).map(([part, title, head, rows, cellsOf]) => ({
-    part, title, head, rows: rows.map((row) => [nameOf(row), ...cellsOf(row)]),
+    ["green", "Greens", GREEN_HEAD, sums.groups, cells.green],
+    ["cycle", "From green to green; reds", CYCLE_HEAD, sums.groups, cells.cycle],
+    ["percentile", "So many in a hundred were no longer, s", RANK_HEAD, sums.groups, cells.percentile],
+    ["cut", "Cut, and not counted above", CUT_HEAD, sums.groups.filter(({ cut, cutRed }) => cut || cutRed), cells.cut],
+    ["stage", "Stages and interstages", PLACE_HEAD, places, cells.stage],
+    ["rule", "Refused, by rule", TIMES_HEAD, sums.rules, cells.times],
+    ["group_rule", "Refused, by group and rule", TIMES_HEAD, sums.groupRules, cells.times],
+    ["refused", "Refused", TIMES_HEAD, sums.refused, cells.times],
+    ["lost", "Starts that were asked for and lost", LOST_HEAD, sums.lost, cells.lost],
+    ["fault", "Faults, by line", TIMES_HEAD, sums.faults, cells.times],
+    ["detector", "Detectors", DETECTOR_HEAD, sums.detectors, cells.detector],
+  ].filter(([, , , rows]) => rows.length > 0).map(([part, title, head, rows, cellsOfRow]) => ({
+    part, title, head, rows: rows.map((row) => [nameOf(row), ...cellsOfRow(row)]),
   }));
 }
 
 /** The tables as comma-separated values. No name has a comma, and none begins a formula. */
-function sumsCsv(tables, from, to) {
-  const lines = [["seconds", from, to]];
+function sumsCsv(log, tables, from, to) {
+  const lines = [["seconds", timeText(log, from), timeText(log, to)]];
   for (const { part, head, rows } of tables) lines.push([], ["part", "name", ...head], ...rows.map((row) => [part, ...row]));
   return lines.map((line) => `${line.join(",")}\r\n`).join("");
 }

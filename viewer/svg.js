@@ -2,6 +2,7 @@
 "use strict";
 
 const SVG = "http://www.w3.org/2000/svg";
+const STRIPE_IDS = { "?": "unknown" };
 const hundredth = (value) => +value.toFixed(2);
 
 class SvgSurface {
@@ -11,7 +12,7 @@ class SvgSurface {
     const defs = this.put("defs", {});
     for (const [kind, [ground, ink, thick]] of Object.entries(STRIPES)) {
       const size = { width: 5, height: 5 }, units = { patternUnits: "userSpaceOnUse", patternTransform: "rotate(45)" };
-      const pattern = defs.appendChild(this.element("pattern", { id: `stripes-${kind}`, ...size, ...units }));
+      const pattern = defs.appendChild(this.element("pattern", { id: `stripes-${STRIPE_IDS[kind] || kind}`, ...size, ...units }));
       pattern.append(this.element("rect", { ...size, fill: look[ground] }));
       pattern.append(this.element("rect", { ...size, width: thick, fill: look[ink] }));
     }
@@ -30,17 +31,18 @@ class SvgSurface {
   }
   box(kind, x, y, width, height) {
     const { look } = this, [colour, leastOutlined, thick] = BOXES[kind];
-    const fill = STRIPES[kind] && width >= LEAST_STRIPED ? `url(#stripes-${kind})` : look[colour];
+    const fill = STRIPES[kind] && width >= LEAST_STRIPED ? `url(#stripes-${STRIPE_IDS[kind] || kind})` : look[colour];
     this.put("rect", { x, y, width, height, fill });
     if (kind === "u") this.put("rect", { x, y, width, height: height / 2, fill: look.red });
     const stroke = { fill: "none", stroke: look[outlineOf(kind)], "stroke-width": thick };
     if (width >= leastOutlined) this.put("rect", { x, y, width, height, ...stroke });
   }
   text(kind, x, y, words) {
-    const [size, anchor, isBold] = WORDS[kind], fill = kind === "k" ? this.look.word : this.look.ink;
+    const [size, anchor, isBold] = WORDS[kind], { look } = this;
+    const fill = kind === "k" ? look.word : kind === "b" ? look.alarm : look.ink;
     const bold = isBold ? { "font-weight": "bold" } : {};
-    const round = { "paint-order": "stroke", stroke: this.look.ground, "stroke-width": 4, "stroke-linejoin": "round" };
-    const halo = kind === "m" ? round : {};
+    const round = { "paint-order": "stroke", stroke: look.ground, "stroke-width": 4, "stroke-linejoin": "round" };
+    const halo = HALOED.includes(kind) ? round : {};
     this.put("text", { x, y, "font-size": size, "text-anchor": anchor, fill, ...bold, ...halo }).textContent = words;
   }
   path(kind, points) {

@@ -7,7 +7,8 @@ const state = {
   layout: null, view: null, chosen: 1, hovered: 0, clock: 0, // what is shown of it
 };
 const dark = matchMedia("(prefers-color-scheme: dark)");
-const MOST_SCALE = 40, FIRST_SECONDS = 300, NEAR_SECONDS = 120, NEAR_SCALE = 3, LEAST_WIDTH = 400;
+const MOST_SCALE = 40, FIRST_SECONDS = 300, NEAR_SECONDS = 60, NEAR_SCALE = 14, LEAST_WIDTH = 400; // of seconds
+const PAGE_TITLE = document.title;
 let isDue = false, isStale = false, toldSecond = 0, sumsTimer = 0;
 
 // Draws on a canvas of this size, for the pixels of the screen.
@@ -24,7 +25,7 @@ function drawOn(canvas, width, height, draw) {
 
 const shownSeconds = () => state.layout.plot / state.view.scale;
 
-const scaleWithin = (scale) => Math.min(MOST_SCALE, Math.max(state.layout.fit, scale));
+const scaleWithin = (scale) => Math.min(MOST_SCALE / state.log.unit, Math.max(state.layout.fit, scale));
 
 function clampView() {
   const { view, log } = state;
@@ -88,19 +89,37 @@ function changed(isView) {
   requestAnimationFrame(drawFrame);
 }
 
+// How long a log is, in words.
+function sizeWords(log) {
+  const groups = countWords(log.names.length, "group");
+  return log.unit === 1 ? `${countWords(log.seconds, "second")}, ${groups}` : `${lengthOf(log, log.seconds)} s in tenths, ${groups}`;
+}
+
+/** What the log was found to be, in words: how many breaches there are, or why it isn't judged. */
+function verdictWords({ log, site }) {
+  if (log.breaches) return log.breaches.length ? countWords(log.breaches.length, "breach", "breaches") : "no breach";
+  const lacks = ["times", "intergreens"].filter((kind) => !site[kind]).map((kind) => `the table of ${kind}`);
+  return `not judged: ${lacks.join(" and ")} ${lacks.length === 1 ? "is" : "are"} missing`;
+}
+
 /** Shows what was dropped, from nothing. */
 function showAll() {
   const { log, site } = state;
   $("page").hidden = !log;
   $("empty").hidden = !!log;
-  $("about").textContent = "";
+  $("about").textContent = $("verdict").textContent = "";
+  document.title = log ? `${state.name} – log of a signal controller` : PAGE_TITLE;
   if (!log) return;
   const width = Math.max(LEAST_WIDTH, Math.floor($("drawn").getBoundingClientRect().width));
   const known = Object.keys(site).filter((key) => site[key]), sides = known.length ? `; with ${known.join(", ")}` : "";
-  const counts = `${countWords(log.seconds, "second")}, ${countWords(log.names.length, "group")}`;
-  $("about").textContent = `${state.name}: ${counts}${sides}${state.remark}`;
+  $("about").textContent = `${state.name}: ${sizeWords(log)}${sides}${state.remark}`;
+  $("verdict").textContent = verdictWords(state);
+  $("verdict").className = log.breaches && log.breaches.length ? "broken" : "";
+  $("counted").textContent = momentWord(log);
+  $("clocked").textContent = log.unit === 1 ? "second 1 begins at" : "0.0 is at";
+  Object.assign($("second"), { min: timeText(log, 1), max: timeText(log, log.seconds), step: 1 / log.unit });
   state.layout = layoutOf(log, width);
-  state.view = state.view || { from: 1, scale: Math.max(state.layout.fit, state.layout.plot / FIRST_SECONDS) };
+  state.view = state.view || { from: 1, scale: Math.max(state.layout.fit, state.layout.plot / (FIRST_SECONDS * log.unit)) };
   for (const id of ["overview", "chart", "window", "cursor"]) $(id).surface = null;
   toldSecond = 0;
   drawOn($("overview"), width, OVERVIEW_HEIGHT, (surface) => drawOverview(surface, log, state.layout));
@@ -127,8 +146,8 @@ function choose(t, isNear = false) {
   state.chosen = Math.max(1, Math.min(log.seconds, Math.round(t)));
   state.hovered = 0;
   $("none").textContent = "";
-  $("second").value = state.chosen;
-  if (isNear && view.scale < NEAR_SCALE) view.scale = Math.max(layout.plot / NEAR_SECONDS, NEAR_SCALE);
+  $("second").value = timeText(log, state.chosen);
+  if (isNear && view.scale * log.unit < NEAR_SCALE) view.scale = Math.max(layout.plot / NEAR_SECONDS, NEAR_SCALE) / log.unit;
   const isSeen = view.from <= state.chosen && state.chosen + 1 <= endOf(layout, view);
   if (isNear || !isSeen) view.from = state.chosen + 0.5 - shownSeconds() / 2;
   changed(isNear || !isSeen);
@@ -139,5 +158,5 @@ function choose(t, isNear = false) {
 function jump(what, isForward) {
   const t = jumpFrom(secondsOf(state.log, what), state.chosen, isForward);
   if (t) choose(t, true);
-  else $("said").textContent = $("none").textContent = `none ${isForward ? "after" : "before"} second ${state.chosen}`;
+  else $("said").textContent = $("none").textContent = `none ${isForward ? "after" : "before"} ${momentWord(state.log)} ${timeText(state.log, state.chosen)}`;
 }

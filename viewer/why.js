@@ -3,31 +3,39 @@
 
 const secondsAre = (seconds) => `${seconds} s ${seconds === 1 ? "is" : "are"}`;
 const OTHER_TABLE = " By the table it has: is it the table of this log?";
-const sinceWords = (second) => (second === 0 ? "since second 0, in which all were red" : `since second ${second}`);
+
+// Since when a group shows what it shows, in words.
+function sinceWords(log, { since, isCut }) {
+  if (since === 0) return "since second 0, in which all were red";
+  return `since second ${timeText(log, since)}${isCut ? " or before" : ""}`;
+}
 
 function whySequence(log, t, group) {
-  const { aspect, since } = shownAt(log, group, t - 1), what = aspect === RED || aspect === RED_AMBER ? "end" : "start";
-  const begun = since < t - 1 ? `, ${sinceWords(since)}` : "";
-  return `${log.names[group]} may not ${what}: it was ${ASPECTS[aspect]} in second ${t - 1}${begun}.`;
+  const shown = shownAt(log, group, t - 1), { aspect, since } = shown;
+  const what = aspect === RED || aspect === RED_AMBER ? "end" : "start", begun = since < t - 1 ? `, ${sinceWords(log, shown)}` : "";
+  if (t === 1 && log.first > 1) return `${log.names[group]} may not turn: what it showed before isn't in the log.`;
+  return `${log.names[group]} may not ${what}: it was ${ASPECTS[aspect]} in second ${timeText(log, t - 1)}${begun}.`;
 }
 
 // Of a minimum green or a minimum red; `least` is its number where the table is known.
 function whyMinimum(log, t, group, what, aspect, least) {
-  const { since } = shownAt(log, group, t), passed = t - since, of = least === undefined ? "" : ` of ${least}`;
-  const told = passed < least ? ` This rule lets it ${what} from second ${since + least} on.` : OTHER_TABLE;
-  const rest = least === undefined ? "" : told;
-  return `${log.names[group]} may not ${what}: it has been ${aspect} for ${passed} s${of}, ${sinceWords(since)}.${rest}`;
+  const shown = shownAt(log, group, t), { since } = shown, passed = t - since, of = least === undefined ? "" : ` of ${least}`;
+  const told = passed < least ? ` This rule lets it ${what} from second ${timeText(log, since + least)} on.` : OTHER_TABLE;
+  const rest = least === undefined || shown.isCut ? "" : told;
+  return `${log.names[group]} may not ${what}: it has been ${aspect} for ${passed} s${of}, ${sinceWords(log, shown)}.${rest}`;
 }
 
 function whyConflict(log, t, group, other) {
-  const { aspect, since } = shownAt(log, other, t), shown = `is ${ASPECTS[aspect]}, ${sinceWords(since)}`;
+  const { aspect } = shownAt(log, other, t), since = onSince(log, other, t), cut = since === 1 && log.first > 1 ? " or before" : "";
+  const shown = `is ${ASPECTS[aspect]}, and has been red-amber or green since second ${timeText(log, since)}${cut}, for ${t - since} s`;
   return `${log.names[group]} may not start: ${log.names[other]}, in conflict with it, ${shown}.`;
 }
 
 // The first second in which this group may start after the last end of the other one; 0 where they aren't in conflict.
 function startAfter(log, { times, intergreens }, t, group, other) {
   const needed = intergreens.get(pairOf(other, group));
-  return needed === undefined ? 0 : lastEnd(log, other, t) + needed - times[group].redAmber;
+  const end = lastEnd(log, other, t);
+  return needed === undefined || (end === 0 && log.first > 1) ? 0 : end + needed - times[group].redAmber;
 }
 
 function intergreenNumbers(log, site, t, group, other) {
@@ -37,15 +45,18 @@ function intergreenNumbers(log, site, t, group, other) {
   const green = redAmber === 0 ? "" : `, which follows ${redAmber} s after its start`;
   const all = log.names.map((_, third) => startAfter(log, site, t, group, third)), latest = Math.max(...all);
   const last = log.names[all.indexOf(latest)];
-  const later = latest > start ? ` The intergreen from ${last} lets it start from second ${latest} on.` : "";
-  const left = `${secondsAre(start - t)} left: earliest start second ${start}.`;
+  const later = latest > start ? ` The intergreen from ${last} lets it start from second ${timeText(log, latest)} on.` : "";
+  const left = `${secondsAre(start - t)} left: earliest start second ${timeText(log, start)}.`;
   return ` ${secondsAre(needed)} needed up to the green of ${name}${green}; ${left}${later}`;
 }
 
 function whyIntergreen(log, site, t, group, other) {
   const end = lastEnd(log, other, t), name = log.names[other];
+  if (end === 0 && log.first > 1) {
+    return `${log.names[group]} may not start: the intergreen from ${name} hasn't passed. What would tell its end lies before the log.`;
+  }
   const ended = end === 0 ? `${name} counts as having ended in second 0, ${t} s ago.`
-    : end === t ? `${name} ended in this second.` : `${name} ended ${t - end} s ago, in second ${end}.`;
+    : end === t ? `${name} ended in this second.` : `${name} ended ${t - end} s ago, in second ${timeText(log, end)}.`;
   const numbers = site.times && site.intergreens ? intergreenNumbers(log, site, t, group, other) : "";
   return `${log.names[group]} may not start: the intergreen from ${name} hasn't passed. ${ended}${numbers}`;
 }

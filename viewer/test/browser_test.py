@@ -12,11 +12,13 @@ from pathlib import Path
 
 sys.dont_write_bytecode = True
 import chromium
+import firefox
 
 TEST = Path(__file__).resolve().parent
 VIEWER = TEST.parent
 EXAMPLES = VIEWER.parent / "crates" / "test_told" / "data"
 FOUR = EXAMPLES / "four_arms"
+RECORDS = VIEWER.parent / "tools" / "records"
 FAULTS = TEST / "data" / "faults.log"
 LEFT, RIGHT, HOME, END, PAGE_DOWN = "\ue012", "\ue014", "\ue011", "\ue010", "\ue00f"
 SHIFT, TAB, ENTER = "\ue008", "\ue004", "\ue007"
@@ -29,11 +31,10 @@ class Quiet(http.server.SimpleHTTPRequestHandler):
         pass
 
 
-class Page(chromium.Chromium):
-    """The page, and what a user does with it."""
+class Used:
+    """What a user does with the page in any browser."""
 
-    def __init__(self, folder, **more):
-        super().__init__(folder, **more)
+    def begin(self, folder):
         self.folder = folder
         self.open((VIEWER / "index.html").as_uri())
 
@@ -48,6 +49,32 @@ class Page(chromium.Chromium):
                 raise AssertionError(f"waited in vain for: {script}")
             time.sleep(0.05)
         return told
+
+    def drop(self, *files):
+        """Gives files to the page, and waits until it says what was read."""
+        self.call("document.getElementById('said').textContent = ''")
+        self.type_into("files", "\n".join(map(str, files)))
+        self.wait("return document.getElementById('said').textContent")
+
+    def keys(self, *keys):
+        self.press(*keys)
+        time.sleep(0.3)
+
+
+class FirefoxPage(Used, firefox.Firefox):
+    """The page in Firefox, of which the test sees what stands on it."""
+
+    def __init__(self, folder):
+        super().__init__(folder)
+        self.begin(folder)
+
+
+class Page(Used, chromium.Chromium):
+    """The page in Chromium, of which the test sees the state too."""
+
+    def __init__(self, folder, **more):
+        super().__init__(folder, **more)
+        self.begin(folder)
 
     def rest(self):
         """Waits until all files are taken, frames drawn and sums made."""
@@ -65,10 +92,6 @@ class Page(chromium.Chromium):
         file.write_bytes(content)
         self.take(file)
         return file
-
-    def keys(self, *keys):
-        self.press(*keys)
-        time.sleep(0.15)
 
     def with_shift(self, key):
         steps = [("keyDown", SHIFT), ("keyDown", key), ("keyUp", key), ("keyUp", SHIFT)]
@@ -94,11 +117,102 @@ class Page(chromium.Chromium):
         time.sleep(0.05)
 
 
-@unittest.skipIf(chromium.MISSING, chromium.MISSING)
-class Browser(unittest.TestCase):
+class Judged:
+    """Records that are judged, and what all readers of the page need, in both browsers."""
+
+    TABLES = [RECORDS / "german" / name for name in ("times.csv", "intergreens.csv")]
+
     def setUp(self):
         self.folder = Path(tempfile.mkdtemp(prefix="viewer_"))
         self.addCleanup(shutil.rmtree, self.folder, ignore_errors=True)
+
+    def test_a_record_is_judged(self):
+        page = self.page()
+        page.drop(RECORDS / "german" / "record.txt")
+        self.assertEqual(page.text("about"), "record.txt: 1797.7 s in tenths, 6 groups")
+        self.assertEqual(page.text("verdict"), "not judged: the table of times and the table of intergreens are missing")
+        page.drop(self.TABLES[0])
+        self.assertEqual(page.text("verdict"), "not judged: the table of intergreens is missing")
+        page.drop(*self.TABLES)
+        self.assertEqual(page.text("verdict"), "8 breaches")
+        for time_told, words in [("243.5", "Sequence, time 243.5: K2: amber too short, 2.0 s of 3.0 s."),
+                                 ("255.2", "MinGreen, time 255.2: K3: green shorter than its minimum, 4.3 s of 6.0 s."),
+                                 ("388.3", "Intergreen, time 388.3: F2: green too soon after K3, 3.8 s of 5.0 s.")]:
+            page.keys("b")
+            self.assertIn(f"Time {time_told} ", page.text("panel"))
+            self.assertIn(words, page.text("panel"))
+            self.assertIn(words, page.text("said"))
+        rows = page.call("return [...document.querySelectorAll('#sums table')].map(({ innerText }) => innerText)[0].split('\\n').length")
+        self.assertEqual(rows, 1 + 1 + 8)  # the caption, the head, the breaches
+        self.assertEqual(page.errors(), [])
+
+    def test_a_log_with_a_breach(self):
+        page = self.page()
+        lines = ["VAPLOG 1 K1 K2"] + [f"{k}|-|{letters}|-|-|-" for k, letters in enumerate("RR UR GR GR AR AR AU RG".split(), 11)]
+        for name, text in (("part.log", "\n".join(lines) + "\n"), ("t.csv", "group,min_green,red_amber,amber\nK1,10,1,3\nK2,10,1,3\n"),
+                           ("i.csv", "from,to,seconds\nK1,K2,5\nK2,K1,5\n")):
+            (self.folder / name).write_text(text, encoding="ascii")
+        page.drop(*(self.folder / name for name in ("part.log", "t.csv", "i.csv")))
+        self.assertEqual(page.text("verdict"), "2 breaches")
+        page.keys("b")
+        self.assertIn("Second 15 ", page.text("panel"))
+        self.assertIn("K1: green shorter than its minimum, 2 s of 10 s.", page.text("panel"))
+        page.keys("b")
+        self.assertIn("Second 18 ", page.text("panel"))
+        self.assertIn("K2: green too soon after K1, 3 s of 5 s.", page.text("panel"))
+
+    def test_letters_can_be_switched_off(self):
+        page = self.page()
+        page.drop(RECORDS / "german" / "record.txt", *self.TABLES)
+        page.call("document.getElementById('letters').checked = false")
+        page.keys("b", "b")
+        self.assertIn("Time 0.0 ", page.text("panel"))
+        page.call("document.getElementById('target').value = 'breach'; document.getElementById('on').click()")
+        page.wait("return document.getElementById('panel').innerText.includes('Time 243.5 ')")
+
+    def test_what_screen_readers_need(self):
+        page = self.page()
+        self.assertEqual(page.call("return document.title"), "A log of junction")
+        page.drop(RECORDS / "german" / "record.txt", *self.TABLES)
+        self.assertEqual(page.call("return document.title"), "record.txt – log of a signal controller")
+        self.assertEqual(page.text("said"), "record.txt: 1797.7 s in tenths, 6 groups; with times, intergreens; 8 breaches.")
+        page.keys("b")
+        lacking = """return [...document.querySelectorAll('table')].filter((table) => !table.caption
+            || [...table.querySelectorAll('th')].some((th) => !th.scope)
+            || [...table.tBodies[0].rows].some((row) => row.cells[0].tagName !== 'TH')).map(({ innerText }) => innerText)"""
+        self.assertEqual(page.call(lacking), [])
+        self.assertEqual(page.call("return document.querySelectorAll('main').length"), 1)
+        unnamed = """return [...document.querySelectorAll('button, input, select, canvas[tabindex]')].filter((element) => !element.hidden
+            && !(element.innerText || element.getAttribute('aria-label') || (element.labels && element.labels.length))).map(({ id }) => id)"""
+        self.assertEqual(page.call(unnamed), [])
+
+    def test_the_diagram_leaves_the_panel_its_place(self):
+        page = self.page()
+        page.drop(FOUR / "log.txt")
+        boxes = "const [one, other] = ['drawn', 'panel'].map((id) => document.getElementById(id).getBoundingClientRect());"
+        page.wait(f"{boxes} return document.getElementById('chart').getBoundingClientRect().right <= other.left && one.right <= other.left")
+
+
+@unittest.skipIf(firefox.MISSING, firefox.MISSING)
+class Firefox(Judged, unittest.TestCase):
+    def page(self):
+        page = FirefoxPage(self.folder)
+        self.addCleanup(page.close)
+        return page
+
+    def test_a_log_is_read_and_searched(self):
+        page = self.page()
+        page.drop(*(FOUR / name for name in ("log.txt", "times.csv", "intergreens.csv", "junction.pua", "four_arms.vap")))
+        self.assertIn("3,600 seconds, 8 groups; with program, times, intergreens, stages", page.text("about"))
+        self.assertEqual(page.text("verdict"), "no breach")
+        page.keys("r")
+        self.assertIn("K2 may not start: the intergreen from K3 hasn't passed.", page.text("panel"))
+        page.keys("s")
+        self.assertIn("Second 36 ", page.text("panel"))
+
+
+@unittest.skipIf(chromium.MISSING, chromium.MISSING)
+class Browser(Judged, unittest.TestCase):
 
     def page(self, **more):
         page = Page(self.folder, **more)
@@ -245,7 +359,8 @@ class Browser(unittest.TestCase):
         page = self.page()
         page.take_text("one.log", b"VAPLOG 1 K1\n1|-|G|-|-|Number@0\n")
         self.assertIn("one.log: 1 second, 1 group", page.text("about"))
-        self.assertIn("no stage", page.text("panel"))
+        self.assertIn("Number in line 0", page.text("panel"))
+        self.assertNotIn("stage S", page.text("panel"))
         page.keys(RIGHT, LEFT, "+", "-", "0", "r", "f", "g", "s", "n", PAGE_DOWN)
         self.assertEqual(page.errors(), [])
 

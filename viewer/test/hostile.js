@@ -18,7 +18,9 @@ const lines = [
   ...all(["\n", "1|S1|RR|-|-\n", "7|S9x|Q|x|x\n", "x".repeat(262144)], "2: Fields", (text) => HEADER + text),
   ...all(["\n", "WATCH\n", " WATCH 1 1 RR\n", "watch 1 1 RR\n", "WATCHER 1 1 RR\n"], "3: Fields",
     (text) => HEADER + RECORD + text),
-  ...all(["2", "01", "", "-1", "1 "], "2: Second", (text) => `${HEADER}${text}|S1|RR|-|-|-\n`),
+  ...all(["0", "01", "", "-1", "1 ", "1000000000"], "2: Second", (text) => `${HEADER}${text}|S1|RR|-|-|-\n`),
+  ...all(["2", "999999999"], "accepted", (text) => `${HEADER}${text}|S1|RR|-|-|-\n`), // a part of a log
+  [`${HEADER}7|S1|RR|-|-|-\n9|S1|RR|-|-|-\n`, "3: Second"],
   [HEADER + RECORD + RECORD, "3: Second"],
   [`${HEADER}${"x".repeat(262145)}\n`, "2: LineTooLong"],
   [`${HEADER + RECORD}${"x".repeat(300000)}`, "3: LineTooLong"],

@@ -4,17 +4,19 @@ const fs = require("fs"), path = require("path"), vm = require("vm");
 
 const viewer = path.join(__dirname, ".."), repository = path.join(viewer, "..");
 const context = vm.createContext({ TextDecoder });
-for (const name of ["words", "log_reader", "site", "model", "sums", "why"]) {
+for (const name of ["words", "log_reader", "record_reader", "site", "model", "judge", "sums", "why"]) {
   vm.runInContext(fs.readFileSync(path.join(viewer, `${name}.js`), "utf8"), context, { filename: `${name}.js` });
 }
 
 /** What the scripts have under these names. */
 const page = (...names) => vm.runInContext(`({ ${names.join(", ")} })`, context);
-const { LogReader, Refusal, withPast } = page("LogReader", "Refusal", "withPast");
+const { LogReader, RecordReader, Refusal, withPast } = page("LogReader", "RecordReader", "Refusal", "withPast");
 
-/** Reads a log from its bytes, fed in pieces of this size. */
-function readLog(bytes, piece = 4194304) {
-  const reader = new LogReader();
+/** Reads a log, or a record in tenths, from its bytes, fed in pieces of this size. */
+const readLog = (bytes, piece) => readBy(new LogReader(), bytes, piece);
+const readRecord = (bytes, piece) => readBy(new RecordReader(), bytes, piece);
+
+function readBy(reader, bytes, piece = 4194304) {
   for (let at = 0; at < bytes.length; at += piece) reader.feed(new Uint8Array(bytes.subarray(at, at + piece)));
   return withPast(reader.end());
 }
@@ -37,4 +39,4 @@ function test(name, body) {
   console.log(`ok ${++passed} ${name}`);
 }
 
-module.exports = { page, readLog, refusalOf, test, repository };
+module.exports = { page, readLog, readRecord, refusalOf, test, repository };

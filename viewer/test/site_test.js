@@ -49,7 +49,7 @@ test("each rule has its sentence, and with the tables its numbers", () => {
     "K1 may not start: the intergreen from K2 hasn't passed. K2 counts as having ended in second 0, 1 s ago.",
     "The interstage from stage 1 to 2 may not begin: the plan has none from 1 to 2.",
     "K1 may not end: it has been green for 1 s, since second 3.",
-    "K2 may not start: K1, in conflict with it, is green, since second 3.",
+    "K2 may not start: K1, in conflict with it, is green, and has been red-amber or green since second 2, for 2 s.",
     "The interstage from stage 2 to 1 may not begin: stage 2 isn't active, but stage 1.",
     "The interstage from stage 1 to 2 may not begin: that from 1 to 2 runs, in its second 0.",
     "K1 may not start: it was amber in second 5.",

@@ -1,8 +1,8 @@
 #!/usr/bin/env python3
 """All tests of the page: python3 viewer/test/test.py [LOG_REPORT]
 
-Those of the reader, the tables and the sums run in node, those of the page in Chromium; where one of these isn't there its
-tests are skipped, and said to be. Where a built log_report is named, it is asked about each hostile log too."""
+Those of the reader, the tables, the judge and the sums run in node, those of the page in Chromium and in Firefox; where one of
+these isn't there its tests are skipped, and said to be. Where a built log_report is named, it is asked about each hostile log too."""
 import re
 import shutil
 import subprocess
@@ -11,7 +11,7 @@ import unittest
 from pathlib import Path
 
 sys.dont_write_bytecode = True
-from browser_test import Browser  # noqa: F401, its tests run here too
+from browser_test import Browser, Firefox  # noqa: F401, their tests run here too
 
 TEST = Path(__file__).resolve().parent
 VIEWER, REPOSITORY = TEST.parent, TEST.parents[1]
@@ -66,6 +66,9 @@ class Node(unittest.TestCase):
 
     def test_site(self):
         self.run_script("site_test.js")
+
+    def test_judge(self):
+        self.run_script("judge_test.js", *reporter)
 
     def test_sums(self):
         self.run_script("sums_test.js", str(TEST / "data"))
