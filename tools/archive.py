@@ -1,5 +1,5 @@
-"""The static library crates/junction_c without any proof: its exported calls are put before a `main` that calls each of them, since
-what nothing calls isn't lowered, and the object of that program shows the calls alone."""
+"""The static library crates/junction_c without any proof: its exported calls are put before a `main` that calls each of them,
+since what nothing calls isn't lowered, and the object of that program shows the calls alone."""
 import re
 import shutil
 import subprocess

@@ -2,10 +2,10 @@
 """tools/build.py [--fast] [--jobs N] [--into FOLDER] [NAME ..]
 tools/build.py --proved [--into FOLDER] [NAME ..]
 
-Builds the programs (junction, junction_check, junction_trace, log_report) and the library with its wheel for Python (library), or
-those that are named, without a proof, several at once, into build/not-proved: a few minutes on two processors. Each program keeps the
-run-time checks of `rt try` and stops with its place where one fails; the library keeps all of them but the address sanitizer. With
---fast they are optimized, and have none. What is unchanged since it was built stays.
+Builds the programs (junction, junction_check, junction_trace, log_report) and the library with its wheel for Python (library),
+or those that are named, without a proof, several at once, into build/not-proved: a few minutes on two processors. Each program
+keeps the run-time checks of `rt try` and stops with its place where one fails; the library keeps all of them but the address
+sanitizer. With --fast they are optimized, and have none. What is unchanged since it was built stays.
 
 What is built so says that it isn't proved: junction_check, junction_trace and log_report in their --version, the library in its
 version, its name and the name of its wheel, and for all of them the file NOT-PROVED beside them, with their checksums.
@@ -32,6 +32,8 @@ from lowering import TOP, Refused
 PROGRAMS = ["junction", "junction_trace", "log_report", "junction_check"]
 LIBRARY = "library"
 MARK = ", not proved"
+# the program that has no word for its version: what tells of it is the note beside it
+SILENT = "junction"
 LIBRARY_MARK = "+not.proved"
 NOTE = "NOT-PROVED"
 # what `make` leaves in the Python package
@@ -68,7 +70,8 @@ def marked_sources(top, crates, name, room):
 def key_of(top, crates, *more):
     """The sum of all that a build reads."""
     whole = hashlib.sha256(repr(more).encode())
-    scripts = [Path(__file__).with_name(name) for name in ("build.py", "archive.py", "lowering.py", "told_checks.py", "without_checks.py")]
+    names = ["build.py", "archive.py", "lowering.py", "told_checks.py", "without_checks.py", "inline_attributes.py"]
+    scripts = [Path(__file__).with_name(name) for name in names]
     files = [file for crate in crates for file in sorted((top / "crates" / crate / "src").rglob("*.rt"))]
     for file in [top / "crates.txt", *files, *scripts]:
         whole.update(hashlib.sha256(file.read_bytes()).digest())
@@ -86,7 +89,9 @@ class Built:
             self.keys = dict(rows)
 
     def has(self, name, key):
-        return self.keys.get(name) == key and (self.folder / ("bin" if name != LIBRARY else "lib") / (name if name != LIBRARY else "libjunction.so")).exists()
+        """Whether that was built of sources with this sum, and is still there."""
+        place = "lib/libjunction.so" if name == LIBRARY else f"bin/{name}"
+        return self.keys.get(name) == key and (self.folder / place).exists()
 
     def begin(self, names):
         """Says that what is built is not proved, before any of it is there."""
@@ -96,7 +101,8 @@ class Built:
         self.write()
 
     def write(self, checks=None):
-        head = ["# NOT PROVED: no proof was tried of what stands here. tools/build.py made it for trying things out.", *install.where_from()]
+        head = ["# NOT PROVED: no proof was tried of what stands here. tools/build.py made it for trying things out."]
+        head += install.where_from()
         head += [f"# {checks}"] if checks else []
         head += [f"# sources of {name} {key}" for name, key in sorted(self.keys.items())]
         files = sorted(file for file in self.folder.rglob("*") if file.is_file() and not file.is_symlink() and file.name != NOTE)
@@ -107,10 +113,10 @@ class Built:
 
 def check_version(program, marked):
     """A program that tells its version tells that it isn't proved."""
-    if marked is None:
+    if program.name == SILENT:
         return
     said = subprocess.run([program, "--version"], capture_output=True, text=True)
-    if said.returncode or not said.stdout.rstrip("\n").endswith(marked):
+    if said.returncode or marked is None or said.stdout != f"{program.name} {marked}\n":
         raise Refused(f"{program.name} --version says {said.stdout!r} with status {said.returncode}, and not {marked}")
 
 
@@ -168,8 +174,9 @@ def take_library(room, folder):
 def build_library(kit, top, built, is_fast):
     """Builds the library, its headers and its wheel."""
     crates = [*lowering.below("junction_c", lowering.crates_in(top)), "junction_c"]
-    plain = sorted(file for part in ("src", "include", "python") for file in (top / "library" / part).rglob("*") if file.suffix in (".c", ".h", ".in", ".py", ".toml"))
-    sums = [hashlib.sha256(file.read_bytes()).hexdigest() for file in [top / "library" / "Makefile", *plain] if file.name != "_version.py"]
+    plain = sorted(file for part in ("src", "include", "python") for file in (top / "library" / part).rglob("*.*"))
+    plain = [top / "library" / "Makefile", *(file for file in plain if file.suffix in (".c", ".h", ".in", ".py", ".toml"))]
+    sums = [hashlib.sha256(file.read_bytes()).hexdigest() for file in plain if file.name != "_version.py"]
     key = key_of(top, crates, LIBRARY, is_fast, (kit / "KIT-ID").read_text(encoding="utf-8"), sums)
     if built.has(LIBRARY, key):
         say("library: unchanged since it was built")
@@ -180,8 +187,8 @@ def build_library(kit, top, built, is_fast):
         archive.build(kit, top, room / "libjunction_c.a", is_fast, lambda text: say(f"library: {text}"))
         marked_headers(top, room)
         shutil.copytree(top / "library" / "python", room / "module", ignore=MADE)
-        words = [f"KIT={kit}", f"PROVED={room}/libjunction_c.a", f"INCLUDE={room}/include/", f"PACKAGE={room}/module/"]
-        make(top, room, *words, "all", "wheel")
+        places = [f"PROVED={room}/libjunction_c.a", f"INCLUDE={room}/include/", f"PACKAGE={room}/module/"]
+        make(top, room, f"KIT={kit}", *places, "all", "wheel")
         take_library(room, built.folder)
     say("library: done")
     return LIBRARY, key
@@ -194,7 +201,10 @@ def build(top, folder, names, is_fast, jobs):
     built.begin(stale)
     reasons = []
     with ThreadPoolExecutor(jobs) as pool:
-        calls = [pool.submit(build_library, kit, top, built, is_fast) if name == LIBRARY else pool.submit(build_program, kit, top, name, built, is_fast) for name in names]
+        calls = []
+        for name in names:
+            words = (build_library, kit, top) if name == LIBRARY else (build_program, kit, top, name)
+            calls.append(pool.submit(*words, built, is_fast))
         for call in calls:
             try:
                 name, key = call.result()

@@ -1,5 +1,5 @@
-"""Which libraries and which versions of their symbols a program or a shared library asks for, read from its file of the form ELF for
-64 bits; and three edits of a few bytes, none of them of its code, by which a program runs with an older C library."""
+"""Which libraries and which versions of their symbols a program or a shared library asks for, read from its file of the form
+ELF for 64 bits; and three edits of a few bytes, none of them of its code, by which a program runs with an older C library."""
 import struct
 from pathlib import Path
 
@@ -74,7 +74,7 @@ class Elf:
     def asked(self):
         """Each symbol that is looked up elsewhere, with its version or None."""
         versions = {number: name for _, number, _, name in self.versions()}
-        count = struct.unpack_from("<I", self.data, self.at(self.only[HASH]) + 4)[0] if HASH in self.only else self.symbols_before_strings()
+        count = self.symbols()
         symbols, numbers = self.at(self.only[SYMTAB]), self.at(self.only[VERSYM]) if VERSYM in self.only else None
         found = {}
         for at in range(1, count):
@@ -84,8 +84,10 @@ class Elf:
                 found[self.text(name)] = versions.get(number)
         return found
 
-    def symbols_before_strings(self):
-        """How many symbols there are where no table of hashes says it: linkers put the names right behind them."""
+    def symbols(self):
+        """How many symbols there are. A table of hashes says it; without one the names stand right behind the symbols."""
+        if HASH in self.only:
+            return struct.unpack_from("<I", self.data, self.at(self.only[HASH]) + 4)[0]
         return (self.only[STRTAB] - self.only[SYMTAB]) // 24
 
     def ask_for_older(self, newer, older):
@@ -109,8 +111,8 @@ class Elf:
         struct.pack_into("<QQ", self.data, self.place + 16 * at, NEEDED, offset)
 
     def start_by_loader(self):
-        """Has the loader run what is to run before `main`. A C library up to 2.33 leaves that to the program's first steps, and those
-        that newer ones come with leave it to the library. The functions here take the words of the command, and nothing else."""
+        """Has the loader run what is to run before `main`: here that takes the words of the command, and nothing else. A C library
+        up to 2.33 leaves it to the program's first steps, and those that newer ones come with leave it to the library."""
         tags = {INIT_ARRAY: PREINIT_ARRAY, INIT_ARRAYSZ: PREINIT_ARRAYSZ}
         for at, (tag, value) in enumerate(self.rows):
             if tag in tags:

@@ -1,12 +1,12 @@
 #!/usr/bin/env python3
 """tools/kept_proofs.py KIT REPOSITORY OUT NAME..
 
-Copies programs, and the static library junction_c, that `rt ci` has proved on this machine from these very sources to the folder OUT,
-and proves nothing but junction_c itself, of which `rt ci` keeps that it was proved and not what it is compiled to. Status 3 and the
-crates that lack where it has not kept all; then nothing is copied.
+Copies programs, and the static library junction_c, that `rt ci` has proved on this machine from these very sources to the
+folder OUT, and proves nothing but junction_c itself, of which `rt ci` keeps that it was proved and not what it is compiled to.
+Status 3 and the crates that lack where it has not kept all; then nothing is copied.
 
-It asks the kit's own `rt` for what a run has kept: the name of an entry is the sum of all that its proof read, and each of its files is
-compared with its sum."""
+It asks the kit's own `rt` for what a run has kept: the name of an entry is the sum of all that its proof read, and each of its
+files is compared with its sum."""
 import importlib.machinery
 import importlib.util
 import os

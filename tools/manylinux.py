@@ -1,8 +1,9 @@
 #!/usr/bin/env python3
 """tools/manylinux.py WHEEL FOLDER
 
-Writes a wheel to FOLDER under the oldest tag `manylinux_2_N_x86_64` that its shared libraries allow, and prints its place: they ask for
-no library but those that each Linux has by the rules of that tag, and for no version of the C library's symbols that is newer."""
+Writes a wheel to FOLDER under the oldest tag `manylinux_2_N_x86_64` that its shared libraries allow, and prints its place: they
+ask for no library but those that each Linux has by the rules of that tag, and for no version of the C library's symbols that is
+newer."""
 import base64
 import hashlib
 import sys

@@ -1,8 +1,9 @@
 #!/usr/bin/env python3
 """tools/proved.py ARCHIVE
 
-The proved static library of crates/junction_c, for library/Makefile: taken from what `rt ci` has proved on this machine, in a minute;
-else proved by `rt lib`, in half an hour on an idle machine. tools/build.py --proved builds all programs and the library in this way."""
+The proved static library of crates/junction_c, for library/Makefile: taken from what `rt ci` has proved on this machine, in a
+minute; else proved by `rt lib`, in half an hour on an idle machine. tools/build.py --proved builds all programs and the library
+in this way."""
 import hashlib
 import shutil
 import subprocess
@@ -66,8 +67,8 @@ def take_program(top, name, out, say):
 def write_sums(folder, origins):
     """Writes the list of what was proved, beside it."""
     head = [*install.where_from(), *(f"# {place}: {origin}" for place, origin in origins.items())]
-    files = sorted(file for part in ("bin", "lib", "include") for file in (folder / part).rglob("*") if file.is_file() and not file.is_symlink())
-    files += sorted(folder.glob("*.whl"))
+    files = [file for part in ("bin", "lib", "include") for file in sorted((folder / part).rglob("*"))]
+    files = [file for file in [*files, *sorted(folder.glob("*.whl"))] if file.is_file() and not file.is_symlink()]
     sums = [f"{hashlib.sha256(file.read_bytes()).hexdigest()}  {file.relative_to(folder)}" for file in files]
     (folder / "checksums.txt").write_text("\n".join([*head, *sums]) + "\n", encoding="utf-8")
 
@@ -89,7 +90,8 @@ def build(top, folder, names, say):
             origins["lib/libjunction.a"] = take_archive(top, room / ARCHIVE, say)
             shutil.copytree(top / "library" / "include", room / "include")
             shutil.copytree(top / "library" / "python", room / "module", ignore=building.MADE)
-            building.make(top, room, f"KIT={lowering.kit()}", f"PROVED={room}/{ARCHIVE}", f"PACKAGE={room}/module/", "all", "wheel")
+            places = [f"PROVED={room}/{ARCHIVE}", f"PACKAGE={room}/module/"]
+            building.make(top, room, f"KIT={lowering.kit()}", *places, "all", "wheel")
             building.take_library(room, folder)
         say(f"library: {origins['lib/libjunction.a']}")
     write_sums(folder, origins)

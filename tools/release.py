@@ -1,15 +1,16 @@
 #!/usr/bin/env python3
 """tools/release.py [--not-proved] FOLDER
 
-Makes an archive of what tools/build.py --proved built, FOLDER/vantulig-VERSION-linux-x86_64.tar.gz: programs, library, headers, wheel,
-the page in the browser, examples, manual pages, completions, a script that installs them, checksums, and which proof they come from
-(kit, commit, sums). It runs with the C library glibc from version 2.31 on, Debian 11, with nothing of the kit. A checkout with changes
-that are not committed is refused, and so is what isn't known to be proved, or was changed since.
+Makes an archive of what tools/build.py --proved built, FOLDER/vantulig-VERSION-linux-x86_64.tar.gz: programs, library, headers,
+wheel, the page in the browser, examples, manual pages, completions, a script that installs them, checksums, and which proof
+they come from (kit, commit, sums). It runs with the C library glibc from version 2.31 on, Debian 11, with nothing of the kit. A
+checkout with changes that are not committed is refused, and so is what isn't known to be proved, or was changed since.
 
-With --not-proved it packs what tools/build.py --fast built. Then the archive, its folder and its list are named `not-proved`, and say
-so: it is for trying the archive out, and for nobody else.
+With --not-proved it packs what tools/build.py --fast built. Then the archive, its folder and its list are named `not-proved`,
+and say so: it is for trying the archive out, and for nobody else.
 
-The programs are the proved ones but for entries of their tables of symbols, by which older versions of the C library serve them too."""
+The programs are the proved ones but for entries of their tables of symbols, by which older versions of the C library serve them
+too."""
 import gzip
 import hashlib
 import io
@@ -30,7 +31,8 @@ import manylinux
 TOP = lowering.TOP
 NEWEST = (2, 31)
 # these have been the same since the first version of this platform; those of threads stood in a library of their own
-SAME = {"__libc_start_main": None, **dict.fromkeys("pthread_create pthread_join pthread_detach pthread_attr_setguardsize".split(), "libpthread.so.0")}
+THREADS = "pthread_create pthread_join pthread_detach pthread_attr_setguardsize".split()
+SAME = {"__libc_start_main": None, **dict.fromkeys(THREADS, "libpthread.so.0")}
 FIRST = "GLIBC_2.2.5"
 EXAMPLES = ["two_stages", "four_arms"]
 SUM = re.compile(r"^([0-9a-f]{64})  (.+)$", re.MULTILINE)
@@ -48,7 +50,8 @@ def sum_of(data):
 def for_older(program):
     """The bytes of a program that runs with the C library of version 2.31 too."""
     read = elf.read(program)
-    newer = {version for _, _, library, version in read.versions() if version.startswith("GLIBC_") and elf.number_of(version) > NEWEST}
+    versions = {version for _, _, _, version in read.versions() if version.startswith("GLIBC_")}
+    newer = {version for version in versions if elf.number_of(version) > NEWEST}
     symbols = [symbol for symbol, version in read.asked().items() if version in newer]
     unknown = sorted(symbol for symbol in symbols if symbol not in SAME)
     if unknown:
@@ -77,11 +80,13 @@ def why_not(folder, is_proved):
     head, sums = listed(folder, is_proved)
     wanted = [f"bin/{name}" for name in install.PROGRAMS] + ["lib/libjunction.a", "include/junction.h"]
     reasons = [f"{place} isn't built" for place in wanted if place not in sums]
-    reasons += [f"{place} isn't what was built" for place, sum in sums.items() if not (folder / place).is_file() or sum_of((folder / place).read_bytes()) != sum]
+    same = lambda place: (folder / place).is_file() and sum_of((folder / place).read_bytes()) == sums[place]
+    reasons += [f"{place} isn't what was built" for place in sums if not same(place)]
     reasons += [] if any(place.endswith(".whl") for place in sums) else ["the wheel isn't built"]
     if is_proved:
         origins = dict(re.findall(r"^# (\S+): (.*)$", "\n".join(head), re.MULTILINE))
-        reasons += [f"{place} isn't known to come from a proof" for place in [*wanted[:4], wanted[4]] if origins.get(place, install.UNKNOWN) == install.UNKNOWN]
+        unknown = [place for place in wanted[:-1] if origins.get(place, install.UNKNOWN) == install.UNKNOWN]
+        reasons += [f"{place} isn't known to come from a proof" for place in unknown]
         if head[:2] != install.where_from():
             reasons.append(f"it was built of another state than the checkout has: {head[:2]} and {install.where_from()}")
         if "with changes" in head[0] or "unknown" in head[0]:
@@ -105,9 +110,11 @@ def copied(folder, room, is_proved):
             shutil.copy(install.files_for([name], is_proved)[place], room / place)
     (room / "share/zsh/site-functions").mkdir(parents=True)
     shutil.copy(TOP / "tools/completion/_vantulig", room / "share/zsh/site-functions")
-    shutil.copytree(TOP / "viewer", room / "share/vantulig/viewer", ignore=shutil.ignore_patterns("test", "README.md", "picture.png"))
+    shared = room / "share" / "vantulig"
+    shutil.copytree(TOP / "viewer", shared / "viewer", ignore=shutil.ignore_patterns("test", "README.md", "picture.png"))
     for name in EXAMPLES:
-        shutil.copytree(TOP / "crates/junction/examples" / name, room / "share/vantulig/examples" / name, ignore=shutil.ignore_patterns("README.md", "*.code", "*.log"))
+        ignored = shutil.ignore_patterns("README.md", "*.code", "*.log")
+        shutil.copytree(TOP / "crates" / "junction" / "examples" / name, shared / "examples" / name, ignore=ignored)
     (room / "wheel").mkdir()
     manylinux.retagged(next(folder.glob("*.whl")), room / "wheel")
     shutil.copy(Path(__file__).with_name("installing.sh"), room / "install.sh")

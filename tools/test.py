@@ -27,6 +27,7 @@ from test_charts import *
 from test_closed_loop import *
 from test_records import *
 from test_records_in_tenths import *
+from test_release import *
 from test_sumo import *
 
 

@@ -1,5 +1,5 @@
-"""Takes the checks of `rt try` out of a module, and puts the inline attributes of the sources in, so that it is what the kit compiles
-of a proved program."""
+"""Takes the checks of `rt try` out of a module, and puts the inline attributes of the sources in, so that it is what the kit
+compiles of a proved program."""
 import glob
 import os
 import re

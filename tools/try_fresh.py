@@ -1,0 +1,173 @@
+#!/usr/bin/env python3
+"""tools/try_fresh.py [--root FOLDER] [--keep]
+tools/try_fresh.py --archive FILE [--root FOLDER] [--keep]
+
+Runs, as root of a Debian, what a newcomer is told to run, in a fresh root of Debian made by debootstrap: the section `Try it` of
+README with the Rattle kit in a clone of the last commit on Debian 12, in ten minutes at most; or docs/archive.md from an archive of
+tools/release.py on Debian 11, in one minute at most. Each on two processors.
+
+Of a page the indented blocks that begin with a command are run, and the fenced blocks `sh`, all in one shell, in their order. Each is
+told with its seconds; what begins with apt-get, before a shell of its own, is not counted. --root takes a root that is there in the
+place of a new one; --keep leaves it."""
+import argparse
+import os
+import re
+import shutil
+import subprocess
+import sys
+import tempfile
+import time
+from contextlib import ExitStack
+from pathlib import Path
+
+import check_pages
+import lowering
+
+TOP = lowering.TOP
+MIRROR = "http://deb.debian.org/debian"
+LIMITS = {"README.md": 600, "archive.md": 60}
+PROCESSORS = "0,1"
+HOME = "/home/newcomer"
+# tells behind each block, in a file, how it ended and when
+TOLD = 'echo "$? $(date +%s.%N)" >> /tmp/told'
+
+
+class Failed(Exception):
+    """What didn't work."""
+
+
+def section_of(text, title):
+    """The part of a page below a heading; all of it without one."""
+    if title is None:
+        return text
+    return text.split(f"\n## {title}\n", 1)[1].split("\n## ", 1)[0]
+
+
+def blocks_of(text):
+    """The commands of a page, block by block: fenced as `sh`, or indented and beginning with a command."""
+    found, at = [], 0
+    for part in re.finditer(r"^```(\w*)\n(.*?)^```$|((?:^    [^\n]*\n)+)", text, re.MULTILINE | re.DOTALL):
+        if part[3]:
+            block = re.sub(r"^    ", "", part[3], flags=re.MULTILINE)
+            if check_pages.COMMAND.match(block):
+                found.append(block)
+        elif part[1] == "sh":
+            found.append(part[2])
+    return found
+
+
+def script_of(blocks, folder):
+    """One shell that runs the blocks one after the other, and ends where one fails."""
+    lines = ["set -e -o pipefail", f"cd {folder}"]
+    for block in blocks:
+        lines += [f"{{ {block.rstrip()}", "}", TOLD]
+    return "\n".join(lines) + "\n"
+
+
+def call(*words, **more):
+    done = subprocess.run([str(word) for word in words], **more)
+    if done.returncode:
+        raise Failed(f"{' '.join(map(str, words[:6]))} ends with status {done.returncode}")
+
+
+def inside(root, text, path="/usr/sbin:/usr/bin:/sbin:/bin", processors=None):
+    """Runs a shell in the root; answers its status."""
+    words = ["taskset", "-c", processors] if processors else []
+    environment = {"PATH": path, "HOME": HOME, "LANG": "C.UTF-8", "DEBIAN_FRONTEND": "noninteractive"}
+    environment |= {name: value for name, value in os.environ.items() if name.lower().endswith("_proxy")}
+    return subprocess.run([*words, "chroot", root, "bash", "-s"], input=text, text=True, env=environment).returncode
+
+
+def mounted(stack, source, place, *options):
+    """Shows a folder, or a file system of the kernel, in the root for as long as the script runs."""
+    place.mkdir(parents=True, exist_ok=True)
+    call("mount", *options, source, place)
+    stack.callback(subprocess.run, ["umount", "-l", place])
+
+
+def fresh_root(suite, root):
+    """A Debian with nothing in it but what each has."""
+    print(f"a fresh root of Debian, {suite}", flush=True)
+    call("debootstrap", "--variant=minbase", suite, root, MIRROR, stdout=subprocess.DEVNULL)
+
+
+def packages_of(blocks):
+    """The blocks that install packages, and the others."""
+    return [block for block in blocks if block.startswith("apt-get")], [block for block in blocks if not block.startswith("apt-get")]
+
+
+def run_page(root, page, title, folder, path):
+    """Runs the commands of a page; answers the seconds that they took."""
+    blocks = blocks_of(section_of(page.read_text(encoding="utf-8"), title))
+    packages, blocks = packages_of(blocks)
+    if not blocks:
+        raise Failed(f"{page.name} has no command")
+    before = "apt-get -qq update\n" + "".join(packages) if packages else ""
+    if before and inside(root, f"set -e\n{before}"):
+        raise Failed("the packages that the page names can't be installed")
+    told = root / "tmp" / "told"
+    told.unlink(missing_ok=True)
+    begin = last = time.time()
+    status = inside(root, script_of(blocks, folder), path, PROCESSORS)
+    ended = told.read_text().split("\n")[:-1] if told.exists() else []
+    for block, line in zip(blocks, ended):
+        at = float(line.split()[1])
+        print(f"{at - last:6.1f} s  {block.splitlines()[0][:100]}")
+        last = at
+    if status or len(ended) < len(blocks):
+        raise Failed(f"status {status} at\n{blocks[min(len(ended), len(blocks) - 1)]}")
+    return time.time() - begin
+
+
+def try_readme(root, stack):
+    """README, with the kit, in a clone."""
+    kit = lowering.kit().resolve()
+    mounted(stack, kit, root / str(kit).lstrip("/"), "--bind", "-o", "ro")
+    clone = root / HOME.lstrip("/") / "vantulig"
+    clone.parent.mkdir(parents=True, exist_ok=True)
+    call("git", "clone", "-q", "--no-hardlinks", TOP, clone)
+    path = f"/usr/local/sbin:/usr/local/bin:/usr/sbin:/usr/bin:/sbin:/bin:{kit}/bin"
+    return run_page(root, TOP / "README.md", "Try it", f"{HOME}/vantulig", path)
+
+
+def try_archive(root, archive):
+    """docs/archive.md, as the archive has it."""
+    place = root / HOME.lstrip("/")
+    place.mkdir(parents=True, exist_ok=True)
+    begin = time.time()
+    call("tar", "-C", place, "-xzf", archive)
+    folder = next(place.glob("vantulig-*"))
+    unpacked = time.time() - begin
+    return unpacked + run_page(root, folder / "README.md", None, f"{HOME}/{folder.name}", "/usr/sbin:/usr/bin:/sbin:/bin")
+
+
+def main():
+    parser = argparse.ArgumentParser(description=__doc__, formatter_class=argparse.RawDescriptionHelpFormatter)
+    parser.add_argument("--archive", type=Path)
+    parser.add_argument("--root", type=Path)
+    parser.add_argument("--keep", action="store_true")
+    words = parser.parse_args()
+    if os.geteuid() or not shutil.which("debootstrap"):
+        sys.exit("this wants to be root, and debootstrap (apt-get install debootstrap)")
+    room = words.root or Path(tempfile.mkdtemp(prefix="fresh-"))
+    try:
+        with ExitStack() as stack:
+            if not words.root:
+                fresh_root("bullseye" if words.archive else "bookworm", room)
+            mounted(stack, "proc", room / "proc", "-t", "proc")
+            mounted(stack, "/dev", room / "dev", "--bind")
+            shutil.copy("/etc/resolv.conf", room / "etc" / "resolv.conf")
+            seconds = try_archive(room, words.archive) if words.archive else try_readme(room, stack)
+        limit = LIMITS["archive.md" if words.archive else "README.md"]
+        print(f"{seconds:6.1f} s in all; {limit} at most")
+        return int(seconds > limit)
+    except (Failed, lowering.Refused) as failed:
+        print(failed, file=sys.stderr)
+        return 1
+    finally:
+        if not words.keep and not words.root and not os.path.ismount(room / "proc") and not os.path.ismount(room / "dev"):
+            shutil.rmtree(room)
+
+
+if __name__ == "__main__":
+    sys.exit(main())
