@@ -89,9 +89,12 @@ class Built:
             self.keys = dict(rows)
 
     def has(self, name, key):
-        """Whether that was built of sources with this sum, and is still there."""
-        place = "lib/libjunction.so" if name == LIBRARY else f"bin/{name}"
-        return self.keys.get(name) == key and (self.folder / place).exists()
+        """Whether that was built of sources with this sum, and is still there; then it is as new as they are."""
+        place = self.folder / ("lib/libjunction.so" if name == LIBRARY else f"bin/{name}")
+        if self.keys.get(name) != key or not place.exists():
+            return False
+        os.utime(place)
+        return True
 
     def begin(self, names):
         """Says that what is built is not proved, before any of it is there."""

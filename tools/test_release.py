@@ -260,10 +260,17 @@ class Fresh(unittest.TestCase):
 
     def test_a_script_ends_where_a_block_fails(self):
         with tempfile.TemporaryDirectory() as folder:
-            script = try_fresh.script_of(["a=1\n", "test $a = 1 && false\n", "touch b\n"], folder).replace("/tmp/told", f"{folder}/told")
-            done = subprocess.run(["bash", "-s"], input=script, text=True)
-            told = (Path(folder) / "told").read_text().splitlines()
-        self.assertEqual((done.returncode, len(told)), (1, 1))
+            for blocks, status, ended in [
+                (["a=1\n", "test $a = 1\n(exit 3)    # status 3\n"], 0, 2),
+                (["a=1\n", "test $a = 2\n", "touch b\n"], 1, 1),
+                (["(exit 3)    # status 2\n", "touch b\n"], 1, 0),
+            ]:
+                told = Path(folder) / "told"
+                told.write_text("", encoding="utf-8")
+                script = try_fresh.script_of(blocks, folder).replace("/tmp/told", str(told))
+                done = subprocess.run(["bash", "-s"], input=script, text=True)
+                self.assertEqual((done.returncode, len(told.read_text().splitlines())), (status, ended))
+            self.assertFalse((Path(folder) / "b").exists())
 
 
 if __name__ == "__main__":

@@ -49,7 +49,7 @@ def blocks_of(text):
     for part in re.finditer(r"^```(\w*)\n(.*?)^```$|((?:^    [^\n]*\n)+)", text, re.MULTILINE | re.DOTALL):
         if part[3]:
             block = re.sub(r"^    ", "", part[3], flags=re.MULTILINE)
-            if check_pages.COMMAND.match(block):
+            if check_pages.is_command(block.splitlines()):
                 found.append(block)
         elif part[1] == "sh":
             found.append(part[2])
@@ -57,10 +57,10 @@ def blocks_of(text):
 
 
 def script_of(blocks, folder):
-    """One shell that runs the blocks one after the other, and ends where one fails."""
+    """One shell that runs the blocks one after the other, and ends where a command ends otherwise than it is told."""
     lines = ["set -e -o pipefail", f"cd {folder}"]
     for block in blocks:
-        lines += [f"{{ {block.rstrip()}", "}", TOLD]
+        lines += [*(check_pages.command_of(line) for line in block.splitlines()), TOLD]
     return "\n".join(lines) + "\n"
 
 

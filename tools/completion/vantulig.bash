@@ -17,6 +17,15 @@ _vantulig_site()
     esac
 }
 
+# whether the word before is an option that is followed by a number or a text
+_vantulig_is_value()
+{
+    case ${COMP_WORDS[COMP_CWORD - 1]} in
+        --allow | --from | --to | --strip | --title | --begin | --each | --serves | --amber-tolerance) return 0 ;;
+    esac
+    return 1
+}
+
 _vantulig_junction()
 {
     local cur=${COMP_WORDS[COMP_CWORD]} place=$((COMP_CWORD - 1))
@@ -38,6 +47,7 @@ _vantulig_junction()
 _vantulig_junction_check()
 {
     local cur=${COMP_WORDS[COMP_CWORD]}
+    ! _vantulig_is_value || return
     case $cur in
         -*) COMPREPLY=($(compgen -W "--json --allow --help --version" -- "$cur")) ;;
         *) _vantulig_site "$COMP_CWORD" ;;
@@ -47,8 +57,12 @@ _vantulig_junction_check()
 _vantulig_junction_trace()
 {
     local cur=${COMP_WORDS[COMP_CWORD]}
+    ! _vantulig_is_value || return
+    case $COMP_CWORD:$cur in
+        1:*) COMPREPLY=($(compgen -W "values how-ended lines second trace --help --version" -- "$cur")); return ;;
+        2:-*) COMPREPLY=($(compgen -W "--help" -- "$cur")); return ;;
+    esac
     case $COMP_CWORD in
-        1) COMPREPLY=($(compgen -W "values how-ended lines second trace --help --version" -- "$cur")) ;;
         [2-6]) _vantulig_site "$((COMP_CWORD - 1))" ;;
         *)
             case ${COMP_WORDS[1]} in
@@ -68,8 +82,12 @@ _vantulig_junction_trace()
 _vantulig_log_report()
 {
     local cur=${COMP_WORDS[COMP_CWORD]}
+    ! _vantulig_is_value || return
+    case $COMP_CWORD:$cur in
+        1:*) COMPREPLY=($(compgen -W "diagram text sums compare breaches protocol refusals --help --version" -- "$cur")); return ;;
+        2:-*) COMPREPLY=($(compgen -W "--help" -- "$cur")); return ;;
+    esac
     case $COMP_CWORD in
-        1) COMPREPLY=($(compgen -W "diagram text sums compare breaches protocol refusals --help --version" -- "$cur")) ;;
         2) _vantulig_files log ;;
         *)
             local options
