@@ -36,6 +36,13 @@ MARK = ", not proved"
 SILENT = "junction"
 LIBRARY_MARK = "+not.proved"
 NOTE = "NOT-PROVED"
+# how something is built: whether it is fast, and the library
+CHECKS = {
+    (False, False): "with the run-time checks of `rt try`",
+    (False, True): "with the run-time checks of `rt try` but the address sanitizer",
+    (True, False): "without run-time checks",
+    (True, True): "without run-time checks",
+}
 # what `make` leaves in the Python package
 MADE = shutil.ignore_patterns("libjunction.so", "_version.py", "build", "*.egg-info", "__pycache__")
 BEGUN = time.monotonic()
@@ -82,11 +89,12 @@ class Built:
     """The folder into which is built, and what its note says."""
 
     def __init__(self, folder):
-        self.folder, self.keys = folder, {}
+        self.folder, self.keys, self.checks, self.where = folder, {}, {}, install.where_from()
         note = folder / NOTE
         if note.is_file():
-            rows = re.findall(r"^# sources of (\w+) (\w+)$", note.read_text(encoding="utf-8"), re.MULTILINE)
-            self.keys = dict(rows)
+            rows = re.findall(r"^# (\w+): (.*); sources (\w+)$", note.read_text(encoding="utf-8"), re.MULTILINE)
+            self.keys = {name: key for name, _, key in rows}
+            self.checks = {name: checks for name, checks, _ in rows}
 
     def has(self, name, key):
         """Whether that was built of sources with this sum, and is still there; then it is as new as they are."""
@@ -103,11 +111,10 @@ class Built:
         (self.folder / "bin").mkdir(parents=True, exist_ok=True)
         self.write()
 
-    def write(self, checks=None):
+    def write(self):
         head = ["# NOT PROVED: no proof was tried of what stands here. tools/build.py made it for trying things out."]
-        head += install.where_from()
-        head += [f"# {checks}"] if checks else []
-        head += [f"# sources of {name} {key}" for name, key in sorted(self.keys.items())]
+        head += self.where
+        head += [f"# {name}: {self.checks[name]}; sources {key}" for name, key in sorted(self.keys.items())]
         files = sorted(file for file in self.folder.rglob("*") if file.is_file() and not file.is_symlink() and file.name != NOTE)
         kept = [file for file in files if file.relative_to(self.folder).parts[0] in ("bin", "lib", "include") or file.suffix == ".whl"]
         sums = [f"{hashlib.sha256(file.read_bytes()).hexdigest()}  {file.relative_to(self.folder)}" for file in kept]
@@ -197,6 +204,12 @@ def build_library(kit, top, built, is_fast):
     return LIBRARY, key
 
 
+def at_once():
+    """How many are built at once: one a processor, as many as the free memory holds."""
+    found = re.search(r"^MemAvailable: +(\d+) kB", Path("/proc/meminfo").read_text(encoding="utf-8"), re.MULTILINE)
+    return max(1, min(len(os.sched_getaffinity(0)), int(found[1]) // 2_000_000 if found else 1))
+
+
 def build(top, folder, names, is_fast, jobs):
     """Builds all that is named; answers the reasons of what isn't built."""
     kit, built = lowering.kit(), Built(folder)
@@ -211,11 +224,10 @@ def build(top, folder, names, is_fast, jobs):
         for call in calls:
             try:
                 name, key = call.result()
-                built.keys[name] = key
+                built.keys[name], built.checks[name] = key, CHECKS[is_fast, name == LIBRARY]
             except Refused as refused:
                 reasons.append(str(refused))
-    checks = "without run-time checks" if is_fast else "with the run-time checks of `rt try`; the library without the address sanitizer"
-    built.write(checks)
+    built.write()
     return reasons
 
 
@@ -223,7 +235,7 @@ def main(words):
     if words == ["--help"]:
         print(__doc__)
         return 0
-    options, names, jobs, folder = set(), [], len(os.sched_getaffinity(0)), None
+    options, names, jobs, folder = set(), [], at_once(), None
     words = list(words)
     while words:
         word = words.pop(0)

@@ -126,7 +126,7 @@ def copied(folder, room, is_proved):
 def write_list(folder, room, is_proved):
     """Writes the checksums of the archive's files, and which proof they come from."""
     head, sums = listed(folder, is_proved)
-    lines = [line for line in head if not line.startswith("# sources of ")]
+    lines = [re.sub(r"; sources \w+$", "", line) for line in head]
     lines += [f"# {name} before its tables of symbols were changed: {sums[f'bin/{name}']}" for name in install.PROGRAMS]
     links = sorted(file for file in room.rglob("*") if file.is_symlink())
     lines += [f"# link {file.relative_to(room)} to {os.readlink(file)}" for file in links]

@@ -251,7 +251,8 @@ class Fresh(unittest.TestCase):
         page = "# P\n\n    cd a\n    b\n\nText\n\n    not a command\n\n```sh\none\n```\n\n```\nshown\n```\n\n## Q\n\n    rt try\n"
         self.assertEqual(try_fresh.blocks_of(page), ["cd a\nb\n", "one\n", "rt try\n"])
         self.assertEqual(try_fresh.blocks_of(try_fresh.section_of(page, "Q")), ["rt try\n"])
-        self.assertEqual(try_fresh.packages_of(["apt-get install a\n", "b\n"]), (["apt-get install a\n"], ["b\n"]))
+        packages = try_fresh.packages_of(["apt-get install a\n", "apt-get install b\nc\n", "d\n"])
+        self.assertEqual(packages, (["apt-get install a", "apt-get install b"], ["c\n", "d\n"]))
 
     def test_the_pages_have_commands(self):
         for page, title in [("README.md", "Try it"), ("docs/archive.md", None)]:

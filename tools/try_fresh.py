@@ -7,7 +7,7 @@ README with the Rattle kit in a clone of the last commit on Debian 12, in ten mi
 tools/release.py on Debian 11, in one minute at most. Each on two processors.
 
 Of a page the indented blocks that begin with a command are run, and the fenced blocks `sh`, all in one shell, in their order. Each is
-told with its seconds; what begins with apt-get, before a shell of its own, is not counted. --root takes a root that is there in the
+told with its seconds; lines that begin with apt-get are run before all others, and not counted. --root takes a root that is there in the
 place of a new one; --keep leaves it."""
 import argparse
 import os
@@ -92,8 +92,10 @@ def fresh_root(suite, root):
 
 
 def packages_of(blocks):
-    """The blocks that install packages, and the others."""
-    return [block for block in blocks if block.startswith("apt-get")], [block for block in blocks if not block.startswith("apt-get")]
+    """The lines that install packages, and the blocks without them."""
+    lines = [line for block in blocks for line in block.splitlines() if line.startswith("apt-get")]
+    left = ["".join(line for line in block.splitlines(keepends=True) if not line.startswith("apt-get")) for block in blocks]
+    return lines, [block for block in left if block.strip()]
 
 
 def run_page(root, page, title, folder, path):
@@ -102,7 +104,7 @@ def run_page(root, page, title, folder, path):
     packages, blocks = packages_of(blocks)
     if not blocks:
         raise Failed(f"{page.name} has no command")
-    before = "apt-get -qq update\n" + "".join(packages) if packages else ""
+    before = "\n".join(["apt-get -qq update", *packages, ""]) if packages else ""
     if before and inside(root, f"set -e\n{before}"):
         raise Failed("the packages that the page names can't be installed")
     told = root / "tmp" / "told"
