@@ -1,5 +1,5 @@
 // All seconds of a live run, the closing one with them, over frames that were read.
-ghost use Rattle.std.specs.Prelude.{◌≡◌, ◌+◌, ◌≤◌, [], IfOk, length};
+ghost use Rattle.std.specs.Prelude.{◌≡◌, ◌+◌, ◌≤◌, [], length};
 ghost use Rattle.sig_io.specs.Outside.{HasCause};
 ghost use Rattle.sig_types.specs.Counts.{AreFrames};
 ghost use Rattle.pua_model.specs.Plan.{groups_in};

@@ -1,7 +1,6 @@
 // The records of a table that are refused beside the first one.
 ghost use Rattle.std.specs.Prelude.{◌≡◌, ◌++◌, IfOk, OnOk, filter, map, nat_lt};
 ghost use Rattle.table_check.specs.Refused.{refused_records};
-ghost use Rattle.site_check.specs.Found.{told_of};
 ghost use Rattle.site_check.specs.Further.{behind_of, file_of, further_part, of_record, table_part};
 ghost use Rattle.site_check.specs.Judged.{taken_in, text_in};
 
