@@ -288,6 +288,21 @@ class Believe(unittest.TestCase):
         is_same = done.stdout == (TOP / "docs" / "believe.md").read_text(encoding="utf-8")
         self.assertTrue(is_same, "tools/believe.py > docs/believe.md")
 
+    def test_the_whole_map_has_each_theorem_and_each_file_behind_the_page(self):
+        done = subprocess.run([sys.executable, "-B", HERE / "believe.py", "--whole"], capture_output=True, text=True)
+        page = (TOP / "docs" / "believe.md").read_text(encoding="utf-8")
+        self.assertEqual((done.returncode, done.stderr, done.stdout[:len(page)]), (0, "", page))
+        behind = done.stdout[len(page):]
+        self.assertEqual(behind.count("\n### "), len(believe.THEOREMS))
+        specs, behind = believe.Specs(), behind.split("\n## File by file\n")[1]
+        missing = [file for file, block in specs.blocks.items() if block and believe.link(file) not in behind]
+        self.assertEqual(missing, [])
+
+    def test_other_words_are_refused(self):
+        done = subprocess.run([sys.executable, "-B", HERE / "believe.py", "--all"], capture_output=True, text=True)
+        self.assertEqual((done.returncode, done.stdout), (1, ""))
+        self.assertIn("--whole", done.stderr)
+
     def test_no_definition_of_a_clause_is_a_working_word(self):
         needed = believe.needed_files(believe.Specs())
         page = (TOP / "docs" / "proved.md").read_text(encoding="utf-8").split("\n## Readers\n")[1]
