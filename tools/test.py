@@ -455,7 +455,8 @@ class Pages(unittest.TestCase):
     def anchors_of(self, page):
         heads = re.findall(r"^#+ (.*)$", self.text_of(page), re.MULTILINE)
         plain = (re.sub(r"\[([^]]*)\]\([^)]*\)", r"\1", head).lower() for head in heads)
-        return {re.sub(r"[^\w\- ]", "", head).replace(" ", "-") for head in plain}
+        named = re.findall(r"<a id=\"([\w-]+)\"></a>", self.text_of(page))
+        return {re.sub(r"[^\w\- ]", "", head).replace(" ", "-") for head in plain} | set(named)
 
     def test_links(self):
         for page in self.PAGES:
