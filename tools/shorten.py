@@ -7,15 +7,16 @@
 It works on DIR, a clone of the repository, and there on the files crates/CRATE/proofs/**/Answers.antt alone. Contracts,
 specs, invariants, files of lemmas and sources are never written. All answers of a crate are tried in one check a round:
 
-  none      every answer is left out; those whose goal the checker then leaves open come back. A file with none left goes
+  none      every answer is left out; those whose goal the checker then leaves open come back, and so do all of a function whose
+            proof takes more than a second longer without them: a goal that is searched for is paid in each later check, in each
+            seed and in each edit. A file with none left goes
   clauses   of an answer `record { a = ..; b = .. }` each field is left out whose clause the checker closes by itself
   tactics   each remaining answer of two lines or more is tried as one call of a tactic, with the lemmas that it cites
 
 The checker tries with --margin, which halves its own limits, so that what stays out is not out by a hair. Then it drops
 unused imports, and the crate is checked whole, from nothing, without --margin; where a function is not proved its file is put
 back, and the crate is checked again. Files that an edit of must-fail/ names are left as they are, and those of functions that
-are read with --test alone. An answer that goes takes about 1.5 seconds of each later check: read the difference, and keep
-what teaches; then prove the crate and try its edits.
+are read with --test alone. Read the difference, and keep what teaches; then prove the crate and try its edits.
 
   --copy DIR      the clone that is worked on; it is changed
   --libs DIR      a folder with NAME/out/rlib/NAME.rlib of each crate below (default: DIR/crates, as rt lib leaves them)
@@ -24,7 +25,7 @@ what teaches; then prove the crate and try its edits.
   --minutes N     begins no check after N minutes; a later run goes on
   --rounds LIST   of none,clauses,tactics (default: all)
   --no-margin     tries with the checker's own limits
-  --no-base       does not time the crate as it stood
+  --no-base       does not time the crate as it stood; then an answer stays where its function takes more than a second
   --no-anew       ends with a whole check over what the rounds kept, and not with one from nothing
   --nice N        (default 15)
 
@@ -34,7 +35,6 @@ import argparse
 import json
 import os
 import re
-import resource
 import shutil
 import subprocess
 import sys
@@ -42,15 +42,9 @@ import time
 from pathlib import Path
 
 from answers import Block, blocks_at, fields_of, is_wanted, names, needed, parse, render, with_imports
+from shorten_checks import Checks, OutOfTime, dear_functions
 
-END = time.time() + 1e9
-
-
-class OutOfTime(Exception):
-    """The minutes are over; a later run goes on."""
-
-
-class Crate:
+class Crate(Checks):
     def __init__(self, args, name):
         self.args, self.name = args, name
         self.folder = Path(args.copy) / "crates" / name
@@ -76,105 +70,6 @@ class Crate:
         self.state_file.parent.mkdir(parents=True, exist_ok=True)
         self.state_file.write_text(json.dumps(self.state, ensure_ascii=False, indent=1))
 
-    def put(self, texts):
-        """Writes the files of answers; None stands for no file."""
-        for path, text in texts.items():
-            file = self.folder / path
-            if text is None:
-                file.unlink(missing_ok=True)
-            else:
-                file.parent.mkdir(parents=True, exist_ok=True)
-                file.write_text(text, encoding="utf-8")
-
-    def words(self):
-        kit, libs = Path(self.args.kit), Path(self.args.libs)
-        uses = {}
-        for line in (Path(self.args.copy) / "crates.txt").read_text().split("\n"):
-            if ":" in line and not line.startswith("#"):
-                left, right = line.split("#")[0].split(":", 1)
-                uses[left.split()[0]] = right.split()
-        root = "src/main.rt" if (self.folder / "src/main.rt").exists() else "src/lib.rt"
-        words = [f"{kit}/bin/rattle", "check", "--crate-name", self.name, root, "--extern", f"std={kit}/rlibs/std.rlib"]
-        below, todo = [], list(uses.get(self.name, []))
-        for name in uses.get(self.name, []):
-            own = libs / name / "out/rlib" / f"{name}.rlib"
-            words += ["--extern", f"{name}={own if name in uses else f'{kit}/rlibs/{name}.rlib'}"]
-        while todo:
-            name = todo.pop()
-            if name in uses and name not in below:
-                below.append(name)
-                todo += uses[name]
-        words += ["-L", f"dependency={kit}/rlibs"]
-        for name in sorted(below):
-            words += ["-L", f"dependency={libs / name / 'out/rlib'}"]
-        return words + ["--antt-project", f"{kit}/rattle/logic/antt-project.json", "--logic-built", f"{kit}/logic_built",
-                        "--links", f"{self.name}=", "--jobs", "1"]
-
-    def check(self, *flags, keeps=True):
-        """Runs the checker on the crate, and returns its status, its text and the seconds of processor time."""
-        if time.time() > END:
-            raise OutOfTime
-        words = ["nice", "-n", str(self.args.nice), *self.words(), *flags]
-        if keeps:
-            words += ["--incremental", str(self.kept)]
-        was = resource.getrusage(resource.RUSAGE_CHILDREN)
-        ran = subprocess.run(words, cwd=self.folder, stdin=subprocess.DEVNULL, stdout=subprocess.PIPE, stderr=subprocess.STDOUT,
-                             text=True, errors="replace")
-        now = resource.getrusage(resource.RUSAGE_CHILDREN)
-        took = now.ru_utime + now.ru_stime - was.ru_utime - was.ru_stime
-        self.state["spent"] += took
-        number = len(list(self.state_file.parent.glob(f"{self.name}.*.out"))) + 1
-        (self.state_file.parent / f"{self.name}.{number}.out").write_text(ran.stdout)
-        print(f"  {self.name}: check {' '.join(flags)}: status {ran.returncode}, {took:.0f} s", flush=True)
-        return ran.returncode, ran.stdout, took
-
-    def margin(self):
-        return [] if self.args.no_margin else ["--margin"]
-
-    def open_goals(self, said):
-        """The goals that a check left open, by file: what it offers to write, and the names in its verdicts."""
-        found = {path: set() for path in self.files}
-        path = None
-        for line in said.split("\n"):
-            offer = re.match(r"help: \S.*?(?:\./)?(proofs/\S+?/Answers\.antt)", line)
-            if offer:
-                path = offer[1]
-            elif line and not line[0].isspace():
-                path = None
-            goal = re.match(r"\s+pub (\S+) : goal\.(\S+)", line)
-            if goal and path:
-                found.setdefault(path, set()).add(goal[2])
-            goal = re.match(r"note: `([^`]+)` of (?:\./)?(proofs/\S+?/Answers\.antt) must prove", line)
-            if goal:
-                found.setdefault(goal[2], set()).add(goal[1])
-            verdict = re.match(r"fn (\S+): (no proof|not proved|could not tell)(.*)", line)
-            if verdict:
-                names = re.search(r"(?:\./)?(proofs/\S+?/Answers\.antt)", verdict[3])
-                if names:
-                    rest = verdict[3].split("`search` did not prove", 1)
-                    found.setdefault(names[1], set()).update(re.findall(r"`([^`]+)`", rest[1]) if len(rest) > 1 else [])
-        return found
-
-    def unproved(self, said):
-        """The functions that are unproved by their own fault: one that only calls such a one has its own goals closed."""
-        return re.findall(r"^fn (\S+): (?:no proof|not proved|could not tell)(?!: it calls)", said, re.M)
-
-    def files_of(self, function):
-        """The files of answers that can be the function's own."""
-        parts = function.split("::")[1:]
-        path = "proofs/" + "/".join(parts) + "/Answers.antt"
-        if path in self.files:
-            return [path]
-        return [it for it in self.files if it.startswith("proofs/" + "/".join(parts[:-1])) and "/+" in it]
-
-    def refused(self, said):
-        """The lines at which the checker refuses a file of answers."""
-        found = {}
-        spot = r"^(?:\S*?: )?(?:\./)?(proofs/\S+?/Answers\.antt):(\d+):\d+:? (?:error|hole|could)"
-        for path, line in re.findall(spot, said, re.M):
-            found.setdefault(path, set()).add(int(line))
-        return found
-
     # --- rounds
 
     def round_none(self):
@@ -182,6 +77,8 @@ class Crate:
         status, said, _ = self.check(*self.margin())
         goals = self.open_goals(said)
         bad = {path for function in self.unproved(said) for path in self.files_of(function)}
+        dear = dear_functions(self.state.get("seconds", {}), self.seconds)
+        too_dear = {path for function in dear for path in self.files_of(function)}
         seen = set(re.findall(r"^fn (\S+): ", said, re.M))
         dropped = kept = 0
         for path, text in self.state["now"].items():
@@ -193,6 +90,9 @@ class Crate:
                 continue
             head, blocks = parse(text)
             wanted = goals.get(path, set())
+            if path in too_dear:
+                kept += sum(1 for it in blocks if it.goal)
+                continue
             if not wanted and path not in bad:
                 dropped += sum(1 for it in blocks if it.goal)
                 self.state["now"][path] = None
@@ -386,7 +286,7 @@ class Crate:
             if status:
                 print(f"{self.name}: not proved as it stands, so nothing is tried")
                 return
-            self.state["before"] = took
+            self.state["before"], self.state["seconds"] = took, self.seconds
             self.mark("base")
         for name in rounds:
             if name not in self.state["done"]:
@@ -415,7 +315,6 @@ class Crate:
 
 
 def main():
-    global END
     if any(it in ("-h", "--help") for it in sys.argv[1:]):
         print(__doc__)
         return 0
@@ -437,7 +336,7 @@ def main():
     args.state = os.path.abspath(args.state or f"{args.copy}/../shorten-state")
     args.kit = args.kit or os.path.dirname(os.path.dirname(os.path.realpath(shutil.which("rattle") or "rattle")))
     if args.minutes:
-        END = time.time() + 60 * args.minutes
+        Checks.end = time.time() + 60 * args.minutes
     for name in args.crates:
         crate = Crate(args, name)
         try:

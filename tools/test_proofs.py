@@ -1,0 +1,144 @@
+"""Tests of the scripts that try wrong bodies, run all tests and shorten proofs, without the prover."""
+import tempfile
+import unittest
+from pathlib import Path
+
+import test_all
+from shorten_checks import dear_functions
+from wrong_edits import Edit, functions_of
+from wrong_runs import REFUSED, SURVIVED, UNCLEAR, Crate, Run
+from wrong_tries import without
+
+SOURCE = """// A source.
+use a::B;
+
+/// Doubles, where it is no `fn other() {`.
+#[tactic(auto)]
+pub fn twice(n: u8) -> u8
+    requires { n ≤ 100 }
+    ensures { result ≡ n + n }
+{
+    n + n
+}
+
+impl Count {
+    ghost use Rattle.a.specs.B.{c};
+
+    // Counts on.
+    fn on(&mut self) {
+        self.n += twice(1);
+    }
+}
+
+impl Display for Count {
+    fn fmt(&self) -> bool {
+        "{ no brace".is_empty()
+    }
+}
+
+pub fn even(n: u8) -> bool {
+    n == 0 || !even(n - 1)
+}
+"""
+
+
+class WrongBodies(unittest.TestCase):
+    def setUp(self):
+        self.top = Path(tempfile.mkdtemp(prefix="test_proofs_"))
+        self.crate = Crate(str(self.top), "a", [], False)
+        (self.top / "crates" / "a" / "src").mkdir(parents=True)
+        (self.top / "crates" / "a" / "src" / "b.rt").write_text(SOURCE, encoding="utf-8")
+
+    def edit(self, text):
+        file = self.top / "one.edit"
+        file.write_text(text, encoding="utf-8")
+        return Edit(self.crate, str(file))
+
+    def placed(self, old, new):
+        edit = self.edit(f"file: src/b.rt\nold: {old}\nnew: {new}\n")
+        self.assertIsNone(edit.why)
+        edit.place()
+        return edit
+
+    def test_functions_of_a_source(self):
+        found = functions_of("src/b.rt", SOURCE)
+        self.assertEqual([it.full() for it in found], ["b::twice", "b::Count::on", "b::Display::fmt", "b::even"])
+        self.assertEqual([it.in_trait for it in found], [False, False, True, False])
+        self.assertTrue(SOURCE[found[0].start :].startswith("/// Doubles"))
+        self.assertEqual(SOURCE[found[0].body : found[0].end], "{\n    n + n\n}")
+
+    def test_an_edit_stands_in_its_function(self):
+        edit = self.placed("    n + n", "    n + 1")
+        self.assertEqual((edit.function.full(), edit.alone), ("b::twice", None))
+        self.assertIn("n + 1", edit.body)
+
+    def test_what_is_tried_alone(self):
+        self.assertEqual(self.placed("n ≤ 100", "n ≤ 10").alone, "it changes a contract or a signature")
+        self.assertEqual(self.placed("no brace", "a brace").alone, "a method of a trait's impl")
+        self.assertEqual(self.placed("n == 0", "n == 1").alone, "it may call itself")
+        self.assertEqual(self.placed("use a::B;", "use a::C;").alone, "it changes no function's body alone")
+
+    def test_what_cannot_be_applied(self):
+        self.assertIn("3 times", self.edit("file: src/b.rt\nold: self\nnew: it\n").why)
+        self.assertIn("no file", self.edit("file: src/c.rt\nold: a\nnew: b\n").why)
+        self.assertIn("below src/", self.edit("file: ../b.rt\nold: a\nnew: b\n").why)
+        self.assertEqual(self.edit("file: src/b.rt\nold:     n + n\nnew:     n + n\n").why, "it changes nothing")
+
+    def test_what_a_run_says(self):
+        said = """src/b.rt:3:1: note: a note
+fn a::b::twice_as_is: proved
+fn a::b::twice_wrong1: no proof: expected answers in ./proofs/b/twice_wrong1/Answers.antt: `search` did not prove `returns`, `two`
+note: src/b.rt:20:5: an open goal (`returns`); the facts known there allow values at which this goal is false
+fn a::b::twice_wrong2: not proved
+proofs/b/twice_wrong2/Answers.antt:4:1: error: `returns`: module `Rattle.a.proofs.b.twice_wrong2.Goals` has no `returns`
+fn a::b::fn::even::on: proved where its callers give what it asks
+fn a::b::even: proved
+"""
+        run = Run(1, said, 1.0)
+        self.assertFalse(run.did_not_compile())
+        self.assertEqual(run.judged("a", "b::twice_as_is"), (SURVIVED, ""))
+        wrong = run.judged("a", "b::twice_wrong1", ("src/b.rt", 18, 24))
+        self.assertEqual(wrong, (REFUSED, "returns (false) two (open)"))
+        self.assertEqual(run.judged("a", "b::twice_wrong2")[0], UNCLEAR)
+        self.assertEqual(run.judged("a", "b::even"), (SURVIVED, ""))
+        self.assertTrue(Run(1, "src/b.rt:3:1: error[mismatched-types]: no", 1.0).did_not_compile())
+
+    def test_answers_are_left_out(self):
+        text = "use A.{b}\n\npub one : goal.one\none c =\n    b c\n\npub two : goal.two\ntwo c = c"
+        self.assertEqual(without(text, {"one"}), "use A.{b}\n\npub two : goal.two\ntwo c = c")
+        self.assertEqual(without(text, {"one", "two"}), "")
+
+
+class AllTests(unittest.TestCase):
+    def test_crates_of_a_list(self):
+        text = "# all\na:\nb tests_may=Threads: a std # above\nc staticlib: a b\n"
+        self.assertEqual(test_all.crates_in(text), {"a": [], "b": ["a", "std"], "c": ["a", "b"]})
+
+    def test_a_crate_as_a_module(self):
+        root = "//! Tests.\n#![tactic(auto)]\n\n#[cfg(test)]\nmod one;\nuse crate::two::three;\n"
+        self.assertEqual(test_all.module_of(root, "a", True), "\nmod one;\nuse crate::a_tests::two::three;\n")
+
+    def test_the_lines_of_the_tool_are_no_output(self):
+        self.assertEqual(test_all.told_alone("ok one\n1 passed, 0 failed\nrun=ended status=0\n"), "ok one\n1 passed, 0 failed\n")
+
+    def test_the_first_difference_is_told(self):
+        self.assertEqual(test_all.first_difference("a\nb\n", "a\nb\n"), "")
+        self.assertEqual(test_all.first_difference("a\nb\n", "a\n"), "line 2\n  is:     b\n  wanted: (the text ends)")
+
+    def test_each_crate_of_tests_is_found(self):
+        below = test_all.crates_in((test_all.TOP / "crates.txt").read_text(encoding="utf-8"))
+        tested = [name for name in below if test_all.has_tests(test_all.CRATES / name)]
+        self.assertGreaterEqual(len(tested), 4)
+        for name in tested:
+            self.assertIn("test_", name)
+
+
+class Shorter(unittest.TestCase):
+    def test_an_answer_stays_where_its_goal_is_dear(self):
+        before = {"a::one": 2.0, "a::two": 0.5}
+        self.assertEqual(dear_functions(before, {"a::one": 2.5, "a::two": 1.75, "a::three": 0.75}), {"a::two"})
+        self.assertEqual(dear_functions({}, {"a::one": 1.5}), {"a::one"})
+
+
+if __name__ == "__main__":
+    unittest.main()
