@@ -1,8 +1,7 @@
-// The tokens of texts, and refused texts.
+// The tokens of a text.
 use std::test::Fail;
-use test_texts::programs::DECIMAL;
 use vap_ast::Name;
-use vap_lex::{LexRefusal, LexWhy, Sign, TokenKind, tokens};
+use vap_lex::{Sign, TokenKind, tokens};
 
 #[test]
 fn a_text_has_its_tokens(rt: HostRuntime) -> Result<(), Fail> {
@@ -27,27 +26,6 @@ fn a_text_has_its_tokens(rt: HostRuntime) -> Result<(), Fail> {
         assert_eq!(rt; (token.place, token.line), (place, line));
         assert!(rt; token.kind == kind, "token {at}");
         at += 1;
-    }
-    Ok(())
-}
-
-const REFUSED: [(&[u8], u32, LexWhy); 7] = [
-    (b"x\n := ?", 2, LexWhy::Byte),
-    (b"\x0c", 1, LexWhy::Byte),
-    (b"x /* y\n", 1, LexWhy::OpenComment),
-    (b"/*/", 1, LexWhy::OpenComment),
-    (DECIMAL, 2, LexWhy::Decimal),
-    (b"2147483648.0", 1, LexWhy::Decimal),
-    (b"2147483647 2147483648", 1, LexWhy::NumberRange),
-];
-
-#[test]
-fn a_wrong_text_is_refused(rt: HostRuntime) -> Result<(), Fail> {
-    for (text, line, why) in REFUSED {
-        match tokens(rt.alloc(), text) {
-            Err(LexRefusal::At { line: l, why: w }) => assert!(rt; l == line && w == why),
-            Ok(_) | Err(LexRefusal::Memory) => assert!(rt; false, "{line}"),
-        }
     }
     Ok(())
 }
