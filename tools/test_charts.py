@@ -14,7 +14,7 @@ from test_acceptance import python_with
 __all__ = ["ChartNumbers", "ChartPictures"]
 
 HERE = Path(__file__).resolve().parent
-EXAMPLES = HERE.parent / "crates" / "test_examples" / "data"
+EXAMPLES = HERE.parent / "crates" / "test_told" / "data"
 HEAD = "second,stage,lasted,to,line,test_line,block,answer,term,term_line,held,alone,text\n"
 ENDS = HEAD + """30,1,30,2,9,7,0,yes,1,7,yes,yes,"Stage_active(1)"
 30,1,30,2,9,8,0,yes,1,8,no,no,"Headway(1) > gap"

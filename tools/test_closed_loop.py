@@ -17,7 +17,7 @@ import reading
 __all__ = ["Queues", "SeenByDetectors", "ClosedLoop"]
 
 HERE = Path(__file__).resolve().parent
-EXAMPLE = HERE.parent / "crates" / "test_examples" / "data" / "two_stages"
+EXAMPLE = HERE.parent / "crates" / "test_told" / "data" / "two_stages"
 PLAIN = {"speed": 50, "start_lag": 1.0, "end_gain": 1.0, "warm_up": 0, "seconds": 3600}
 STAND_IN = """#!{python}
 import sys
