@@ -248,21 +248,21 @@ class Fresh(unittest.TestCase):
     """The commands that tools/try_fresh.py takes from a page."""
 
     def test_blocks(self):
-        page = "# P\n\n    cd a\n    b\n\nText\n\n    not a command\n\n```sh\none\n```\n\n```\nshown\n```\n\n## Q\n\n    rt try\n"
-        self.assertEqual(try_fresh.blocks_of(page), ["cd a\nb\n", "one\n", "rt try\n"])
-        self.assertEqual(try_fresh.blocks_of(try_fresh.section_of(page, "Q")), ["rt try\n"])
-        packages = try_fresh.packages_of(["apt-get install a\n", "apt-get install b\nc\n", "d\n"])
-        self.assertEqual(packages, (["apt-get install a", "apt-get install b"], ["c\n", "d\n"]))
+        page = "# P\n\n    cd a\n    b\n\nText\n\n    not a command\n\n```sh\none \\\n  two\nthree\n```\n\n```\nshown\n```\n\n## Q\n\n    rt try\n"
+        self.assertEqual(try_fresh.commands_of(page), ["cd a\n", "b\n", "one \\\n  two\n", "three\n", "rt try\n"])
+        self.assertEqual(try_fresh.commands_of(try_fresh.section_of(page, "Q")), ["rt try\n"])
+        packages = try_fresh.packages_of(["apt-get install a\n", "c\n", "d\n"])
+        self.assertEqual(packages, (["apt-get install a\n"], ["c\n", "d\n"]))
 
     def test_the_pages_have_commands(self):
         for page, title in [("README.md", "Try it"), ("docs/archive.md", None)]:
             text = (TOP / page).read_text(encoding="utf-8")
-            self.assertTrue(try_fresh.blocks_of(try_fresh.section_of(text, title)), page)
+            self.assertTrue(try_fresh.commands_of(try_fresh.section_of(text, title)), page)
 
     def test_a_script_ends_where_a_block_fails(self):
         with tempfile.TemporaryDirectory() as folder:
             for blocks, status, ended in [
-                (["a=1\n", "test $a = 1\n(exit 3)    # status 3\n"], 0, 2),
+                (["a=1\n", "test $a = 1\n", "(exit 3)    # status 3\n"], 0, 3),
                 (["a=1\n", "test $a = 2\n", "touch b\n"], 1, 1),
                 (["(exit 3)    # status 2\n", "touch b\n"], 1, 0),
             ]:

@@ -2,13 +2,13 @@
 """tools/try_fresh.py [--root FOLDER] [--keep]
 tools/try_fresh.py --archive FILE [--root FOLDER] [--keep]
 
-Runs, as root of a Debian, what a newcomer is told to run, in a fresh root of Debian made by debootstrap: the section `Try it` of
-README with the Rattle kit in a clone of the last commit on Debian 12, in ten minutes at most; or docs/archive.md from an archive of
-tools/release.py on Debian 11, in one minute at most. Each on two processors.
+Runs, as root of a Debian, what a newcomer is told to run, in a fresh root of Debian made by debootstrap: the section `Try it`
+of README with the Rattle kit in a clone of the last commit on Debian 12, in ten minutes at most; or docs/archive.md from an
+archive of tools/release.py on Debian 11, in one minute at most. Each on two processors.
 
-Of a page the indented blocks that begin with a command are run, and the fenced blocks `sh`, all in one shell, in their order. Each is
-told with its seconds; lines that begin with apt-get are run before all others, and not counted. --root takes a root that is there in the
-place of a new one; --keep leaves it."""
+Of a page the indented blocks that begin with a command are run, and the fenced blocks `sh`, all in one shell, in their order.
+Each line is told with its seconds; lines that begin with apt-get are run before all others, and not counted. --root takes a
+root that is there in the place of a new one; --keep leaves it."""
 import argparse
 import os
 import re
@@ -28,7 +28,7 @@ MIRROR = "http://deb.debian.org/debian"
 LIMITS = {"README.md": 600, "archive.md": 60}
 PROCESSORS = "0,1"
 HOME = "/home/newcomer"
-# tells behind each block, in a file, how it ended and when
+# tells behind each command, in a file, how it ended and when
 TOLD = 'echo "$? $(date +%s.%N)" >> /tmp/told'
 
 
@@ -43,24 +43,29 @@ def section_of(text, title):
     return text.split(f"\n## {title}\n", 1)[1].split("\n## ", 1)[0]
 
 
-def blocks_of(text):
-    """The commands of a page, block by block: fenced as `sh`, or indented and beginning with a command."""
-    found, at = [], 0
+def lines_of(block):
+    """The lines of a block, those that end with a backslash with the next one."""
+    return [line + "\n" for line in re.split(r"(?<!\\)\n", block.rstrip("\n"))]
+
+
+def commands_of(text):
+    """The commands of a page, line by line: of the blocks that are fenced as `sh`, or indented and begin with a command."""
+    found = []
     for part in re.finditer(r"^```(\w*)\n(.*?)^```$|((?:^    [^\n]*\n)+)", text, re.MULTILINE | re.DOTALL):
         if part[3]:
             block = re.sub(r"^    ", "", part[3], flags=re.MULTILINE)
             if check_pages.is_command(block.splitlines()):
-                found.append(block)
+                found += lines_of(block)
         elif part[1] == "sh":
-            found.append(part[2])
+            found += lines_of(part[2])
     return found
 
 
-def script_of(blocks, folder):
-    """One shell that runs the blocks one after the other, and ends where a command ends otherwise than it is told."""
+def script_of(commands, folder):
+    """One shell that runs the commands one after the other, and ends where one ends otherwise than it is told."""
     lines = ["set -e -o pipefail", f"cd {folder}"]
-    for block in blocks:
-        lines += [*(check_pages.command_of(line) for line in block.splitlines()), TOLD]
+    for command in commands:
+        lines += [check_pages.command_of(command.rstrip("\n")), TOLD]
     return "\n".join(lines) + "\n"
 
 
@@ -91,33 +96,31 @@ def fresh_root(suite, root):
     call("debootstrap", "--variant=minbase", suite, root, MIRROR, stdout=subprocess.DEVNULL)
 
 
-def packages_of(blocks):
-    """The lines that install packages, and the blocks without them."""
-    lines = [line for block in blocks for line in block.splitlines() if line.startswith("apt-get")]
-    left = ["".join(line for line in block.splitlines(keepends=True) if not line.startswith("apt-get")) for block in blocks]
-    return lines, [block for block in left if block.strip()]
+def packages_of(commands):
+    """The commands that install packages, and the others."""
+    packages = [command for command in commands if command.startswith("apt-get")]
+    return packages, [command for command in commands if command not in packages]
 
 
 def run_page(root, page, title, folder, path):
     """Runs the commands of a page; answers the seconds that they took."""
-    blocks = blocks_of(section_of(page.read_text(encoding="utf-8"), title))
-    packages, blocks = packages_of(blocks)
-    if not blocks:
+    packages, commands = packages_of(commands_of(section_of(page.read_text(encoding="utf-8"), title)))
+    if not commands:
         raise Failed(f"{page.name} has no command")
-    before = "\n".join(["apt-get -qq update", *packages, ""]) if packages else ""
+    before = "".join(["apt-get -qq update\n", *packages]) if packages else ""
     if before and inside(root, f"set -e\n{before}"):
         raise Failed("the packages that the page names can't be installed")
     told = root / "tmp" / "told"
     told.unlink(missing_ok=True)
     begin = last = time.time()
-    status = inside(root, script_of(blocks, folder), path, PROCESSORS)
-    ended = told.read_text().split("\n")[:-1] if told.exists() else []
-    for block, line in zip(blocks, ended):
+    status = inside(root, script_of(commands, folder), path, PROCESSORS)
+    ended = told.read_text().splitlines() if told.exists() else []
+    for command, line in zip(commands, ended):
         at = float(line.split()[1])
-        print(f"{at - last:6.1f} s  {block.splitlines()[0][:100]}")
+        print(f"{at - last:6.1f} s  {command.rstrip()[:110]}")
         last = at
-    if status or len(ended) < len(blocks):
-        raise Failed(f"status {status} at\n{blocks[min(len(ended), len(blocks) - 1)]}")
+    if status or len(ended) < len(commands):
+        raise Failed(f"status {status} at\n{commands[min(len(ended), len(commands) - 1)]}")
     return time.time() - begin
 
 
