@@ -14,7 +14,7 @@ pub struct Brackets {
     pub end: usize,
 }
 
-// Where a token stands: outside of every TRACE, behind the word, or in its brackets, with so many others open.
+/// Where a token stands: outside of every TRACE, behind the word, or in its brackets, with so many others open.
 #[derive(Clone, Copy)]
 pub enum Where {
     Outside,
