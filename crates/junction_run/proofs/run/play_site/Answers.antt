@@ -31,8 +31,8 @@ returns-in-Ok-play-clause-guarded g c =
     let played = c.play.ensures.played store made.stands in
     log_guarded c.play.result (playing_of c.in-Ok.controller store) played.0 _ _ (rw made.site made.two_way) (rw made.site c.requires.times) played.1
 
-pub returns-clause-played : goal.returns-clause-played
-returns-clause-played g c = λ file e.
+pub returns-in-Err-play-clause-played : goal.returns-in-Err-play-clause-played
+returns-in-Err-play-clause-played g c = λ file e.
     let made = c.in-Ok.ensures in
     let start = c.in-Ok.controller in
     let store : Store = first_store c.args.site.code in
@@ -40,12 +40,12 @@ returns-clause-played g c = λ file e.
     was_played (playing_of start store) (sites.playing_in c.args.site) c.args.detectors.now (name_of c.in-Ok-make.lines) file _ played.0 _ _
     (log_is c.args.site.code start (sites.site_in c.args.site) played.0 made.logic made.site) c.in-Ok-make.ensures.name played.1 (played.2 file e)
 
-pub returns-clause-guarded : goal.returns-clause-guarded
-returns-clause-guarded g c =
+pub returns-in-Err-play-clause-guarded : goal.returns-in-Err-play-clause-guarded
+returns-in-Err-play-clause-guarded g c =
     let made = c.in-Ok.ensures in
     let store : Store = first_store c.args.site.code in
     let played = c.play.ensures.played store made.stands in
     log_guarded c.play.result (playing_of c.in-Ok.controller store) played.0 _ _ (rw made.site made.two_way) (rw made.site c.requires.times) played.1
 
-pub returns-clause-unwritten : goal.returns-clause-unwritten
-returns-clause-unwritten g c = λ none. absurd (plays_may_write c.in-Err-play.stop none)
+pub returns-in-Err-play-clause-unwritten : goal.returns-in-Err-play-clause-unwritten
+returns-in-Err-play-clause-unwritten g c = λ none. absurd (plays_may_write c.in-Err-play.stop none)
