@@ -5,12 +5,25 @@
 //! refused.
 #![tactic(auto)]
 
+use form_help::{help_asked, report_form, report_line, report_more};
 use report_judged::{has_site, report_breaches, report_protocol, report_refusals, report_site};
 use report_seen::{Status, Stop, exit_status, report, report_compare, report_sums, write_stop};
-use sig_io::{DiskFiles, ErrSink, Files, OutSink, Sink, words_of};
+use sig_io::{DiskFiles, ErrSink, Files, OutSink, Sink, put_each, words_of};
 use std::alloc::Global;
 use std::env;
 use std::process::ExitCode;
+
+// Writes the help of a form where the words ask for it, and answers the exit status; None where they don't.
+fn tell_help<O: Sink, N: Sink>(words: &[String], out: &mut O, notes: &mut N) -> Option<u8> {
+    let form = report_form(help_asked(words)?)?;
+    match put_each(out, &[report_line(form), b"\n", report_more(form)]) {
+        Ok(()) => Some(exit_status(Status::Done)),
+        Err(_fault) => {
+            write_stop(notes, words, &Stop::WriteFault);
+            Some(exit_status(Status::WriteFault))
+        }
+    }
+}
 
 // Does what the words ask for, and answers the exit status.
 fn answer<F: Files, O: Sink, N: Sink>(
@@ -20,6 +33,9 @@ fn answer<F: Files, O: Sink, N: Sink>(
     out: &mut O,
     notes: &mut N,
 ) -> u8 {
+    if let Some(status) = tell_help(words, out, notes) {
+        return status;
+    }
     match words.first() {
         Some(word) if word.as_str() == "sums" => {
             exit_status(report_sums(alloc, words, files, out, notes))
