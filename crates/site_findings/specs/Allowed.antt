@@ -14,9 +14,13 @@ use Rattle.site_findings.specs.Warnings.{warning_name, warning_text}
 abbrev pub parts_words : ℕ → Bool
 parts_words b = not (is_letter b) && not (is_digit b)
 
--- a sentence has this word, whatever its case; no sentence has an empty one
+-- one of the words of a sentence is this text, whatever its case
+abbrev pub is_among : List ℕ → List ℕ → Bool
+is_among sentence word = list_any (λ w. same_name word w) (slice_split parts_words sentence)
+
+-- a sentence has this word; no sentence has an empty one
 abbrev pub has_word : List ℕ → List ℕ → Bool
-has_word sentence word = not (length word == 0) && list_any (λ w. same_name word w) (slice_split parts_words sentence)
+has_word sentence word = not (length word == 0) && is_among sentence word
 
 -- a sentence has each of these words, which commas part
 abbrev pub has_words : List ℕ → List ℕ → Bool

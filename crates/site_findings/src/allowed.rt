@@ -1,6 +1,6 @@
 // Warnings that are allowed, so that they are not told.
 ghost use Rattle.std.specs.Prelude.{◌≡◌, [], map, string_bytes, true, IfOk};
-ghost use Rattle.site_findings.specs.Allowed.{IsKept, allowed_in, allows, behind_allowed, has_word, has_words, is_allowed, is_allowed_told, kept, parts_words};
+ghost use Rattle.site_findings.specs.Allowed.{IsKept, allowed_in, allows, behind_allowed, has_word, has_words, is_allowed, is_among, is_allowed_told, kept, parts_words};
 ghost use Rattle.site_findings.specs.Warnings.{warning_name, warning_text};
 
 use crate::finding::{Examined, Finding, Told, Warning};
@@ -17,14 +17,20 @@ fn parts_words(b: u8) -> bool
     !is_letter(b) && !is_digit(b)
 }
 
+// Whether one of the words of a sentence is this text, whatever its case.
+fn is_among(sentence: &[u8], word: &[u8]) -> bool
+    ensures { result ≡ is_among sentence.now word.now }
+{
+    sentence
+        .split(|b| parts_words(*b))
+        .any(|w| same_name(word, w))
+}
+
 // Whether a sentence has this word, whatever its case. No sentence has an empty one.
 fn has_word(sentence: &[u8], word: &[u8]) -> bool
     ensures { result ≡ has_word sentence.now word.now }
 {
-    !word.is_empty()
-        && sentence
-            .split(|b| parts_words(*b))
-            .any(|w| same_name(word, w))
+    !word.is_empty() && is_among(sentence, word)
 }
 
 // Whether a sentence has each of these words, which commas part.

@@ -3,7 +3,7 @@ use Rattle.std.proofs.lemmas.Iterator.Search.{any_from_yields_List}
 use Rattle.std.proofs.lemmas.Iterator.Splits.{YieldsList-from_slice_split}
 use Rattle.sig_types.specs.Text.{same_name}
 use Rattle.site_findings.specs.Allowed.{parts_words}
-use Rattle.site_findings.proofs.allowed.has_word.Goals as goal
+use Rattle.site_findings.proofs.allowed.is_among.Goals as goal
 
 pub returns : goal.returns
 returns c =
