@@ -28,6 +28,7 @@ function breachTables(log, [from, to]) {
 function showSums() {
   if (!state.log) return;
   const { log } = state, [from, to] = sumSeconds();
+  showChart([from, to]);
   if (summed.site === state.site && summed.from === from && summed.to === to) return;
   summed = { site: state.site, from, to };
   const title = `Sums of ${log.unit === 1 ? "seconds" : "times"} ${timeText(log, from)} to ${timeText(log, to)}`;

@@ -1,4 +1,4 @@
-// The judge of the page against breaches that were told apart from it (data/judged.json: logs by seconds and records in tenths, with
+// The judge of the page against breaches that were told apart from it (data/judge/breaches.json: logs by seconds and records in tenths, with
 // their tables), and on the field records: node judge_test.js [LOG_REPORT]; where the program is named, it is asked about them too.
 "use strict";
 const assert = require("assert"), fs = require("fs"), path = require("path"), { spawnSync } = require("child_process");
@@ -14,7 +14,7 @@ function tablesOf(log, times, intergreens) {
   return { times: readTimes(log.names, times, log.unit), intergreens: readIntergreens(log.names, intergreens, log.unit) };
 }
 
-const cases = JSON.parse(fs.readFileSync(path.join(__dirname, "data", "judged.json"), "utf8"));
+const cases = JSON.parse(fs.readFileSync(path.join(__dirname, "data", "judge", "breaches.json"), "utf8"));
 test(`the breaches of ${cases.filter(({ told }) => told).length} logs and records`, () => {
   for (const { name, log: text, times, intergreens, told } of cases.filter((one) => one.told)) {
     const log = readAny(text);

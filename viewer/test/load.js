@@ -4,7 +4,7 @@ const fs = require("fs"), path = require("path"), vm = require("vm");
 
 const viewer = path.join(__dirname, ".."), repository = path.join(viewer, "..");
 const context = vm.createContext({ TextDecoder });
-for (const name of ["words", "log_reader", "record_reader", "site", "model", "judge", "sums", "why"]) {
+for (const name of ["words", "log_reader", "record_reader", "site", "model", "judge", "sums", "why", "arrivals"]) {
   vm.runInContext(fs.readFileSync(path.join(viewer, `${name}.js`), "utf8"), context, { filename: `${name}.js` });
 }
 

@@ -84,3 +84,15 @@ test("sentences on the runs of the examples are true", () => {
   }
   assert.ok(count >= 50);
 });
+
+const { cyclesOf, arrivalNumbers } = page("cyclesOf", "arrivalNumbers");
+test("arrivals against green are those of a count by hand, and of the four arms", () => {
+  const fronts = { 2: 1, 4: 1, 7: 2, 10: 1 };
+  const log = read("VAPLOG 1 K1", ...[..."RGGRRRGGGRRG"].map((letter, k) => `${k + 1}|-|${letter}|${fronts[k + 1] ? `1:${fronts[k + 1]}:0` : "-"}|-|-`));
+  const told = (travel) => JSON.stringify(cyclesOf(log, 0, [1], travel, [1, log.seconds]));
+  assert.strictEqual(told(0), JSON.stringify([{ begin: 4, end: 10, green: [3, 6], arrivals: [[0, false], [3, true], [3, true]] }]));
+  assert.strictEqual(told(2), JSON.stringify([{ begin: 4, end: 10, green: [3, 6], arrivals: [[0, false], [2, false], [5, true], [5, true]] }]));
+  const four = readLog(fs.readFileSync(path.join(examples, "four_arms", "log.txt"))), cycles = cyclesOf(four, 0, [1, 2], 0, [1, four.seconds]);
+  const { came, inGreen, share, ratio } = arrivalNumbers(cycles);
+  assert.deepStrictEqual([cycles.length, came, Math.round(100 * inGreen), Math.round(100 * share), ratio.toFixed(2)], [41, 1077, 26, 27, "0.98"]);
+});
