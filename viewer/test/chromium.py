@@ -27,7 +27,7 @@ class Chromium:
                 "goog:chromeOptions": {"binary": BROWSER, "args": words, "prefs": prefs},
                 "goog:loggingPrefs": {"browser": "ALL"},
             }
-            self.base += "/session/" + self.ask("POST", "/session", {"capabilities": {"alwaysMatch": wanted}})["sessionId"]
+            self.base += "/session/" + self.session({"capabilities": {"alwaysMatch": wanted}})
             screen = {"width": width, "height": height, "deviceScaleFactor": 1, "mobile": False}
             self.devtools("Emulation.setDeviceMetricsOverride", **screen)
             scheme = {"name": "prefers-color-scheme", "value": "dark" if is_dark else "light"}
@@ -35,6 +35,15 @@ class Chromium:
         except BaseException:
             self.driver.kill()
             raise
+
+    def session(self, wanted):
+        """A new session. On a busy machine Chromium may begin too late for its driver, and is asked again."""
+        for is_last in (False, False, True):
+            try:
+                return self.ask("POST", "/session", wanted)["sessionId"]
+            except OSError as fault:
+                if is_last or "session not created" not in str(fault):
+                    raise
 
     def port(self):
         for line in self.driver.stdout:
