@@ -7,7 +7,7 @@ answer: the verdict; what was judged, by which tables, with the checksums of all
 conflict; each breach by time of the day; what came beside the tables, with what falls below them marked; a picture of each
 place with the seconds around it; and what of all this is proved, and what isn't.
 
-RECORD is a record in tenths (VAPRECORD 1) or a log (VAPLOG 1). --begin TIME, as 12.05.2026 07:00:00, is the moment of its time
+RECORD is a record in tenths (VAPRECORD 1) or a log (VAPLOG 1), which --plan PUA gives its plan. --begin TIME, as 12.05.2026 07:00:00, is the moment of its time
 0.0 (of a log: the begin of second 1); without it times are seconds of the record alone. --source FILE names a file of which the
 record was made, for its checksum; --notes FILE holds what the converter told of it on standard error. --program FILE is the
 log_report to call, else the one that is found by its name.
@@ -140,7 +140,7 @@ class Report:
         self.program = shutil.which(given.program)
         if self.program is None:
             raise Failed(6, f"{given.program}: there is no such program; --program names it")
-        files = [given.record, given.times, given.intergreens]
+        files = [given.record, *([given.plan] if given.plan else []), given.times, given.intergreens]
         tolerance = ["--amber-tolerance", given.amber_tolerance] if given.amber_tolerance else []
         rows, self.status, self.judged = called(self.program, "breaches", *files, *tolerance)
         self.came, _, self.protocol = called(self.program, "protocol", *files)
@@ -175,8 +175,9 @@ class Report:
     def files(self):
         """The rows of the table of files: role, name, bytes, checksum."""
         given = self.given
-        named = [("source of the record", file) for file in given.source] + [("record", given.record), ("table of times", given.times),
-                 ("table of intergreens", given.intergreens), ("program", self.program), ("script of this report", __file__)]
+        sources, plans = [("source of the record", file) for file in given.source], [("plan", given.plan)] if given.plan else []
+        tables = [("table of times", given.times), ("table of intergreens", given.intergreens)]
+        named = [*sources, ("record", given.record), *plans, *tables, ("program", self.program), ("script of this report", __file__)]
         return [(role, Path(file).name if role != "program" else str(file), Path(file).stat().st_size, checksum(file)) for role, file in named]
 
     def version(self):
@@ -258,6 +259,7 @@ def read_words():
     words.add_argument("--to", required=True, metavar="REPORT", help="the file to write, .pdf or .html")
     words.add_argument("--title", default="Record of a signal controller, judged by its tables", metavar="TEXT")
     words.add_argument("--begin", type=moment, metavar="TIME", help="the moment of time 0.0 of the record, or of second 1 of a log")
+    words.add_argument("--plan", metavar="PUA", help="the PUA file of the junction, which a log may be judged with")
     words.add_argument("--source", action="append", default=[], metavar="FILE", help="a file of which the record was made")
     words.add_argument("--notes", action="append", default=[], metavar="FILE", help="what the converter told")
     words.add_argument("--amber-tolerance", type=seconds, metavar="N", help="as of `log_report breaches`")

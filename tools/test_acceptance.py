@@ -141,6 +141,19 @@ class Acceptance(unittest.TestCase):
         self.assertIn("<li>0.0 is &lt;then&gt;</li>", text)
         self.assertIn("log_report, stored answers", text)
 
+    def test_a_log_with_its_plan(self):
+        log, plan = self.folder / "log", self.folder / "plan.pua"
+        log.write_text("VAPLOG 1 K1 K2 K3 F1 F2 ST\n" + "".join(f"{k}|-|RRRRRR|-|-|-\n" for k in range(101, 901)), encoding="ascii")
+        plan.write_text("$SIGNAL_GROUPS\n", encoding="ascii")
+        call = [python_with("jinja2"), "-B", HERE / "acceptance.py", log, GERMAN / "times.csv", GERMAN / "intergreens.csv", "--plan", plan,
+                "--to", self.folder / "log.html", "--program", self.stand_in(), "--begin", "2026-05-12 07:00:00"]
+        done = subprocess.run(list(map(str, call)), capture_output=True, text=True)
+        self.assertEqual((done.returncode, done.stderr), (1, ""))
+        text = (self.folder / "log.html").read_text(encoding="utf-8")
+        self.assertIn(f"log_report breaches {log} {plan} {GERMAN}/times.csv {GERMAN}/intergreens.csv --csv", text)
+        self.assertIn("07:01:40 to 07:15:00", text)
+        self.assertIn("A log of whole seconds doesn't show what falls short by less than a second", text)
+
     def test_without_a_breach(self):
         answers = self.folder / "answers"
         answers.mkdir()
