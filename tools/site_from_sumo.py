@@ -40,11 +40,12 @@ def words_of(text):
                        help="without a maxDur, 50, or the network's own green where that is longer")
     words.add_argument("--program", metavar="ID", help="which of several programs of the light; else the one that runs")
     words.add_argument("--round-up", action="store_true", help="take phases without whole seconds as the next longer ones")
-    words.add_argument("--gap", type=whole_from(0, 99), default=1, metavar="S", help="seconds of empty lane areas, 1")
+    words.add_argument("--gap", type=whole_from(0, 99), default=0, metavar="S",
+                       help="seconds for which the lane areas are empty before a stage ends, 0")
     words.add_argument("--begin", type=whole_from(0, 604_800), default=0, metavar="S",
                        help="the simulation's first second, from which coordinated.vap counts, 0")
-    words.add_argument("--area-seconds", type=clearing.number_from(0.1), default=2.0, metavar="S",
-                       help="length of a lane area at the lane's speed, 2")
+    words.add_argument("--area-seconds", type=clearing.number_from(0.1), default=4.0, metavar="S",
+                       help="length of a lane area at the lane's speed, 4")
     clearing.add_options(words)
     return words
 

@@ -20,6 +20,7 @@ MEANS = ["loss", "stops", "queue", "walkers_loss"]
 COUNTS = ["teleports", "collisions", "emergency_stops", "refused", "faults", "unsafe"]
 FIELDS = ["net", "demand", "seconds", "name", "seed", "inputs", "vehicles", "people", "walkers", *MEANS, "outside",
           "waiting_outside", *COUNTS, "lights", "clock", "steps", "detectors", "controllers", "signals"]
+NOT_JUDGED = ""  # in the column of logs that aren't safe, where no program is there to judge them
 OWN_CONTROLS = ("static", "actuated", "delay_based")
 
 
@@ -61,11 +62,11 @@ def tasks_of(given, controls):
             is_own = one["control"] in OWN_CONTROLS
             files = [demand["net"], *([demand["routes"]] if demand["routes"] else []), *additional,
                      *files_of_sites(one["control"], one["program"], one["sites"]),
-                     *([] if is_own or given.library or not program else [program])]
+                     *([] if is_own or not program else [program])]
             lights = [light for light, _ in sites_of(one["sites"])]
             said = [one["control"], one["program"], lights, words, seed, demand["period"], demand["walkers"], given.library]
             tasks.append({**demand, "name": name, "seed": seed, "sites": one["sites"], "inputs": run_sum(files, said),
-                          "junction": "" if is_own or given.library else asked[1],
+                          "junction": str(Path(program).resolve()) if program and not is_own else "", "is_own": is_own,
                           "words": [*asked, "--control", one["control"], "--program", one["program"], *words,
                                     *(word for file in additional for word in ("--additional", file))]})
     return tasks
@@ -121,7 +122,8 @@ def run_one(task):
         if run.returncode not in (0, 3):
             raise RuntimeError((run.stderr.strip() or f"drive_sumo.py ended with status {run.returncode}").splitlines()[-1])
         told_of = json.loads(run.stdout.splitlines()[-1])
-        return {"faults": 0, "refused": 0, **told_of, "unsafe": unsafe_of(task, folder / "logs") if task["junction"] else 0}
+        unsafe = unsafe_of(task, folder / "logs") if task["junction"] else 0 if task["is_own"] else NOT_JUDGED
+        return {"faults": 0, "refused": 0, **told_of, "unsafe": unsafe}
 
 
 class Progress:

@@ -44,6 +44,12 @@ def difference_of(rows, name, other):
     return ("+" if statistics.mean(pairs) >= 0 else "") + cell_of(pairs, 1) if pairs else ""
 
 
+def total_of(rows, key):
+    """The sum of a column, or that it wasn't judged."""
+    values = [row[key] for row in rows]
+    return "not judged" if "" in values else str(sum(int(value) for value in values))
+
+
 def table_lines(rows, names):
     """The lines of the table: a line a name that has rows."""
     lines = ["| | runs | vehicles | time loss, s | against the first | stops | queue | "
@@ -56,7 +62,7 @@ def table_lines(rows, names):
         vehicles, loss = sum(int(row["vehicles"]) for row in own), cell_of([float(row["loss"]) for row in own], 1)
         cells = [name, str(len(own)), str(vehicles), loss, difference_of(rows, name, names[0]),
                  cell_of([float(row["stops"]) for row in own], 2), cell_of([float(row["queue"]) for row in own], 1)]
-        cells += [str(sum(int(row[key]) for row in own)) for key in COUNTS]
+        cells += [total_of(own, key) for key in COUNTS]
         lines.append("| " + " | ".join(cells) + " |")
     return lines
 
