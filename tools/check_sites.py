@@ -7,6 +7,7 @@ notes.txt tells as permitted or in no conflict, and what `junction audit` (JUNCT
 should be: findings, a log that isn't SAFE, an interstage that isn't clean, a fault. Refused turns are counted: they are safe,
 and tell that an interstage took longer than it is planned. Status 1 where something else was found."""
 import argparse
+import json
 import random
 import re
 import subprocess
@@ -18,7 +19,7 @@ from pathlib import Path
 from reading import table_of, text_of, told, whole_from
 
 FILES = ("on_demand.vap", "junction.pua", "times.csv", "intergreens.csv")
-APART = re.compile(r": no-intergreen: no stage has (\w+) and (\w+) green together")
+APART = re.compile(r"no stage has (\w+) and (\w+) green together")
 WHAT = (("check", "with findings of junction_check"), ("audit", "not SAFE"), ("inter", "interstages not clean"),
         ("fault", "with faults"))
 
@@ -53,19 +54,22 @@ def log_of(given, row, folder):
     return folder / "log"
 
 
-def untold_of(text, notes):
+def untold_of(findings, notes):
     """The findings of junction_check that notes.txt doesn't tell already: pairs of groups that may be green at once do."""
     pairs = {frozenset(pair) for pair in re.findall(r"^(?:no conflict|permitted): (\w+) and (\w+),", notes, re.MULTILINE)}
-    lines = [line for line in text.splitlines() if not line.startswith((" ", "worst case: ", "files refused: "))]
-    return [line for line in lines if not any(frozenset(pair) in pairs for pair in APART.findall(line))]
+    untold = [one for one in findings if one["word"] != "no-intergreen" or not any(
+        frozenset(pair) in pairs for pair in APART.findall(one["sentence"]))]
+    return [f"{one['file']}:{one['line']}: {one['word']}: {one['sentence']}" for one in untold]
 
 
 def findings_of(given, row, log):
     """What is wrong with a site, as words and texts; its seconds, and in how many of them a turn was refused after the first
     20."""
     site = given.sites / row["folder"]
-    check = run(given.check, *(site / name for name in FILES))
-    found = [("check", line) for line in untold_of(check.stdout or check.stderr, text_of(site / "notes.txt"))]
+    check = run(given.check, "--json", *(site / name for name in FILES))
+    findings = [json.loads(line) for line in check.stdout.splitlines()]
+    found = [("check", line) for line in untold_of(findings, text_of(site / "notes.txt"))]
+    found += [("check", check.stderr.strip())] if check.stderr.strip() else []
     audit = run(given.junction, "audit", log, *(site / name for name in FILES[1:]))
     lines = audit.stdout.splitlines() or [audit.stderr.strip()]
     records = [line.split("|") for line in text_of(log).splitlines()[1:]]

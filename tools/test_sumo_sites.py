@@ -136,9 +136,9 @@ class Sites(unittest.TestCase):
         self.assertEqual([stage.most for stage in longer.stages], [90, 50])  # a green without an end is none
 
     def test_phases_with_the_same_greens_are_one_stage(self):
-        site = site_of(phases=[(20, "gG"), (10, "GG"), (3, "yy"), (9, "rG"), (2, "rG"), (3, "ry")])
+        site = site_of(phases=[(20, "gG"), (10, "gg"), (3, "yy"), (9, "rG"), (2, "rG"), (3, "ry")])
         self.assertEqual([stage.phases for stage in site.stages], [[[0, 1]], [[3, 4]]])
-        site = site_of(phases=[(9, "GG"), (3, "yy"), (9, "gG"), (3, "yy"), (9, "rG"), (3, "ry")], r0="10")
+        site = site_of(phases=[(9, "Gg"), (3, "yy"), (9, "gG"), (3, "yy"), (9, "rG"), (3, "ry")])
         self.assertEqual([stage.phases for stage in site.stages], [[[0], [2]], [[4]]])
 
     def test_a_light_of_one_stage_has_all_red_for_the_second(self):
@@ -333,7 +333,8 @@ class Stretches(unittest.TestCase):
         return Network(tree.fromstring(f"<net>{lane}{before + inner + ways if has_before else ''}</net>"))
 
     def test_a_short_lane_goes_on_over_those_before(self):
-        self.assertEqual(stretches.stretch_of(self.network(100), "w_0", 40.0), (["w_0"], 59.9, 99.9))
+        lanes, begin, end = stretches.stretch_of(self.network(100), "w_0", 40.0)
+        self.assertEqual((lanes, round(begin, 1), end), (["w_0"], 59.9, 99.9))
         lanes, begin, end = stretches.stretch_of(self.network(0.2), "w_0", 40.0)
         self.assertEqual((lanes, round(begin, 1), round(end, 1)), (["v_0", ":B_0_0", "w_0"], 43.1, 0.1))
         self.assertEqual(stretches.stretch_of(self.network(9, False), "w_0", 40.0), (["w_0"], 0.1, 8.9))
