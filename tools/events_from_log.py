@@ -10,7 +10,8 @@ In the first second each phase tells what it shows: 1 green, 8 amber, 12 red. La
 amber 9, 10 and 11 in one second, since a log has no red clearance. Walks have 21, and 22 and 23 at their end; overlaps 61, 63,
 64 and 65. Red-amber isn't in the enumeration and is red. Detectors go on (82) with the first vehicle that covers them and off
 (81) with the last. log_from_events.py makes the same pictures of it, with --times also the red-ambers; `--seconds` gives those
-after the last event. What is lost stands in docs/records.md."""
+after the last event. A vehicle that comes while another one covers its detector has no event: how many these are is told on
+standard error. What else is lost stands in docs/records.md."""
 import argparse
 import csv
 import datetime
@@ -91,6 +92,30 @@ def events_of(names, records, groups, detectors):
     return events
 
 
+def lost_of(records):
+    """What events don't tell: the seconds with counts without an event, the vehicles that came while their detector was covered,
+    and the detectors."""
+    inside, seconds, vehicles, detectors = {}, set(), 0, set()
+    for second, _, entries in records:
+        for detector, fronts, rears in entries:
+            codes, inside[detector] = detector_codes(inside.get(detector, 0), fronts, rears)
+            if len(codes) < fronts + rears:
+                seconds.add(second)
+                detectors.add(detector)
+                vehicles += fronts - codes.count(DETECTOR_ON)
+    return len(seconds), vehicles, sorted(detectors)
+
+
+def lost_told(records):
+    """The sentence on it; nothing where events tell all."""
+    seconds, vehicles, detectors = lost_of(records)
+    if not seconds:
+        return ""
+    numbers = ", ".join(map(str, detectors))
+    return (f"in {seconds} seconds counts have no event: {vehicles} vehicles came while others covered detector"
+            f"{'s' * (len(detectors) > 1)} {numbers}, and on and off can't tell them")
+
+
 def main():
     words = argparse.ArgumentParser(description=__doc__, formatter_class=argparse.RawDescriptionHelpFormatter)
     words.add_argument("--map", metavar="MAP")
@@ -110,6 +135,8 @@ def main():
         rows += [f"detector,{number},{detector}\n" for number, detector in detectors.items()]
         with told(given.write_map), open(given.write_map, "w", encoding="ascii") as out:
             out.writelines(["kind,number,name\n", *rows])
+    if lost_told(records):
+        print(f"{given.log}: {lost_told(records)}", file=sys.stderr)
     out = csv.writer(sys.stdout, lineterminator="\n")
     before = [given.signal] if given.signal else []
     out.writerow((["SignalID"] if given.signal else []) + ["Timestamp", "EventCode", "EventParam"])

@@ -9,11 +9,12 @@ from pathlib import Path
 from types import SimpleNamespace
 
 import controllers
+import events_from_log
 import judge_sumo
 import reading
 from sumo import detectors, drive, scenario
 
-__all__ = ["Protocol", "Driver", "Scenario", "SecondJudge"]
+__all__ = ["Protocol", "Driver", "Scenario", "SecondJudge", "EventsOfAreas"]
 
 HAS_LIBRARY = bool(importlib.util.find_spec("vantulig")) or (controllers.LIBRARY / "vantulig" / "libjunction.so").exists()
 
@@ -233,3 +234,14 @@ class SecondJudge(unittest.TestCase):
         self.assertTrue(judge_sumo.is_crossed([(0, 0), (10, 0)], [(5, -5), (5, 5)]))
         for other in ([(0, 1), (10, 1)], [(10, 0), (10, 5)], [(5, 1), (5, 5)]):
             self.assertFalse(judge_sumo.is_crossed([(0, 0), (10, 0)], other))
+
+
+class EventsOfAreas(unittest.TestCase):
+    """A lane area holds several vehicles at once, and events tell the first that covers it and the last that leaves it."""
+
+    def test_what_events_lose_is_told(self):
+        records = [(1, "R", [(4, 1, 0)]), (2, "R", [(4, 1, 0), (2, 1, 1)]), (3, "R", [(4, 0, 1)]), (4, "R", [(4, 0, 1)])]
+        self.assertEqual(events_from_log.lost_of(records), (2, 1, [4]))
+        self.assertEqual(events_from_log.lost_told(records), "in 2 seconds counts have no event: 1 vehicles came while others "
+                         "covered detector 4, and on and off can't tell them")
+        self.assertEqual(events_from_log.lost_told(records[:1]), "")
