@@ -28,9 +28,14 @@ fn do_form<'a, F: Files, O: Sink>(
     ensures read { IsFault result → Rose (F.faults files.old) (F.faults files.new) }
     ensures write { result ≡ Err JudgeStop.WriteFault → Rose (O.faults out.old) (O.faults out.new) }
 {
-    let one = load(alloc, form.one, files)?;
-    let other = load(alloc, form.other, files)?;
-    tell(alloc, form, &one, &other, out)
+    let one = match load(alloc, form.one, files) {
+        Ok(one) => one,
+        Err(stop) => return Err(stop),
+    };
+    match load(alloc, form.other, files) {
+        Ok(other) => tell(alloc, form, &one, &other, out),
+        Err(stop) => Err(stop),
+    }
 }
 
 // How a call ended that was not stopped.

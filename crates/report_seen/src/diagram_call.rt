@@ -127,14 +127,14 @@ fn do_form<F: Files, O: Sink>(
     match form {
         Form::Help => write_usage(out),
         Form::Version => write_version(out),
-        Form::Diagram(log, window, look) => {
-            let diagram = gather(alloc, files, log, window)?;
-            write_diagram(&diagram, look, out)
-        }
-        Form::Text(log, window) => {
-            let diagram = gather(alloc, files, log, window)?;
-            write_letters(&diagram, out)
-        }
+        Form::Diagram(log, window, look) => match gather(alloc, files, log, window) {
+            Ok(diagram) => write_diagram(&diagram, look, out),
+            Err(stop) => Err(stop),
+        },
+        Form::Text(log, window) => match gather(alloc, files, log, window) {
+            Ok(diagram) => write_letters(&diagram, out),
+            Err(stop) => Err(stop),
+        },
     }
 }
 

@@ -112,9 +112,14 @@ fn do_whole<F: Files, O: Sink>(
         Ok(records) => records,
         Err(stop) => return Err(stop_of(stop)),
     };
-    let serves = serves_for(alloc, records.names(), form.serves)?;
-    let sums = add_up(alloc, &mut records, form.from, form.to, &serves, files)?;
-    write_sums(form.csv, records.names(), &sums, out)
+    let serves = match serves_for(alloc, records.names(), form.serves) {
+        Ok(serves) => serves,
+        Err(stop) => return Err(stop),
+    };
+    match add_up(alloc, &mut records, form.from, form.to, &serves, files) {
+        Ok(sums) => write_sums(form.csv, records.names(), &sums, out),
+        Err(stop) => Err(stop),
+    }
 }
 
 // Does what is asked for of parts of so many seconds.
@@ -138,8 +143,11 @@ fn do_parts<F: Files, O: Sink>(
         Ok(records) => records,
         Err(stop) => return Err(stop_of(stop)),
     };
-    let serves = serves_for(alloc, records.names(), form.serves)?;
-    let parts = add_up_parts(
+    let serves = match serves_for(alloc, records.names(), form.serves) {
+        Ok(serves) => serves,
+        Err(stop) => return Err(stop),
+    };
+    match add_up_parts(
         alloc,
         &mut records,
         form.from,
@@ -147,8 +155,10 @@ fn do_parts<F: Files, O: Sink>(
         form.to,
         &serves,
         files,
-    )?;
-    write_parts(form.csv, records.names(), &parts, out)
+    ) {
+        Ok(parts) => write_parts(form.csv, records.names(), &parts, out),
+        Err(stop) => Err(stop),
+    }
 }
 
 // Does what is asked for.

@@ -13,31 +13,31 @@ returns-in-Err-clause-answered g c file told =
     rw c.stop_of.ensures
     (unsummed (asked_in c.args.form.now) file _ _ _ (unread [] (file c.args.form.now.log.now) [] c.in-Err.stop (c.in-Err.ensures.opened file told [])) refl)
 
-pub returns-in_err-serves-clause-answered : goal.returns-in_err-serves-clause-answered
-returns-in_err-serves-clause-answered g c file told =
+pub returns-in-Err-serves_for-clause-answered : goal.returns-in-Err-serves_for-clause-answered
+returns-in-Err-serves_for-clause-answered g c file told =
     let form = c.args.form.now in
     let first = c.in-Ok.records in
-    unserved (asked_in form) file (names_of first) c.in_err-serves.field-0 _ _ (head_named first (file form.log.now) c.in-Ok.ensures.found (c.in-Ok.ensures.opened file told))
-    c.in_err-serves.ensures.stop (λ words. rw c.names.ensures.names at (c.in_err-serves.ensures.lacking (ap Err words))) refl
+    unserved (asked_in form) file (names_of first) c.in-Err-serves_for.stop _ _ (head_named first (file form.log.now) c.in-Ok.ensures.found (c.in-Ok.ensures.opened file told))
+    c.in-Err-serves_for.ensures.stop (λ words. rw c.names.ensures.names at (c.in-Err-serves_for.ensures.lacking (ap Err words))) refl
 
-pub returns-clause-answered : goal.returns-clause-answered
-returns-clause-answered g c file told =
+pub returns-in-Ok-add_up-clause-answered : goal.returns-in-Ok-add_up-clause-answered
+returns-in-Ok-add_up-clause-answered g c file told =
     let form = c.args.form.now in
     let first = c.in-Ok.records in
-    let sums = c.in_ok-sums.sums in
+    let sums = c.in-Ok-add_up.sums in
     let named : name_of first ≡ form.log.now = c.in-Ok.ensures.name in
     let begun : Reads first (file form.log.now) [] = c.in-Ok.ensures.opened file told in
     let is : AreSumsIn (names_of first) (file form.log.now) form.from form.to sums =
-    rw named at (c.in_ok-sums.ensures.summing file (c.in-Ok.ensures.contents_stay ∙ told) (rw (← named) at begun)) in
-    let text : List ℕ = written_text form.csv c.names-2.result.now sums in
+    rw named at (c.in-Ok-add_up.ensures.summing file (c.in-Ok.ensures.contents_stay ∙ told) (rw (← named) at begun)) in
+    let text : List ℕ = written_text form.csv c.names-in-Ok-add_up.result.now sums in
     let whole : IsWhole (asked_in form) file text = record {
       names = names_of first;
       sums = sums;
-      serves = c.in_ok-serves.serves.items;
-      named = rw c.names.ensures.names at c.in_ok-serves.ensures.found;
+      serves = c.in-Ok-serves_for.serves.items;
+      named = rw c.names.ensures.names at c.in-Ok-serves_for.ensures.found;
       sums_are = is;
-      serves_are = c.in_ok-sums.ensures.serves ∙ c.deref.ensures.value;
-      text_is = ap (λ names. written_text form.csv names sums) (c.names-2.ensures.names ∙ c.in_ok-sums.ensures.names);
+      serves_are = c.in-Ok-add_up.ensures.serves ∙ c.deref.ensures.value;
+      text_is = ap (λ names. written_text form.csv names sums) (c.names-in-Ok-add_up.ensures.names ∙ c.in-Ok-add_up.ensures.names);
     } in
     let text_of : IsTextOf (asked_in form) file text =
     subst (λ (each : Option ℕ). MatchOption each (IsWhole (asked_in form) file text) (λ n. IsOfParts (asked_in form) n file text)) (sym c.requires) whole in
