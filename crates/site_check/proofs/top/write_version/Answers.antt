@@ -1,8 +1,0 @@
-use Rattle.std.proofs.Common.{[]}
-use Rattle.site_check.specs.Call.{version_text}
-use Rattle.site_check.proofs.top.write_version.Goals as goal
-
-pub returns-clause-written : goal.returns-clause-written
-returns-clause-written g c =
-    let start = g.O.Sink.taken c.args.out.now in
-    c.end_known.ensures.written start version_text (c.put_version.ensures.text start [] (c.new-draft.ensures.text start))
