@@ -1,21 +1,22 @@
-//! What another program calls: load a junction, make its seconds, ask for what they told in lists and for a variable's value, end
-//! it.
+//! What another program calls: load a junction, make its seconds by its program or by commands of the caller, ask what the second
+//! that comes would refuse, for what seconds told in lists and for a variable's value, end it.
 #![tactic(auto)]
 
 ghost use Rattle.std.specs.Prelude.{◌≡◌, None};
 ghost use Rattle.junction_run.specs.Form.{ProgramFile, CodeFile};
-ghost use Rattle.junction_handle.specs.Numbers.{IsPlaying};
-ghost use Rattle.junction_handle.specs.Seconds.{IsSecondMade};
+ghost use Rattle.junction_calls.specs.Numbers.{IsPlaying};
+ghost use Rattle.junction_calls.specs.Seconds.{IsSecondMade};
+ghost use Rattle.junction_calls.specs.Drives.{IsGivenMade};
 ghost use Rattle.junction_calls.specs.Loads.{IsLoaded, source_name};
+ghost use Rattle.junction_calls.specs.Masked.{IsMaskTold};
 ghost use Rattle.junction_calls.specs.Named.{IsGroupName, IsStageTold};
-ghost use Rattle.junction_calls.specs.Variables.{AreNamesTold, IsValueTold};
+ghost use Rattle.junction_calls.specs.Variables.{AreNamesTold, IsCountTold, IsValueTold};
+ghost use Rattle.junction_calls.specs.declared.variables.NamesOf.TheVariants.{Timers, Variables};
 
 use junction_calls::{
-    Refusal, RefusedStage, group_name, load_into, refused_stage, variable_names, variable_value,
-};
-use junction_handle::{
-    ActionMask, DetectorCounts, GivenCommands, Junction, Told, make_given_second, make_second,
-    take, tell_mask,
+    ActionMask, DetectorCounts, GivenCommands, Junction, NamesOf, Refusal, RefusedStage, Told,
+    group_name, load_into, make_given_second, make_second, refused_stage, take, tell_mask,
+    tell_names, timer_count, variable_value,
 };
 use junction_run::Source;
 use std::alloc::Global;
@@ -112,7 +113,8 @@ pub extern "C" fn junction_c_second(
 }
 
 /// Makes a second whose commands are given in the place of the program's. 0: it was made and is told. 3: the counts are not taken.
-/// 4: the handle holds nothing. 9: a command names no stage or group. Where it isn't 0 nothing has changed.
+/// 4: the handle holds nothing. 9: the counts are taken, and a command names no stage or group. Where it isn't 0 nothing has
+/// changed. It takes no memory and waits for nothing.
 #[unsafe(no_mangle)]
 pub extern "C" fn junction_c_given_second(
     alloc: Global,
@@ -120,7 +122,11 @@ pub extern "C" fn junction_c_given_second(
     counts: &DetectorCounts,
     commands: &GivenCommands,
     told: &mut Told,
-) -> u32 {
+) -> u32
+    requires { IsPlaying handle.old.value }
+    ensures second { IsGivenMade result counts.now commands.now handle.old.value handle.new.value told.old told.new }
+    ensures playing { IsPlaying handle.new.value }
+{
     make_given_second(handle, alloc, counts, commands, told)
 }
 
@@ -130,7 +136,11 @@ pub extern "C" fn junction_c_mask(
     alloc: Global,
     handle: &mut Junction,
     mask: &mut ActionMask,
-) -> u32 {
+) -> u32
+    requires { IsPlaying handle.old.value }
+    ensures same { handle.new.value ≡ handle.old.value }
+    ensures told { IsMaskTold handle.old.value result mask.old mask.new }
+{
     tell_mask(handle, alloc, mask)
 }
 
@@ -171,9 +181,22 @@ pub extern "C" fn junction_c_variable_names(
     names: &mut [u8],
     length: &mut usize,
 ) -> u32
-    ensures { AreNamesTold program.now names.old names.new length.old length.new result }
+    ensures { AreNamesTold Variables program.now names.old names.new length.old length.new result }
 {
-    variable_names(alloc, program, names, length)
+    tell_names(alloc, NamesOf::Variables, program, names, length)
+}
+
+/// The same of the names of its timers.
+#[unsafe(no_mangle)]
+pub extern "C" fn junction_c_timer_names(
+    alloc: Global,
+    program: &[u8],
+    names: &mut [u8],
+    length: &mut usize,
+) -> u32
+    ensures { AreNamesTold Timers program.now names.old names.new length.old length.new result }
+{
+    tell_names(alloc, NamesOf::Timers, program, names, length)
 }
 
 /// Tells the value of the variable of that number after the last second. 0: it is told; 4: there is none of that number, or the
@@ -189,4 +212,19 @@ pub extern "C" fn junction_c_variable_value(
     ensures value { IsValueTold handle.old.value number result value.old value.new }
 {
     variable_value(handle, alloc, number, value)
+}
+
+/// Tells the seconds that the timer of that number counted up to the last second. 0: they are told; 4: there is none of that number,
+/// or the handle holds nothing.
+#[unsafe(no_mangle)]
+pub extern "C" fn junction_c_timer_count(
+    alloc: Global,
+    handle: &mut Junction,
+    number: usize,
+    count: &mut u32,
+) -> u32
+    ensures same { handle.new.value ≡ handle.old.value }
+    ensures count { IsCountTold handle.old.value number result count.old count.new }
+{
+    timer_count(handle, alloc, number, count)
 }

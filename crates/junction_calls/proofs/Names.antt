@@ -16,7 +16,9 @@ use Rattle.junction_run.specs.Programs.{ProgramIs}
 use Rattle.junction_run.specs.Reasons.{reason_text}
 use Rattle.junction_run.specs.Sites.{IsRefusedProgram}
 use Rattle.junction_calls.specs.Copied.{IsCopied}
-use Rattle.junction_calls.specs.Variables.{names_text, AreNamesTold, named, no_program, IsValueTold}
+use Rattle.sig_types.specs.declared.numbers.Clock.{Clock}
+use Rattle.junction_calls.specs.declared.variables.NamesOf.{NamesOf}
+use Rattle.junction_calls.specs.Variables.{names_text, AreNamesTold, named, no_program, IsCountTold, IsValueTold}
 
 -- a name with its line feed
 abbrev pub line : List ℕ → List ℕ
@@ -64,16 +66,33 @@ pub no_value : (c : Controller) (store : Store) (vars : List ℤ) (number : ℕ)
 no_value c store vars number before kept is found =
     λ past stands. inr (refl, subst (λ vs. length vs ≤ number) (vars_of c store vars past kept is stands) (past_end vars number found), refl)
 
+-- the timers of a controller that stands for a past are those of its store
+timers_of : (c : Controller) (store : Store) (timers : List Clock) (past : Past) → ((past : Past) → StandsFor c past → without_commands store ≡ past.store) →
+    timers ≡ store.timers → StandsFor c past → timers ≡ past.store.timers
+timers_of c store timers past kept is stands = is ∙ ap (λ s. s.timers) (kept past stands)
+
+pub some_count : (c : Controller) (store : Store) (timers : List Clock) (number : ℕ) (timer : Clock) (before : ℕ) →
+    ((past : Past) → StandsFor c past → without_commands store ≡ past.store) → timers ≡ store.timers → slice_get timers number ≡ Some timer →
+    IsCountTold (Some c) number 0 before timer.count
+some_count c store timers number timer before kept is found =
+    λ past stands. inl (timer, refl, subst (λ ts. slice_get ts number ≡ Some timer) (timers_of c store timers past kept is stands) found, refl)
+
+pub no_count : (c : Controller) (store : Store) (timers : List Clock) (number before : ℕ) →
+    ((past : Past) → StandsFor c past → without_commands store ≡ past.store) → timers ≡ store.timers → slice_get timers number ≡ None →
+    IsCountTold (Some c) number 4 before before
+no_count c store timers number before kept is found =
+    λ past stands. inr (refl, subst (λ ts. length ts ≤ number) (timers_of c store timers past kept is stands) (past_end timers number found), refl)
+
 -- the names of a program are copied from a text that shows them
-pub names_told : (bytes old new shown text : List ℕ) (before told : ℕ) (p : Program) → ProgramIs bytes (Ok p) → IsCopied shown old new →
-    shown ≡ text → text ≡ names_text p → told ≡ length shown → AreNamesTold bytes old new before told 0
-names_told bytes old new shown text before told p is copied same tells n =
-    let all : shown ≡ names_text p = same ∙ tells in
+pub names_told : (of : NamesOf) (bytes old new shown text : List ℕ) (before told : ℕ) (p : Program) → ProgramIs bytes (Ok p) → IsCopied shown old new →
+    shown ≡ text → text ≡ names_text of p → told ≡ length shown → AreNamesTold of bytes old new before told 0
+names_told of bytes old new shown text before told p is copied same tells n =
+    let all : shown ≡ names_text of p = same ∙ tells in
     named p is (subst (λ t. IsCopied t old new) all copied) (n ∙ ap length all)
 
 -- the text of a program that is refused
-pub refused_told : (bytes old : List ℕ) (before : ℕ) (stop : LoadStop) (word : Bor (List ℕ)) (line : ℕ) (reason : Reason) →
-    stop ≡ load.Refused word line reason → IsRefusedProgram bytes stop → AreNamesTold bytes old old before before 5
-refused_told bytes old before stop word line reason same is =
+pub refused_told : (of : NamesOf) (bytes old : List ℕ) (before : ℕ) (stop : LoadStop) (word : Bor (List ℕ)) (line : ℕ) (reason : Reason) →
+    stop ≡ load.Refused word line reason → IsRefusedProgram bytes stop → AreNamesTold of bytes old old before before 5
+refused_told of bytes old before stop word line reason same is =
     let at : IsRefusedProgram bytes (load.Refused word line reason) = subst (λ s. IsRefusedProgram bytes s) same is in
     no_program (line, reason_text reason) at refl refl

@@ -2,7 +2,7 @@
 ghost use Rattle.std.specs.Prelude.{◌≡◌};
 ghost use Rattle.junction_calls.specs.Named.{IsStageTold};
 
-use junction_handle::{Junction, keep, take};
+use crate::handle::{Junction, keep, take};
 use std::alloc::Global;
 
 /// A refused stage command.

@@ -3,11 +3,13 @@ ghost use Rattle.std.specs.Prelude.{◌≡◌};
 ghost use Rattle.junction_run.specs.Form.{word_of};
 ghost use Rattle.junction_run.specs.FormWords.{source_in};
 ghost use Rattle.junction_calls.specs.Loads.{source_name};
-ghost use Rattle.junction_handle.specs.Numbers.{IsPlaying};
+ghost use Rattle.junction_calls.specs.Numbers.{IsPlaying};
 
 use det_stream::Lines;
-use junction_calls::{Refusal, RefusedStage, group_name, load_into, refused_stage};
-use junction_handle::{DetectorCounts, Junction, Told, empty, make_second, take};
+use junction_calls::{
+    DetectorCounts, Junction, Refusal, RefusedStage, Told, empty, group_name, load_into,
+    make_second, refused_stage, take,
+};
 use junction_run::Source;
 use sig_io::{Files, read_whole};
 use sig_types::Frame;

@@ -1,9 +1,9 @@
 // What calls answer that do nothing.
 use crate::logs::{NO_REFUSAL, source_of};
 use junction_calls::{
-    Refusal, RefusedStage, group_name, load_into, refused_stage, variable_names, variable_value,
+    DetectorCounts, NamesOf, Refusal, RefusedStage, Told, empty, group_name, load_into,
+    make_second, refused_stage, take, tell_names, variable_value,
 };
-use junction_handle::{DetectorCounts, Told, empty, make_second, take};
 use std::alloc::Global;
 use std::test::Fail;
 use test_cases::cases::{Case, DONE, TIMER_RUN};
@@ -152,11 +152,20 @@ fn variables_are_told(rt: HostRuntime) -> Result<(), Fail> {
     let mut names = [b'.'; 12];
     let mut length = 0;
     assert_eq!(rt;
-        variable_names(alloc, b"PROGRAM v;", &mut names, &mut length),
+        tell_names(
+            alloc,
+            NamesOf::Variables,
+            b"PROGRAM v;",
+            &mut names,
+            &mut length
+        ),
         5
     );
     assert_eq!(rt; length, 0);
-    assert_eq!(rt; variable_names(alloc, COUNTING, &mut names, &mut length), 0);
+    assert_eq!(rt;
+        tell_names(alloc, NamesOf::Variables, COUNTING, &mut names, &mut length),
+        0
+    );
     assert_eq!(rt; length, 11);
     assert_eq!(rt; names.as_slice(), b"seen\nother\n.".as_slice());
     let case = Case {

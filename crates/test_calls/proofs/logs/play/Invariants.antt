@@ -1,6 +1,6 @@
 use Rattle.std.proofs.Common.{◌≡◌, true}
 use Rattle.det_stream.specs.Answers.{is_live}
-use Rattle.junction_handle.specs.Numbers.{IsPlaying}
+use Rattle.junction_calls.specs.Numbers.{IsPlaying}
 use Rattle.test_calls.proofs.logs.play.Given as goal
 
 abbrev pub invariant-loop : goal.invariant-loop

@@ -1,0 +1,7 @@
+use Rattle.std.proofs.Common.{refl, arith}
+use Rattle.junction_calls.proofs.Zeros.{all_zero}
+use Rattle.junction_calls.proofs.told.groups_of.Goals as goal
+
+-- src/told.rt:53:5
+pub loop-i-init : goal.loop-i-init
+loop-i-init c = record { size = refl; filled = λ p turn lt is. absurd (omega arith); rest = λ p le. all_zero 64 p }

@@ -1,0 +1,12 @@
+use Rattle.std.proofs.Common.{◌≡◌, ◌<◌, ◌≤◌, ℕ, length, get_or, Some}
+use Rattle.std.specs.List.{slice_get}
+use Rattle.sig_types.specs.RuleNumbers.{rule_number}
+use Rattle.sig_types.specs.declared.refused.TurnRefusal.{TurnRefusal}
+use Rattle.junction_calls.proofs.told.rules_of.Given as goal
+
+abbrev pub invariant-loop-i : goal.invariant-loop-i
+invariant-loop-i l = record {
+  size : length l.rules ≡ 64;
+  filled : (p : ℕ) (turn : TurnRefusal) → p < l.i → slice_get l.turns p ≡ Some turn → get_or l.rules p 0 ≡ rule_number turn.rule;
+  rest : (p : ℕ) → l.i ≤ p → get_or l.rules p 0 ≡ 0;
+}
