@@ -1,8 +1,8 @@
 """python3 -m unittest, with EXAMPLES naming crates/junction/examples, and LOGS a folder of NAME.log by `junction run`."""
-import copy
 import os
 import pathlib
 import unittest
+from unittest import mock
 
 import vantulig
 from vantulig import Controller, Ended, NoNames, NotTaken, Record, Refused
@@ -121,14 +121,11 @@ class Calls(unittest.TestCase):
             self.c.run([{}])
 
     def test_run_without_numpy(self):
-        kept, vantulig.numpy = vantulig.numpy, None
-        try:
+        with mock.patch.object(vantulig._controller, "numpy", None):
             self.assertEqual([record.second for record in self.c.run([{}, {1: (1, 1)}])], [1, 2])
             with self.assertRaises(NotTaken) as at:
                 self.c.run([{}, {1: (0, 1)}])
             self.assertEqual([record.second for record in at.exception.made], [3])
-        finally:
-            vantulig.numpy = kept
 
     def test_value(self):
         """a variable after each second; a code file has no names"""
@@ -158,11 +155,6 @@ class Calls(unittest.TestCase):
             for _ in range(20):
                 self.c.step({})
             self.assertEqual(other.step({}).second, 1)
-
-    def test_no_copy(self):
-        for way in (copy.copy, copy.deepcopy):
-            with self.assertRaises(TypeError):
-                way(self.c)
 
     def test_refused(self):
         rest = [path.read_bytes() for path in FOUR[1:]]
