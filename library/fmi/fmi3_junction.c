@@ -1,8 +1,9 @@
 /* A junction as a co-simulation unit of FMI 3.0 over junction.h. Plain C: what is proved is what the calls of junction.h do.
  *
  * A step is one second. Its inputs are the counts of that second; they hold until they are set again, as FMI's inputs do.
- * Counts that are not taken give fmi3Discard, and nothing has changed: set others and step again from the same time. The texts
- * lie in resources/: program.vap, junction.pua, times.csv, intergreens.csv. */
+ * Counts that are not taken give fmi3Discard, and nothing has changed: set others and step again from the same time. Where the
+ * input by_commands is true the second is made by the commands of the other inputs, in the place of the program's pass. The
+ * texts lie in resources/: program.vap, junction.pua, times.csv, intergreens.csv. */
 #include "fmi3.h"
 #include "junction.h"
 #include "junction_log.h"
@@ -30,7 +31,12 @@ enum {
     TURN_OTHERS,
     TAKEN,
     HEADER,
-    RECORD
+    RECORD,
+    BY_COMMANDS,
+    ORDER_FROM,
+    ORDER_TO,
+    WISHED_STAGE,
+    WISHES
 };
 enum state { INSTANTIATED, INITIALIZATION, STEP, TERMINATED };
 
@@ -38,6 +44,8 @@ struct unit {
     enum state state;
     struct junction *junction;
     struct junction_counts counts, used;
+    struct junction_commands commands;
+    bool by_commands;
     struct junction_told told;
     struct junction_names names;
     bool taken, logging;
@@ -80,6 +88,8 @@ static fmi3Status begin(struct unit *u) {
     if (junction_open(&u->junction, &texts, &refusal)) return say(u, fmi3Error, refusal.note[0] ? refusal.note : "no memory");
     junction_take_names(u->junction, &u->names);
     memset(&u->counts, 0, sizeof u->counts);
+    memset(&u->commands, 0, sizeof u->commands);
+    u->by_commands = false;
     memset(&u->told, 0, sizeof u->told);
     u->told.groups = (uint8_t)u->names.groups;
     memset(u->told.aspects, 'R', u->names.groups);
@@ -194,7 +204,10 @@ FMI fmi3Status fmi3DoStep(fmi3Instance instance, fmi3Float64 currentCommunicatio
     if (u->state != STEP) return say(u, fmi3Error, "fmi3DoStep out of turn");
     if (communicationStepSize != 1) return say(u, fmi3Error, "a step is one second");
     if (currentCommunicationPoint != u->time) return say(u, fmi3Error, "a step from another time");
-    u->taken = junction_second(u->junction, &u->counts, &u->told) == JUNCTION_DONE;
+    enum junction_status status = u->by_commands ? junction_given_second(u->junction, &u->counts, &u->commands, &u->told)
+                                                 : junction_second(u->junction, &u->counts, &u->told);
+    u->taken = status == JUNCTION_DONE;
+    if (status == JUNCTION_NO_COMMAND) return say(u, fmi3Discard, "a command names no stage or group");
     if (!u->taken) return say(u, fmi3Discard, "the counts are not taken");
     u->used = u->counts;
     free(u->record);
@@ -231,6 +244,10 @@ static uint8_t *bytes_of(struct unit *u, fmi3ValueReference v, size_t *n) {
     case TURN_GROUPS: *n = 64; return u->told.turn_groups;
     case TURN_RULES: *n = 64; return u->told.turn_rules;
     case TURN_OTHERS: *n = 64; return u->told.turn_others;
+    case ORDER_FROM: return &u->commands.from;
+    case ORDER_TO: return &u->commands.to;
+    case WISHED_STAGE: return &u->commands.stage;
+    case WISHES: *n = 64; return u->commands.groups;
     default: return NULL;
     }
 }
@@ -261,6 +278,34 @@ FMI fmi3Status fmi3SetUInt32(fmi3Instance instance, const fmi3ValueReference vs[
     return fmi3OK;
 }
 
+FMI fmi3Status fmi3SetUInt8(fmi3Instance instance, const fmi3ValueReference vs[], size_t n, const fmi3UInt8 values[],
+                            size_t many) {
+    struct unit *u = instance;
+    size_t at = 0, size;
+    if (u->state == TERMINATED) return say(u, fmi3Error, "fmi3SetUInt8 out of turn");
+    for (size_t i = 0; i < n; i++, at += size) {
+        if (vs[i] < ORDER_FROM || !bytes_of(u, vs[i], &size) || size > many - at)
+            return say(u, fmi3Error, "fmi3SetUInt8: no input, or too few values");
+    }
+    if (at != many) return say(u, fmi3Error, "fmi3SetUInt8: too many values");
+    for (size_t i = 0; i < n; i++, values += size) {
+        uint8_t *to = bytes_of(u, vs[i], &size);
+        memcpy(to, values, size);
+    }
+    return fmi3OK;
+}
+
+FMI fmi3Status fmi3SetBoolean(fmi3Instance instance, const fmi3ValueReference vs[], size_t n, const fmi3Boolean values[],
+                              size_t many) {
+    struct unit *u = instance;
+    if (u->state == TERMINATED) return say(u, fmi3Error, "fmi3SetBoolean out of turn");
+    if (many != n) return say(u, fmi3Error, "fmi3SetBoolean: one value each");
+    for (size_t i = 0; i < n; i++)
+        if (vs[i] != BY_COMMANDS) return say(u, fmi3Error, "fmi3SetBoolean: no input");
+    if (n) u->by_commands = values[n - 1];
+    return fmi3OK;
+}
+
 FMI fmi3Status fmi3GetFloat64(fmi3Instance instance, const fmi3ValueReference vs[], size_t n, fmi3Float64 values[],
                               size_t many) {
     struct unit *u = instance;
@@ -277,8 +322,8 @@ FMI fmi3Status fmi3GetBoolean(fmi3Instance instance, const fmi3ValueReference vs
     struct unit *u = instance;
     if (many != n) return say(u, fmi3Error, "fmi3GetBoolean: one value each");
     for (size_t i = 0; i < n; i++) {
-        if (vs[i] != TAKEN) return say(u, fmi3Error, "fmi3GetBoolean: no such variable");
-        values[i] = u->taken;
+        if (vs[i] != TAKEN && vs[i] != BY_COMMANDS) return say(u, fmi3Error, "fmi3GetBoolean: no such variable");
+        values[i] = vs[i] == TAKEN ? u->taken : u->by_commands;
     }
     return fmi3OK;
 }
@@ -311,13 +356,11 @@ FMI fmi3Status fmi3GetString(fmi3Instance instance, const fmi3ValueReference vs[
 NO_NUMBERS(Float32, fmi3Float32)
 NO_SET(Float64, fmi3Float64)
 NO_NUMBERS(Int8, fmi3Int8)
-NO_SET(UInt8, fmi3UInt8)
 NO_NUMBERS(Int16, fmi3Int16)
 NO_NUMBERS(UInt16, fmi3UInt16)
 NO_NUMBERS(Int32, fmi3Int32)
 NO_NUMBERS(Int64, fmi3Int64)
 NO_NUMBERS(UInt64, fmi3UInt64)
-NO_SET(Boolean, fmi3Boolean)
 NO_SET(String, fmi3String)
 #pragma GCC diagnostic push
 #pragma GCC diagnostic ignored "-Wunused-parameter"

@@ -14,6 +14,7 @@ import zipfile
 HERE = pathlib.Path(__file__).resolve().parent
 RESOURCES = ("program.vap", "junction.pua", "times.csv", "intergreens.csv")
 ZEROS = " ".join(["0"] * 64)
+ONE = 'variability="discrete" start="0"'
 # kind, name, causality, further attributes, length of the array (0: a number), description; the value reference is its place
 VARIABLES = [
     ("Float64", "time", "independent", 'variability="continuous"', 0, "the seconds made"),
@@ -36,6 +37,11 @@ VARIABLES = [
     ("Boolean", "taken", "output", "", 0, "whether the counts of the last step were taken"),
     ("String", "header", "output", "", 0, "the first line of the log"),
     ("String", "record", "output", "", 0, "the last second as a line of the log"),
+    ("Boolean", "by_commands", "input", 'variability="discrete" start="false"', 0, "a second by the commands that follow"),
+    ("UInt8", "order_from", "input", ONE, 0, "a stage command: the stage that is left; 0 and 0: none"),
+    ("UInt8", "order_to", "input", ONE, 0, "the stage to which it leads"),
+    ("UInt8", "wished_stage", "input", ONE, 0, "where another stage is active, the command from that one to this; 0: none"),
+    ("UInt8", "wishes", "input", f'variability="discrete" start="{ZEROS}"', 64, "of each group 0 the stage's, 1 green, 2 red"),
 ]
 
 

@@ -23,7 +23,9 @@ def judge(root):
     assert {o.get("valueReference") for o in structure.findall("InitialUnknown")} == outputs
     for v in variables.values():
         if v.get("causality") == "input":
-            assert len(v.get("start").split()) == int(v.find("Dimension").get("start")) == 64
+            dimension = v.find("Dimension")
+            assert len(v.get("start").split()) == (1 if dimension is None else int(dimension.get("start")))
+            assert dimension is None or dimension.get("start") == "64"
         if v.get("causality") == "output":
             assert v.get("variability") == "discrete" and v.get("initial") == "calculated" and v.get("start") is None
         assert v.tag in ("Float64", "UInt32", "UInt8", "Boolean", "String")
