@@ -8,6 +8,8 @@ control:
   vap          each light by a controller of its own, second by second: by a pipe to the built program, or by the library
   static       the network's own programs
   actuated, delay_based  SUMO's programs of this type on the same phases
+  guarded:static, guarded:actuated, guarded:delay_based  these programs wish, and each light's guard decides what is shown
+  guarded:FILE.py:FUNCTION  FUNCTION(light, names, second, counts) wishes a letter G or R for each group
 
 Each of SITES is a folder of sites_from_sumo.py, or TLS=FOLDER for the site of one light. Lights without a site keep the
 network's program. Prints what came of it: vehicles, time loss, stops, the queue, people on foot, teleports, collisions,
@@ -24,6 +26,7 @@ from pathlib import Path
 import controllers
 from reading import Refused, told, whole_from
 from sumo.drive import Stop, drive, left_alone, let_drive, open_lights, sites_of
+from sumo.guarded import control_from, line_of, refusals_of
 from sumo.network import is_configuration
 from sumo.scenario import NotStarted, call_of, folder_for, import_sumo, nobody_told, result_of, set_times, start
 
@@ -69,6 +72,8 @@ def drive_in(given, folder, errors):
             for light in opened:
                 light.end()
             more = faults_of(opened)
+            if given.control.startswith("guarded:"):
+                more.update(refusals_of(opened))
         sumo.close()
     return {"control": given.control, "lights": lights, "seconds": seconds, "seed": given.seed, **result_of(folder), **more,
             "clock": round(time.perf_counter() - begun, 2), **spent, "is_stopped": stop.is_asked}
@@ -100,6 +105,8 @@ def lines_of(told_of):
         lines.insert(2, "{waiting_outside} vehicles still wait for room to depart")
     if told_of.get("faults"):
         lines.append("faults in {faults} seconds of {first_fault}")
+    if "refused_turns" in told_of:
+        lines.append(line_of(told_of))
     if "steps" in told_of:
         lines.append("{clock:.1f} s of the clock: SUMO's steps {steps}, detectors {detectors}, controllers {controllers}, "
                      "signals {signals}")
@@ -109,7 +116,7 @@ def lines_of(told_of):
 def read_words():
     words = argparse.ArgumentParser(description=__doc__, formatter_class=argparse.RawDescriptionHelpFormatter,
                                     usage="drive_sumo.py [OPTIONS] NET ROUTES SITES.. | SUMOCFG SITES..")
-    words.add_argument("--control", choices=CONTROLS, default="vap")
+    words.add_argument("--control", type=control_from(CONTROLS), default="vap", metavar="CONTROL", help="vap")
     controllers.add_options(words)
     words.add_argument("--program", default="on_demand.vap", metavar="VAP", help="of each site, on_demand.vap")
     words.add_argument("--seconds", type=whole_from(1, 604_800), default=3600, metavar="N", help="3600")

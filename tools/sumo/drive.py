@@ -113,9 +113,31 @@ def sites_of(words):
     return found
 
 
+class ProgramOpener:
+    """Opens lights whose controllers have a program of their own."""
+
+    def __init__(self, given):
+        self.opener, self.program = controllers.controllers_of(given), given.program
+
+    def light(self, name, folder, log):
+        return Light(name, folder, self.program, self.opener, log)
+
+
+def opener_of(sumo, given):
+    """What opens the lights of a run."""
+    if not given.control.startswith("guarded:"):
+        return ProgramOpener(given)
+    from sumo.guarded import GuardedOpener  # which stands on this module
+
+    try:
+        return GuardedOpener(sumo, given.control)
+    except controllers.Lost as lost:
+        sys.exit(str(lost))
+
+
 def open_lights(sumo, given):
     """The lights with their controllers, which all begin at once."""
-    opener, lights, name, sites = controllers.controllers_of(given), [], "", sites_of(given.sites)
+    opener, lights, name, sites = opener_of(sumo, given), [], "", sites_of(given.sites)
     if given.logs:
         given.logs.mkdir(parents=True, exist_ok=True)
         if len({folder.name for _, folder in sites}) < len(sites):
@@ -126,7 +148,7 @@ def open_lights(sumo, given):
             if name not in known:
                 raise controllers.Lost(f"the network has no such traffic light, and {folder} is its site")
             log = open(given.logs / f"{folder.name}.log", "w", encoding="ascii") if given.logs else None
-            lights.append(Light(name, folder, given.program, opener, log))
+            lights.append(opener.light(name, folder, log))
         for light in lights:
             name = light.name
             light.begin(sumo)

@@ -13,6 +13,7 @@ from pathlib import Path
 
 from reading import Refused
 from sumo.drive import left_alone, sites_of
+from sumo.guarded import OWN, own_of
 from sumo.network import files_in, is_configuration, read_root
 
 DEFAULTS = {"--time-to-teleport": "300", "--collision.action": "warn", "--collision.check-junctions": "true",
@@ -70,9 +71,10 @@ def files_for(given, folder):
     sites, more = sites_of(given.sites), [str(file) for file in given.additional]
     if is_configuration(given.net):
         more = [str(file) for file in files_in(given.net, "additional-files", "a", "additional")] + more
-    if given.control in ("actuated", "delay_based"):
-        more += [str(site / f"{given.control}.add.xml") for _, site in sites]
-    elif given.control != "static":
+    own = own_of(given.control)
+    if own in ("actuated", "delay_based"):
+        more += [str(site / f"{own}.add.xml") for _, site in sites]
+    if given.control not in OWN:
         more += [str(site / "detectors.add.xml") for _, site in sites]
     if given.states:
         lines = [f'<timedEvent type="SaveTLSStates" source="{name}" dest="{given.states.resolve()}"/>' for name, _ in sites]
