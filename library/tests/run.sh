@@ -15,6 +15,14 @@ for words in "$logs"/*.words; do
     printf '%s: ' "$(basename "$words" .words)"; "$bin/test_junction" $(cat "$words") "${words%.words}.log" "${words%.words}.code"
 done
 "$bin/test_calls" $site
+"$bin/test_given" $site
+for pua in "$repository"/crates/junction/examples/*/junction.pua "$repository"/crates/junction/examples/*/*/junction.pua; do
+    of=$(dirname "$pua"); tables="$pua $of/times.csv $of/intergreens.csv"
+    printf '%s: ' "$(basename "$of")"; "$bin/test_mask" "$of"/*.vap $tables 604801 7 "$build/week.log"
+    "$junction" audit "$build/week.log" $tables > "$build/said" || { cat "$build/said"; exit 1; }
+    grep '^SAFE 604801$' "$build/said" > /dev/null || { cat "$build/said"; exit 1; }
+    rm "$build/week.log"
+done
 "$bin/test_threads" $site
 "$bin/test_many" $site "$logs/hostile.list"
 if command -v valgrind > /dev/null; then
@@ -22,6 +30,7 @@ if command -v valgrind > /dev/null; then
     $sound "$bin/test_junction_plain" $(cat "$logs/two_stages_side_road.words") "$logs/two_stages_side_road.log" \
         "$logs/two_stages_side_road.code"
     $sound "$bin/test_calls_plain" $site
+    $sound "$bin/test_given_plain" $site
     $sound "$bin/test_many_plain" $site "$logs/hostile.list" 300
     echo "valgrind finds nothing"
 else
@@ -44,6 +53,12 @@ if VANTULIG="$build/other.so" "$build/venv/bin/python3" -c 'import vantulig; van
     echo "WRONG: a library of another version is taken"; exit 1
 fi
 grep 'ImportError: .*has version 0.0.0' "$build/said" > /dev/null || { cat "$build/said"; exit 1; }
+two=$repository/crates/junction/examples/two_stages
+python3 "$here/tests/page.py" "$repository/docs/own-control.md" "$two" "$build" "$build/venv/bin/python3"
+"$build/venv/bin/python3" "$here/examples/learn.py" "$two" "$build/learned.log"
+"$junction" audit "$build/learned.log" "$two/junction.pua" "$two/times.csv" "$two/intergreens.csv" > "$build/said" ||
+    { cat "$build/said"; exit 1; }
+grep '^SAFE 3600$' "$build/said" > /dev/null || { cat "$build/said"; exit 1; }
 if [ -n "$VECTORS" ]; then "$build/venv/bin/python3" "$here/tests/vectors.py" $VECTORS; fi
 for words in "$logs"/*.words; do
     set -- $(cat "$words"); name=$(basename "$words" .words); printf '%s: ' "$name"
@@ -52,4 +67,5 @@ for words in "$logs"/*.words; do
         { cat "$build/said"; exit 1; }
     tail -1 "$build/said"
 done
+"$build/venv/bin/python3" "$here/fmi/try_commands.py" "$build/four_arms.fmu" $site
 echo "all is well"
