@@ -28,12 +28,12 @@ function breachTables(log, [from, to]) {
 function showSums() {
   if (!state.log) return;
   const { log } = state, [from, to] = sumSeconds();
-  showChart([from, to]);
-  if (summed.site === state.site && summed.from === from && summed.to === to) return;
+  if (summed.site === state.site && summed.from === from && summed.to === to) return showChart([from, to]);
   summed = { site: state.site, from, to };
   const title = `Sums of ${log.unit === 1 ? "seconds" : "times"} ${timeText(log, from)} to ${timeText(log, to)}`;
   const tables = [...breachTables(log, [from, to]), ...tablesOf([from, to])];
   showTables($("sums"), title, tables, [sumChoice, sumSave, ...(log.breaches ? [breachSave] : [])]);
+  return showChart([from, to]);
 }
 
 // What is visible as SVG, on a width that prints well.
