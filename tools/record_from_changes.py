@@ -1,8 +1,8 @@
 #!/usr/bin/env python3
 """record_from_changes.py [OPTIONS] CHANGES > RECORD
 
-Turns a table of changes, a line `time;group;aspect` for each, into a record in tenths, as `log_report breaches RECORD TIMES
-INTERGREENS` reads it, or with --log into a log by seconds. Fields are parted by `;`, a tab or `,`. The file is UTF-8 or UTF-16,
+Turns a table of changes, a line `time;group;aspect` for each, into a record in tenths, which the page in the browser
+judges by its tables, or with --log into a log by seconds. Fields are parted by `;`, a tab or `,`. The file is UTF-8 or UTF-16,
 else ISO 8859-1, which is told.
 
 Columns: a first line of names says their order, in any case (Zeit, Datum, Uhrzeit, SG, Gruppe, Bild, Signalbild, time, date,

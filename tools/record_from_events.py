@@ -1,7 +1,7 @@
 #!/usr/bin/env python3
 """record_from_events.py [OPTIONS] EVENTS > RECORD
 
-Turns a high-resolution controller log into a record in tenths, as `log_report breaches RECORD TIMES INTERGREENS` reads it, or
+Turns a high-resolution controller log into a record in tenths, which the page in the browser judges by its tables, or
 with --log into a log by seconds. EVENTS is a CSV with time stamp, event code and parameter, or with the signal's id before
 them, as log_from_events.py takes it; --map MAP, --times TIMES and --signal ID are the same as there. Time stamps are rounded to
 the nearest tenth.
