@@ -100,7 +100,7 @@ class GuardedController:
         wish = self.wishes(self.second, self.counts)
         try:
             record = self.guarded.wish(wish, self.counts)
-        except ValueError as refused:
+        except (TypeError, ValueError) as refused:
             raise controllers.Lost(f"in second {self.second}: {refused}") from None
         self.rules.update(turn.rule for turn in record.turns)
         self.late += any(asked == "G" != shown for asked, shown in zip(wish, record.aspects))
