@@ -208,6 +208,9 @@ def file_by_file(specs):
 
 
 def main(words):
+    if words == ["--help"]:
+        print(__doc__)
+        return
     if words not in ([], ["--whole"]):
         sys.exit(__doc__)
     specs = Specs()

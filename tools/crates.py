@@ -83,6 +83,9 @@ def page_of(page, tables):
 
 
 def main(words):
+    if words == ["--help"]:
+        print(__doc__)
+        return 0
     if words not in ([], ["--check"]):
         sys.exit(__doc__.split("\n\n")[1])
     page = PAGE.read_text(encoding="utf-8")

@@ -86,6 +86,9 @@ def places_in(top):
 
 
 def main(words):
+    if words == ["--help"]:
+        print(__doc__)
+        return 0
     if words not in ([], ["--all"]):
         sys.exit(__doc__)
     places = places_in(TOP)
