@@ -104,10 +104,10 @@ class Controller:
 
     # ---- one second
 
-    def _take(self, told: bytes, counts: Any, commands: Optional[bytes]) -> None:
+    def _take(self, told: memoryview, seen: Seen, commands: Optional[bytes]) -> None:
         """Takes a second that was made elsewhere by this handle."""
         self._told[:] = told
-        self._last_seen = given.seen_of(counts) if counts.any() else []
+        self._last_seen = seen
         if self._tape is None:
             return
         if commands is None:

@@ -43,11 +43,11 @@ def put_counts(counts: Any, numbers: memoryview) -> Seen:
     if numpy is not None and isinstance(counts, numpy.ndarray):
         if counts.shape != (2, 64):
             raise ValueError(f"whole numbers of the form (2, 64) are wanted, and not {counts.dtype} {counts.shape}")
-        places = numpy.flatnonzero(counts)
-        if not len(places) and counts.dtype.kind in "iub":
-            return []
-        numbers[:] = memoryview(array_of(counts[None]).reshape(128))
-        return [(d + 1, numbers[d], numbers[d + 64]) for d in sorted({place % 64 for place in places.tolist()})]
+        if counts.dtype != numpy.uint32 or not counts.flags.c_contiguous:
+            counts = array_of(counts[None])[0]
+        numbers[:] = memoryview(counts).cast("B").cast("I")
+        places = counts.ravel().nonzero()[0].tolist()
+        return [(d + 1, numbers[d], numbers[d + 64]) for d in sorted({place & 63 for place in places})]
     kind = type(counts).__name__
     raise TypeError(f"counts are a mapping of detectors to (fronts, rears), or an array (2, 64), and not {kind}")
 

@@ -106,11 +106,13 @@ class Many:
 
     def _keep(self, counts: Any, commands: Optional[Any]) -> None:
         """Puts what was made into each junction; a NotTaken where one made none."""
-        told = self.told.view(numpy.uint8).reshape(len(self), -1)
+        told, size = memoryview(self.told.tobytes()), self.told.itemsize
+        saw, statuses = counts.reshape(len(self), -1).any(axis=1).tolist(), self.statuses.tolist()
         for at, one in enumerate(self.junctions):
-            if not self.statuses[at]:
-                one._take(told[at].tobytes(), counts[at], None if commands is None else commands[at].tobytes())
-        if self.statuses.any():
+            if not statuses[at]:
+                seen = given.seen_of(counts[at]) if saw[at] else []
+                one._take(told[at * size : at * size + size], seen, None if commands is None else commands[at].tobytes())
+        if any(statuses):
             at = int(self.statuses.argmax())
             one = self.junctions[at]
             text, detector, reason = given.why_not(one._tape, one.seconds, given.seen_of(counts[at]))
