@@ -67,5 +67,5 @@ for words in "$logs"/*.words; do
         { cat "$build/said"; exit 1; }
     tail -1 "$build/said"
 done
-"$build/venv/bin/python3" "$here/fmi/try_commands.py" "$build/four_arms.fmu" $site
+"$build/venv/bin/python3" "$here/fmi/try_commands.py" "$build/four_arms_four_arms.fmu" $site
 echo "all is well"
