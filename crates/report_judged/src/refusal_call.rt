@@ -67,8 +67,10 @@ fn tell_at<'a, F: Files, O: Sink>(
     ensures write { IsWriteFault result → Rose (O.faults out.old) (O.faults out.new) }
     ensures later { F.faults files.old ≤ F.faults files.new }
 {
-    let refusals = find_refusals(alloc, tables, form.log, form.from, form.to, files)?;
-    write_refusals(&tables.plan, &refusals, form.csv, out)
+    match find_refusals(alloc, tables, form.log, form.from, form.to, files) {
+        Ok(refusals) => write_refusals(&tables.plan, &refusals, form.csv, out),
+        Err(stop) => Err(stop),
+    }
 }
 
 // Does what is asked for.
