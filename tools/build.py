@@ -67,9 +67,10 @@ def marked_sources(top, crates, name, room):
             versions = version_in(name).findall(text)
             if not versions:
                 continue
-            if found or len(versions) > 1:
-                raise Refused(f"{name} has several versions in its sources: {found or versions}, {versions}")
-            found = versions[0][0].removeprefix(f"{name} ") + MARK
+            told = {version.removeprefix(f"{name} ") + MARK for version, _ in versions} | ({found} if found else set())
+            if len(told) > 1:
+                raise Refused(f"{name} has several versions in its sources: {sorted(told)}")
+            found = told.pop()
             source.write_text(version_in(name).sub(rf'"\1{MARK}\2', text), encoding="utf-8")
     return found
 
