@@ -1,5 +1,6 @@
 //! Tests of the top call over files and sinks in memory that no file of cases can hold: long runs and logs, files of the greatest
-//! size, compiled code, each read and each write failing in turn, and the order of the calls.
+//! size, compiled code, each read and each write failing in turn, and the order of the calls; the system's files, and what is
+//! written in pieces.
 #![tactic(auto)]
 
 #[cfg(test)]
@@ -12,6 +13,10 @@ mod faults;
 mod long_logs;
 #[cfg(test)]
 mod never_failing;
+#[cfg(test)]
+mod outside;
+#[cfg(test)]
+mod pieces;
 #[cfg(test)]
 mod runs;
 #[cfg(test)]

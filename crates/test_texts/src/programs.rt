@@ -3,13 +3,6 @@
 /// A program without a statement.
 pub const EMPTY: &[u8] = b"PROGRAM e;\nPROG_ENDE: .\n";
 
-/// Red after four seconds, which the least green refuses.
-pub const ENDS_EARLY: &[u8] = b"\
-PROGRAM r;\n\
-n := n + 1;\n\
-IF n >= 5 THEN Sg_red(1); END;\n\
-PROG_ENDE: .\n";
-
 /// Green for two groups in conflict, in the fourth second alone.
 pub const BOTH_GREEN: &[u8] = b"\
 PROGRAM c;\n\
@@ -42,28 +35,6 @@ S01Z005:   INTERSTAGE(1, 2)\n\
 \x20        END;\n\
 PROG_ENDE:   .\n";
 
-/// A command and a loop without an end.
-pub const ENDLESS: &[u8] = b"PROGRAM l;\nSg_green(1);\nL: GOTO L;\nPROG_ENDE: .\n";
-
-/// 1 + 3,333 x 2 + 3,332 + 1 statements, which are all that there are in a second.
-pub const ALL_UNITS: &[u8] = b"\
-PROGRAM b;\n\
-i := 0;\n\
-L: i := i + 1;\n\
-IF i < 3333 THEN GOTO L; END;\n\
-TRACE(i);\n\
-PROG_ENDE: .\n";
-
-/// One statement more than there are in a second.
-pub const ONE_UNIT_MORE: &[u8] = b"\
-PROGRAM b;\n\
-i := 0;\n\
-L: i := i + 1;\n\
-IF i < 3333 THEN GOTO L; END;\n\
-TRACE(i);\n\
-j := 1;\n\
-PROG_ENDE: .\n";
-
 /// A fault of each kind but one, each by a detector.
 pub const FAULTS: &[u8] = b"\
 PROGRAM f;\n\
@@ -76,22 +47,8 @@ IF Detection(4) THEN x := Detection(65); END;\n\
 IF n = 2 THEN Interstage(1, 1); END;\n\
 PROG_ENDE: .\n";
 
-/// A division by 0 on the right side of an AND whose left side is 0.
-pub const BOTH_SIDES: &[u8] = b"PROGRAM a;\nx := 0 AND (1 / 0);\nPROG_ENDE: .\n";
-
 /// A decimal number that is not whole.
 pub const DECIMAL: &[u8] = b"PROGRAM d;\nIF Headway(1) > 2.5 THEN END;\nPROG_ENDE: .\n";
-
-/// 3 + 4 x 2,499 + 2 statements with the return of each call, one more than there are in a second.
-pub const CALLS: &[u8] = b"\
-PROGRAM g;\n\
-SUBROUTINE s;\n\
-PROG_ENDE: .\n\
-x := 0; x := 0; x := 0;\n\
-L: GOSUB s;\n\
-x := 1;\n\
-GOTO L;\n\
-PROG_ENDE: .\n";
 
 /// A timer that two fronts start.
 pub const TIMER: &[u8] = b"\

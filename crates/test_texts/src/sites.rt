@@ -30,23 +30,6 @@ $END\n";
 /// Two groups, which are red in the one stage.
 pub const DARK: &[u8] = b"$SIGNAL_GROUPS\nK1 1\nK2 2\n$STAGES\nS0\n$STARTING_STAGE\nS0\n$END\n";
 
-/// A plan with a row that can be either way round.
-pub const ROWS: &[u8] = b"\
-$SIGNAL_GROUPS\n\
-K1 1\n\
-K2 2\n\
-$STAGES\n\
-S1 K1\n\
-S2 K1 K2\n\
-$STARTING_STAGE\n\
-S1\n\
-$INTERSTAGE\n\
-to_stage 2\n\
-LENGTH 6\n\
-From Stage = S1\n\
-k1 -127 127\n\
-k2 4 127\n";
-
 /// The same with a row of an interstage in which K1 is green too late.
 pub const WRONG_ROWS: &[u8] = b"\
 $SIGNAL_GROUPS\n\
@@ -67,14 +50,8 @@ k2 4 127\n";
 /// The times of two groups.
 pub const TIMES: &[u8] = b"group,min_green,red_amber,amber\nK1,10,1,3\nK2,8,1,3\n";
 
-/// A second of green, without red-amber and amber.
-pub const NO_WAIT_TIMES: &[u8] = b"group,min_green,red_amber,amber\nK1,1,0,0\nK2,1,0,0\n";
-
 /// The intergreens of two groups.
 pub const INTERGREENS: &[u8] = b"from,to,seconds\nK1,K2,5\nK2,K1,4\n";
-
-/// Two groups in conflict that need no seconds between them.
-pub const NO_WAIT_INTERGREENS: &[u8] = b"from,to,seconds\nK1,K2,0\nK2,K1,0\n";
 
 /// Intergreens that lack the way back.
 pub const ONE_WAY: &[u8] = b"from,to,seconds\nK1,K2,5\n";

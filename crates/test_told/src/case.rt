@@ -22,7 +22,9 @@
 //   any other     a file of this name
 //
 // A file that a call asks for and that is none of these is read from the folder. A part whose title begins with a backslash has `\HH`
-// for the byte with these two digits, and a backslash at the end of a line for no line end.
+// for the byte with these two digits, and a backslash at the end of a line for no line end. There a line `\*N LINE` stands for so
+// many lines, with `\#` for the number of each, from 0.
+use itoa::Buffer;
 use std::alloc::{AllocError, Global};
 
 /// A part of a case: its title and its text.
@@ -45,11 +47,15 @@ fn digit(byte: u8) -> u8 {
     }
 }
 
-// Adds a line in which a backslash and two digits stand for a byte.
-fn add_escaped(text: &mut Vec<u8>, line: &[u8]) -> Result<(), AllocError> {
+// Adds a line of this number, in which a backslash and two digits stand for a byte.
+fn add_escaped(text: &mut Vec<u8>, line: &[u8], number: u32) -> Result<(), AllocError> {
     let mut is_first = true;
     for piece in line.split(|byte| *byte == b'\\') {
         match piece {
+            [b'#', rest @ ..] if !is_first => {
+                text.extend_from_slice(Buffer::new().format(number).as_bytes())?;
+                text.extend_from_slice(rest)?;
+            }
             [high, low, rest @ ..] if !is_first => {
                 text.push(digit(*high).wrapping_mul(16).wrapping_add(digit(*low)))?;
                 text.extend_from_slice(rest)?;
@@ -64,11 +70,39 @@ fn add_escaped(text: &mut Vec<u8>, line: &[u8]) -> Result<(), AllocError> {
     Ok(())
 }
 
+// The number before the first blank of a line, and what follows behind it.
+fn cut_number(line: &[u8]) -> (u32, &[u8]) {
+    let mut number = 0u32;
+    for place in 0..line.len() {
+        let (_, rest) = line.split_at(place);
+        match rest {
+            [b' ', rest @ ..] => return (number, rest),
+            [byte, ..] => {
+                number = number.wrapping_mul(10).wrapping_add(u32::from(digit(*byte)));
+            }
+            [] => {}
+        }
+    }
+    (number, &[])
+}
+
+// Adds a line as often as the number says that it begins with.
+fn add_times(text: &mut Vec<u8>, line: &[u8]) -> Result<(), AllocError> {
+    let (times, line) = cut_number(line);
+    for number in 0..times {
+        add_escaped(text, line, number)?;
+    }
+    Ok(())
+}
+
 // Adds a line to a part.
 fn add_line(part: &mut Part, line: &[u8]) -> Result<(), AllocError> {
     let (title, text) = part;
     if title.as_str().starts_with("\\") {
-        return add_escaped(text, line);
+        return match line.strip_prefix(b"\\*") {
+            Some(line) => add_times(text, line),
+            None => add_escaped(text, line, 0),
+        };
     }
     text.extend_from_slice(line)?;
     text.push(b'\n')?;
