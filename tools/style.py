@@ -30,7 +30,7 @@ def long_bodies(lines):
     """The lines of the functions whose bodies have more than 40 lines."""
     for at, line in enumerate(lines):
         found = FUNCTION.match(line)
-        if not found:
+        if not found or line.rstrip().endswith("{}"):
             continue
         end = next((k for k in range(at, len(lines)) if lines[k].startswith(found[1] + "}")), at)
         begin = next((k for k in range(at, end + 1) if lines[k].strip() == "{" or lines[k].rstrip().endswith(" {")), at)

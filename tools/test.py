@@ -258,6 +258,7 @@ class Style(unittest.TestCase):
         body = ["fn long()", "{", *["    step();"] * 41, "}"]
         self.assertEqual(list(style.long_bodies(body)), [1])
         self.assertEqual(list(style.long_bodies(body[:2] + body[4:])), [])
+        self.assertEqual(list(style.long_bodies(["fn free(_one: One) {}", *["// a line"] * 42, "fn two() {", "}"])), [])
         self.assertEqual(list(style.bare_items(["/// One.", "pub fn one()", "pub fn two()"])), [3])
         self.assertEqual(list(style.unused_imports("ghost use Rattle.a.{used, spare};\nensures { used }\n")), [1])
         self.assertEqual(list(style.meaningless(["-- what it means", "pub a : T", "b", "abbrev pub c : T"])), [4])
