@@ -7,11 +7,11 @@ ghost use Rattle.signal_log.specs.Log.{rule_name};
 ghost use Rattle.judge_text.specs.Words.{aspect_rule, group_of, head_text, other_of, rule_of, second_of};
 
 use log_judge::Breach;
-use log_site::name_of;
 use pua_model::Plan;
 use sig_io::{Draft, Sink};
 use sig_types::{Aspect, GroupNo, Rule};
 use signal_log::rule_name;
+use site_load::name_of;
 
 // The rule that an aspect of another length breaks.
 fn aspect_rule(aspect: Aspect) -> Rule

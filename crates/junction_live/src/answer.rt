@@ -22,7 +22,8 @@ use crate::count::WatcherCount;
 use crate::form::{LiveWords, live_form};
 use crate::side::LiveStart;
 use crate::text::write_text;
-use det_board::make_board;
+use controller::Controller;
+use det_board::{Board, FeederPass, TickPass, make_board};
 use det_stream::{Frames, StreamRefusal, read_all};
 use junction_run::{
     LineReason, LoadStop, PlayStop, Site, Status, Stop, load_site, make_controller, status_of,
@@ -57,6 +58,16 @@ fn take_frames<'a, F: Files>(
     }
 }
 
+// Frees a site. A value that goes out of scope is freed part by part in each way out of its function, and each part is a step of
+// the function's proof; by this a way out has one step.
+fn free_site(_site: Site) {}
+
+// Frees frames and the controller that was to play them.
+fn free_run(_frames: Frames, _controller: Controller) {}
+
+// Frees a board with its passes.
+fn free_passes(_board: Board, _feeders: Vec<FeederPass>, _tick: TickPass) {}
+
 // Plays a detector file at a site, beside so many watchers. All memory is taken before the first byte is written.
 fn play_site<'a, R: Threads + Sync, F: Files, O: Sink + Send, G: Gate>(
     rt: &R,
@@ -84,7 +95,10 @@ fn play_site<'a, R: Threads + Sync, F: Files, O: Sink + Send, G: Gate>(
 {
     let frames = match take_frames(alloc, detectors, files) {
         Ok(frames) => frames,
-        Err(stop) => return Err(stop),
+        Err(stop) => {
+            free_site(site);
+            return Err(stop);
+        }
     };
     let controller = match make_controller(alloc, site) {
         Ok(controller) => controller,
@@ -92,11 +106,18 @@ fn play_site<'a, R: Threads + Sync, F: Files, O: Sink + Send, G: Gate>(
     };
     let (board, feeders, tick) = match make_board(alloc, 64) {
         Ok(made) => made,
-        Err(_memory) => return Err(Stop::Load(LoadStop::Memory)),
+        Err(_memory) => {
+            free_run(frames, controller);
+            return Err(Stop::Load(LoadStop::Memory));
+        }
     };
     let cell = match make_watched_cell(alloc, controller.plan(), watchers, &frames) {
         Ok(cell) => cell,
-        Err(_memory) => return Err(Stop::Load(LoadStop::Memory)),
+        Err(_memory) => {
+            free_run(frames, controller);
+            free_passes(board, feeders, tick);
+            return Err(Stop::Load(LoadStop::Memory));
+        }
     };
     let start = LiveStart {
         controller,

@@ -50,7 +50,7 @@ use Rattle.junction_run.specs.Form.{SiteWords, ProgramFile}
 use Rattle.junction_run.specs.Loading.{Unloaded, Playing, ReachedInPlay, ReachedAfterSite}
 use Rattle.junction_run.specs.Loading as loading
 use Rattle.junction_run.specs.Notes.{IsNote, NoteMeetsBy, load_note, play_note, stop_note}
-use Rattle.junction_run.specs.Played.{IsPlayed, IsPlayedAt, IsPlayStop, IsWritten, WasPlayed, BeginsWith}
+use Rattle.junction_run.specs.Played.{IsPlayed, IsPlayedAt, IsWritten, WasPlayed, BeginsWith}
 use Rattle.junction_run.specs.Reasons.{reason_text, line_reason}
 use Rattle.junction_run.specs.Records.{log_of}
 use Rattle.junction_run.specs.SiteAnswer.{IsLoadStatus, IsSiteLoad, IsSiteNote}
@@ -193,14 +193,6 @@ stopped_before name words detectors file Gives stop is =
     (λ w. ReachedInPlay name words detectors file (λ playing. Gives (Ok playing)) w) (λ u h. h)
     (λ w reached. ReachedInPlay.at_load w reached) stop is
 
--- what a stream begins with
-pub played_begins : {A : Type 0} (name : List ℕ) (r : Result A PlayStop) (stream : Stream) (frames : List Counts) → IsPlayed name r stream frames →
-    BeginsWith stream frames
-played_begins name (Ok x) stream frames is = ([], is.0 ∙ sym (append-nil frames))
-played_begins name (Err (play.ReadFault w)) stream frames is = is.1
-played_begins name (Err play.WriteFault) stream frames is = is
-played_begins name (Err (play.RefusedLine w line reason)) stream frames is = ([], is.1 ∙ sym (append-nil frames))
-
 -- the log of all frames of a stream
 whole_log : (playing : Playing) (stream : Stream) (frames : List Counts) → stream.frames ≡ frames →
     log_of playing frames ≡ log_of playing (take (length stream.frames) stream.frames)
@@ -298,22 +290,6 @@ pub some_cut : (r : Result (Unit {0}) PutFault) (start now : Option (List ℕ)) 
     OnErr r ((n : ℕ) × IsCut start now n text)
 some_cut (Ok u) start now text is = tt
 some_cut (Err f) start now text is = (is.n, is.cut)
-
--- what was finished was written
-pub written_so : {A : Type 0} (r : Result A PlayStop) (name : List ℕ) (failed : Bool) (log : List ℕ) (old new : Option (List ℕ)) →
-    IfErr r (λ stop. IsPlayStop name failed stop) → failed ≡ false → new ≡ append_known old log → IsWritten r log old new
-written_so (Ok x) name failed log old new stops whole is = is
-written_so (Err (play.ReadFault w)) name failed log old new stops whole is = is
-written_so (Err play.WriteFault) name failed log old new stops whole is = absurd (let e : true ≡ false = sym stops ∙ whole in cc)
-written_so (Err (play.RefusedLine w line reason)) name failed log old new stops whole is = is
-
--- the stops of playing
-pub play_stops : {A : Type 0} (name : List ℕ) (failed : Bool) (r : Result A PlayStop) → IfErr r (λ stop. IsPlayStop name failed stop) →
-    IfErr r (λ stop. PlaysAt name stop)
-play_stops name failed (Ok x) is = tt
-play_stops name failed (Err (play.ReadFault w)) is = is
-play_stops name failed (Err play.WriteFault) is = tt
-play_stops name failed (Err (play.RefusedLine w line reason)) is = is
 
 -- causes, one after the other
 pub fails_on : (a b c : ℕ) (x y z : Bool) → FailsOnly a b x y → FailsOnly b c y z → FailsOnly a c x z

@@ -9,7 +9,7 @@ pub mod Loads
 pub mod Logs
 pub mod Once
 pub mod Pieces
-pub mod Plays
+pub mod Told
 pub mod SafeLogs
 pub mod Sampling
 pub mod Tables

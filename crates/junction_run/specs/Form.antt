@@ -2,12 +2,8 @@
 use Rattle.std.specs.Prelude.{ℕ, ◌-◌, ◌^◌, nat_eq, List, [], ◌∷◌, codes, Bool, true, false, Option, None, Some, if◌then◌else◌}
 use lib.Pointwise.{pointwise}
 use Rattle.sig_types.specs.Text.{number_of, within}
-
--- the names of the files of a site
-pub record SiteWords : Type 0 where
-  pub plan : List ℕ
-  pub times : List ℕ
-  pub intergreens : List ℕ
+-- the names of the files of a site, and these in the order in which they are read
+pub use Rattle.site_load.specs.Loading.{SiteFiles as SiteWords, files_in as site_files}
 
 -- what decides the passes of a run: the name of a program or of a code
 pub data Source : Type 0 where
@@ -68,10 +64,6 @@ form_of (command ∷ file ∷ plan ∷ times ∷ intergreens ∷ detectors ∷ [
 form_of (command ∷ program ∷ plan ∷ times ∷ intergreens ∷ seed ∷ seconds ∷ []) =
     form_of_sample command program (record { plan = plan; times = times; intergreens = intergreens }) seed seconds
 form_of _ = None
-
--- the files that a site is read from, in their order
-abbrev pub site_files : SiteWords → List (List ℕ)
-site_files site = site.plan ∷ site.times ∷ site.intergreens ∷ []
 
 -- the files that a form names
 abbrev pub files_of : Form → List (List ℕ)

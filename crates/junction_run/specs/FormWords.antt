@@ -1,14 +1,11 @@
 -- The words of a command, as the program holds them.
-use Rattle.junction_run.specs.declared.form.SiteWords.{SiteWords as Words}
 use Rattle.junction_run.specs.declared.form.Source.{Source as Named}
 use Rattle.junction_run.specs.declared.form.Source.TheVariants as named
 use Rattle.junction_run.specs.declared.form.Form.{Form as Asked}
 use Rattle.junction_run.specs.declared.form.Form.TheVariants as asked
-use Rattle.junction_run.specs.Form.{SiteWords, Source, ProgramFile, CodeFile, Form, Play, Compile, Sample, Audit}
-
+use Rattle.junction_run.specs.Form.{Source, ProgramFile, CodeFile, Form, Play, Compile, Sample, Audit}
 -- the names of the files of a site, as the definitions see them
-abbrev pub site_in : Words → SiteWords
-site_in words = record { plan = words.plan.now; times = words.times.now; intergreens = words.intergreens.now }
+pub use Rattle.site_load.specs.Sites.{site_in}
 
 -- what decides the passes of a run, as the definitions see it
 abbrev pub source_in : Named → Source

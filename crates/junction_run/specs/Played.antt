@@ -1,5 +1,5 @@
 -- What is played.
-use Rattle.std.specs.Prelude.{◌≡◌, ◌++◌, ℕ, Bool, IsTrue, List, Option, None, Some, Result, Ok, Err}
+use Rattle.std.specs.Prelude.{◌≡◌, ◌++◌, ℕ, List, Option, None, Some, Result, Ok, Err}
 use Rattle.std.specs.Io.KnownBytes.{append_known}
 use Rattle.sig_io.specs.Draft.{IsCut}
 use Rattle.sig_types.specs.Counts.{Counts}
@@ -8,6 +8,8 @@ use Rattle.controller.specs.declared.controller.Controller.{Controller}
 use Rattle.controller.specs.Controls.{site_of, logic_of}
 use Rattle.det_stream.specs.declared.refusal.StreamWhy.{StreamWhy}
 use Rattle.det_stream.specs.Stream.{Stream}
+use Rattle.run_seconds.specs.declared.play.Stop.{Stop as Seconds}
+use Rattle.run_seconds.specs.declared.play.Stop.TheVariants as seconds
 use Rattle.junction_run.specs.declared.stop.LineReason.{LineReason}
 use Rattle.junction_run.specs.declared.stop.LineReason.TheVariants.{Frame, Record}
 use Rattle.junction_run.specs.declared.stop.LoadStop.TheVariants as load
@@ -22,11 +24,16 @@ use Rattle.junction_run.specs.Records.{log_of}
 abbrev pub playing_of : Controller → Store → Playing
 playing_of controller store = record { logic = logic_of controller; store = store; site = site_of controller }
 
--- The seconds stopped so: for a fault or a line of this file, or since the draft of the log failed.
-abbrev pub IsPlayStop : List ℕ → Bool → PlayStop → Type 0
-IsPlayStop name failed (ReadFault word) = word.now ≡ name
-IsPlayStop name failed WriteFault = IsTrue failed
-IsPlayStop name failed (RefusedLine word line reason) = word.now ≡ name
+-- the seconds stopped for this line, which is no frame for this reason
+abbrev pub IsRefusedAt : Seconds → ℕ → LineReason → Type 0
+IsRefusedAt stop line (Frame why) = stop ≡ seconds.Refused line why
+IsRefusedAt stop line (Record why) = ⊥
+
+-- why the seconds of the file of this name stopped, as a stop of a command
+abbrev pub IsStopAt : List ℕ → Seconds → PlayStop → Type 0
+IsStopAt name stop (ReadFault word) = (word.now ≡ name) × (stop ≡ seconds.ReadFault)
+IsStopAt name stop WriteFault = stop ≡ seconds.WriteFault
+IsStopAt name stop (RefusedLine word line reason) = (word.now ≡ name) × IsRefusedAt stop line reason
 
 -- Playing wrote the log of the frames that were given, or only a front of it.
 abbrev pub IsWritten : {A : Type 0} → Result A PlayStop → List ℕ → Option (List ℕ) → Option (List ℕ) → Type 0

@@ -1,11 +1,6 @@
 -- Why a text is refused, as a note tells it.
 use Rattle.std.specs.Prelude.{ℕ, List, ◌++◌, codes}
 use Rattle.std.specs.Fmt.{decimal}
-use Rattle.pua_model.specs.Plan.{name_of}
-use Rattle.pua_reader.specs.declared.refusal.PuaWhy.{PuaWhy}
-use Rattle.pua_reader.specs.declared.refusal.PuaWhy.TheVariants as pua
-use Rattle.sig_tables.specs.declared.refusal.TableWhy.{TableWhy}
-use Rattle.sig_tables.specs.declared.refusal.TableWhy.TheVariants as table
 use Rattle.vap_lex.specs.declared.piece.LexWhy.{LexWhy}
 use Rattle.vap_lex.specs.declared.piece.LexWhy.TheVariants as lex
 use Rattle.vap_parse.specs.declared.program.ParseWhy.{ParseWhy}
@@ -21,35 +16,13 @@ use Rattle.vap_code.specs.declared.VerifyWhy.TheVariants as verify
 use Rattle.det_stream.specs.declared.refusal.StreamWhy.{StreamWhy}
 use Rattle.det_stream.specs.declared.refusal.StreamWhy.TheVariants as stream
 use Rattle.log_read.specs.Whys.{why_name}
-use Rattle.junction_run.specs.declared.reasons.ReasonText.{ReasonText}
+use Rattle.site_load.specs.Reasons as site
+-- the text of the pieces of a reason
+pub use Rattle.site_load.specs.Reasons.{told_text}
 use Rattle.junction_run.specs.declared.stop.LineReason.{LineReason}
 use Rattle.junction_run.specs.declared.stop.LineReason.TheVariants.{Frame, Record}
 use Rattle.junction_run.specs.declared.stop.Reason.{Reason}
-use Rattle.junction_run.specs.declared.stop.Reason.TheVariants.{Pua, Table, Lex, Parse, Check, Code, Verify}
-
--- the reason of a refused plan; an inconsistent interstage with its number and the group's name
-abbrev pub plan_reason : PuaWhy → List ℕ
-plan_reason pua.NotText = codes "NotText"
-plan_reason pua.Section = codes "Section"
-plan_reason pua.Row = codes "Row"
-plan_reason pua.NameTwice = codes "NameTwice"
-plan_reason pua.UnknownName = codes "UnknownName"
-plan_reason pua.Range = codes "Range"
-plan_reason pua.NoStart = codes "NoStart"
-plan_reason pua.PairTwice = codes "PairTwice"
-plan_reason (pua.Inconsistent inter group name) = codes "Inconsistent " ++ decimal inter ++ codes " " ++ name
-plan_reason pua.Limit = codes "Limit"
-
--- the reason of a refused table, with the names of the groups that it speaks of
-abbrev pub table_reason : List (List ℕ) → TableWhy → List ℕ
-table_reason names table.Header = codes "Header"
-table_reason names table.Fields = codes "Fields"
-table_reason names table.Number = codes "Number"
-table_reason names table.UnknownName = codes "UnknownName"
-table_reason names table.Twice = codes "Twice"
-table_reason names (table.Missing group) = codes "Missing " ++ name_of names group
-table_reason names (table.OneWay from to) = codes "OneWay " ++ name_of names from ++ codes " " ++ name_of names to
-table_reason names table.SelfConflict = codes "SelfConflict"
+use Rattle.junction_run.specs.declared.stop.Reason.TheVariants.{Site, Lex, Parse, Check, Code, Verify}
 
 -- the reason why a text has no tokens from a place on
 abbrev pub lex_reason : LexWhy → List ℕ
@@ -126,14 +99,9 @@ line_reason (Record why) = why_name why
 
 -- the text of a reason
 abbrev pub reason_text : Reason → List ℕ
-reason_text (Pua why) = plan_reason why
-reason_text (Table why plan) = table_reason plan.names why
+reason_text (Site why) = site.reason_text why
 reason_text (Lex why) = lex_reason why
 reason_text (Parse why) = parse_reason why
 reason_text (Check why) = check_reason why
 reason_text (Code why) = code_reason why
 reason_text (Verify why) = verify_reason why
-
--- the text of the pieces of a reason
-abbrev pub told_text : ReasonText → List ℕ
-told_text told = told.name.now ++ told.blank.now ++ told.first.now ++ told.gap.now ++ told.second.now

@@ -7,7 +7,7 @@ use Rattle.vap_ast.specs.Syntax.{Program}
 use Rattle.vap_ast.specs.Tree.{program_of}
 use Rattle.vap_check.specs.Numbers.{Meant, checked_of}
 use Rattle.vap_code.specs.Codes.{CodeOf}
-use Rattle.junction_run.specs.declared.site.SiteTables.{SiteTables}
+use Rattle.site_load.specs.declared.site.SiteTables.{SiteTables}
 use Rattle.junction_run.specs.declared.load.Site.{Site as Loaded}
 use Rattle.junction_run.specs.declared.stop.LoadStop.{LoadStop}
 use Rattle.junction_run.specs.Codes.{CodeIs}

@@ -1,9 +1,12 @@
 -- Why a command stops before its end.
 use Rattle.std.specs.Prelude.{◌≡◌, ◌<◌, ℕ, List, length, Contains, Option, Some, Result, Ok, Err}
+use Rattle.site_load.specs.declared.stop.SiteStop.{SiteStop}
+use Rattle.site_load.specs.declared.stop.SiteStop.TheVariants as site
 use Rattle.junction_run.specs.declared.status.Status.{Status}
 use Rattle.junction_run.specs.declared.status.Status.TheVariants as status
 use Rattle.junction_run.specs.declared.stop.LoadStop.{LoadStop}
 use Rattle.junction_run.specs.declared.stop.LoadStop.TheVariants as load
+use Rattle.junction_run.specs.declared.stop.Reason.TheVariants.{Site}
 use Rattle.junction_run.specs.declared.stop.PlayStop.{PlayStop}
 use Rattle.junction_run.specs.declared.stop.PlayStop.TheVariants as play
 use Rattle.junction_run.specs.declared.stop.Stop.{Stop}
@@ -104,9 +107,9 @@ IsRefusedBy Is bytes (load.ReadFault word) = ⊥
 IsRefusedBy Is bytes (load.Refused word line reason) = Is bytes (Err (line, reason_text reason))
 IsRefusedBy Is bytes (load.TooLong word) = ⊥
 
--- a text is refused, where this is its refusal
-abbrev pub IsRefusedText : LoadStop → Option Refusal → Type 0
-IsRefusedText load.Memory refusal = Unit {0}
-IsRefusedText (load.ReadFault word) refusal = ⊥
-IsRefusedText (load.Refused word line reason) refusal = refusal ≡ Some (line, reason_text reason)
-IsRefusedText (load.TooLong word) refusal = ⊥
+-- a stop at a file of the site, as one of loading
+abbrev pub load_stop : SiteStop → LoadStop
+load_stop site.Memory = load.Memory
+load_stop (site.ReadFault word) = load.ReadFault word
+load_stop (site.Refused word line reason) = load.Refused word line (Site reason)
+load_stop (site.TooLong word) = load.TooLong word

@@ -21,14 +21,14 @@ ghost use Rattle.junction_run.specs.Stop.{PlaysAt, StopsAt, StopsAmong, StopsWit
 ghost use Rattle.junction_run.specs.declared.status.Status.TheVariants as status;
 
 use crate::audit_text::{put_inters, put_verdict};
-use crate::form::SiteWords;
-use crate::site::{SiteTables, take_site};
+use crate::site::take_site;
 use crate::stop::{LineReason, LoadStop, PlayStop, Stop};
 use pua_model::Plan;
 use sig_audit::{Auditor, Begin, LogPictures, LogRefusal, Verdict};
 use sig_guard::Guard;
 use sig_io::{Draft, Files, PutFault, Sink};
 use sig_tables::{Intergreens, Times};
+use site_load::{SiteTables, SiteWords};
 use std::alloc::Global;
 
 // Judges the pictures of a log, up to its end, a refused line or a fault. It takes no memory.
@@ -91,6 +91,9 @@ fn write_audit<O: Sink>(
     draft.finish(out)
 }
 
+// Frees what a log is judged with, in one step of a way out.
+fn free_audit(_plan: Plan, _guard: Guard, _lines: LogPictures) {}
+
 // Judges a log at a site. All memory is taken before the log is read, and nothing is written before its end.
 fn audit_at<'a, F: Files, O: Sink>(
     alloc: Global,
@@ -133,11 +136,20 @@ fn audit_at<'a, F: Files, O: Sink>(
         files,
     ) {
         Ok(verdict) => verdict,
-        Err(stop) => return Err(Stop::Play(stop)),
+        Err(stop) => {
+            free_audit(plan, guard, lines);
+            return Err(Stop::Play(stop));
+        }
     };
     match write_audit(verdict, &plan, &mut guard, out) {
-        Ok(()) => Ok(()),
-        Err(_fault) => Err(Stop::Play(PlayStop::WriteFault)),
+        Ok(()) => {
+            free_audit(plan, guard, lines);
+            Ok(())
+        }
+        Err(_fault) => {
+            free_audit(plan, guard, lines);
+            Err(Stop::Play(PlayStop::WriteFault))
+        }
     }
 }
 

@@ -7,6 +7,7 @@ ghost use Rattle.junction_run.specs.FormWords.{site_in, form_in};
 use crate::seconds::SampleSeconds;
 use sig_types::MOST_LINES;
 use sig_types::text::{number, number64};
+use site_load::SiteWords;
 
 const RUN: &str = "run";
 
@@ -17,14 +18,6 @@ const EXEC: &str = "exec";
 const SAMPLE: &str = "sample";
 
 const AUDIT: &str = "audit";
-
-/// The names of the files of a site.
-#[derive(Clone, Copy)]
-pub struct SiteWords<'a> {
-    pub plan: &'a str,
-    pub times: &'a str,
-    pub intergreens: &'a str,
-}
 
 /// The names of the files of a site.
 pub(crate) fn site_words<'a>(

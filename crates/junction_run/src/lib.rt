@@ -33,13 +33,14 @@ mod stop;
 mod top;
 
 pub use file::read_file;
-pub use form::{SiteWords, Source};
+pub use form::Source;
 pub use load::{Site, load_site, load_source};
 pub use notes::{write_stop, write_words};
 pub use program::judge_source;
-pub use reasons::{ReasonText, reason};
+pub use reasons::reason;
 pub use run::make_controller;
-pub use site::{SiteTables, take_site};
+pub use site::take_site;
+pub use site_load::{ReasonText, SiteTables, SiteWords};
 pub use status::{Status, exit_status};
 pub use stop::{LineReason, LoadStop, PlayStop, Reason, Stop, status_of};
 pub use top::junction;

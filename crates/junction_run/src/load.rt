@@ -13,16 +13,17 @@ ghost use Rattle.junction_run.specs.Stop.{IsAt, IsAmong, StopsWith, load_status}
 ghost use Rattle.junction_run.specs.declared.status.Status.TheVariants as status;
 
 use crate::code::take_code;
-use crate::form::{SiteWords, Source, site_words};
+use crate::form::{Source, site_words};
 use crate::notes::write_load_stop;
 use crate::program::take_program;
-use crate::site::{SiteTables, take_site};
+use crate::site::take_site;
 use crate::status::Status;
 use crate::stop::{LoadStop, load_status};
 use code_verify::Verified;
 use pua_model::Plan;
 use sig_io::{Files, Sink};
 use sig_tables::{Intergreens, Times};
+use site_load::{SiteTables, SiteWords};
 use std::alloc::Global;
 
 /// A site, and the code that decides its passes. The tables were read against the plan.

@@ -7,10 +7,11 @@ ghost use Rattle.sig_io.specs.Outside.{Rose};
 ghost use Rattle.junction_run.specs.Answer.{note_of};
 ghost use Rattle.junction_run.specs.Notes.{load_note, play_note, stop_note};
 
-use crate::reasons::{ReasonText, line_reason, reason};
+use crate::reasons::{line_reason, reason};
 use crate::stop::{LoadStop, PlayStop, Stop};
 use itoa::Buffer;
 use sig_io::{Sink, put_each};
+use site_load::ReasonText;
 
 // Writes a note of these pieces. One of at most 4,096 bytes is given to the sink whole, so that runs which share a standard
 // error don't mix their notes. A fault changes nothing else.

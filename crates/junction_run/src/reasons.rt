@@ -1,20 +1,7 @@
 // Why a file is refused, as a note tells it.
-ghost use Rattle.std.specs.Prelude.{◌≡◌, ◌++◌, codes};
-ghost use Rattle.pua_model.specs.Plan.{name_of};
-ghost use Rattle.junction_run.specs.Reasons.{
-  plan_reason,
-  table_reason,
-  lex_reason,
-  parse_reason,
-  which_name,
-  check_reason,
-  code_reason,
-  verify_reason,
-  stream_reason,
-  line_reason,
-  reason_text,
-  told_text,
-};
+ghost use Rattle.std.specs.Prelude.{◌≡◌};
+ghost use Rattle.junction_run.specs.Reasons.{lex_reason, parse_reason, which_name, check_reason, code_reason, verify_reason};
+ghost use Rattle.junction_run.specs.Reasons.{stream_reason, line_reason, reason_text, told_text};
 
 use crate::stop::{LineReason, Reason};
 use code_file::CodeWhy;
@@ -22,106 +9,10 @@ use code_verify::VerifyWhy;
 use det_stream::StreamWhy;
 use itoa::Buffer;
 use log_read::why_name;
-use pua_model::Plan;
-use pua_reader::PuaWhy;
-use sig_tables::TableWhy;
-use sig_types::GroupNo;
+use site_load::{ReasonText, name_alone, reason_told, with_one};
 use vap_check::{CheckWhy, Which};
 use vap_lex::LexWhy;
 use vap_parse::ParseWhy;
-
-/// The pieces of a reason: its name, and up to two things that it speaks of, each after a blank.
-#[derive(Clone, Copy)]
-pub struct ReasonText<'a> {
-    pub name: &'a [u8],
-    pub blank: &'a [u8],
-    pub first: &'a [u8],
-    pub gap: &'a [u8],
-    pub second: &'a [u8],
-}
-
-fn name_alone<'x>(name: &'x [u8]) -> ReasonText<'x>
-    ensures { told_text result ≡ name.now }
-{
-    ReasonText {
-        name,
-        blank: b"",
-        first: b"",
-        gap: b"",
-        second: b"",
-    }
-}
-
-fn with_one<'x>(name: &'x [u8], first: &'x [u8]) -> ReasonText<'x>
-    ensures { told_text result ≡ name.now ++ codes " " ++ first.now }
-{
-    ReasonText {
-        name,
-        blank: b" ",
-        first,
-        gap: b"",
-        second: b"",
-    }
-}
-
-fn with_two<'x>(name: &'x [u8], first: &'x [u8], second: &'x [u8]) -> ReasonText<'x>
-    ensures { told_text result ≡ name.now ++ codes " " ++ first.now ++ codes " " ++ second.now }
-{
-    ReasonText {
-        name,
-        blank: b" ",
-        first,
-        gap: b" ",
-        second,
-    }
-}
-
-fn plan_reason<'x>(why: &'x PuaWhy, digits: &'x mut Buffer) -> ReasonText<'x>
-    ensures { told_text result ≡ plan_reason why.now }
-{
-    match why {
-        PuaWhy::NotText => name_alone(b"NotText"),
-        PuaWhy::Section => name_alone(b"Section"),
-        PuaWhy::Row => name_alone(b"Row"),
-        PuaWhy::NameTwice => name_alone(b"NameTwice"),
-        PuaWhy::UnknownName => name_alone(b"UnknownName"),
-        PuaWhy::Range => name_alone(b"Range"),
-        PuaWhy::NoStart => name_alone(b"NoStart"),
-        PuaWhy::PairTwice => name_alone(b"PairTwice"),
-        PuaWhy::Inconsistent { inter, name, .. } => with_two(
-            b"Inconsistent",
-            digits.format(*inter).as_bytes(),
-            name.bytes(),
-        ),
-        PuaWhy::Limit => name_alone(b"Limit"),
-    }
-}
-
-// The name of a group; no bytes where the plan has no such group.
-fn name_of(plan: &Plan, group: GroupNo) -> &[u8]
-    ensures { result.now ≡ name_of plan.now.names group }
-{
-    if group.0 < plan.groups() {
-        plan.group_name(group).as_bytes()
-    } else {
-        b""
-    }
-}
-
-fn table_reason<'x>(why: TableWhy, plan: &'x Plan) -> ReasonText<'x>
-    ensures { told_text result ≡ table_reason plan.now.names why }
-{
-    match why {
-        TableWhy::Header => name_alone(b"Header"),
-        TableWhy::Fields => name_alone(b"Fields"),
-        TableWhy::Number => name_alone(b"Number"),
-        TableWhy::UnknownName => name_alone(b"UnknownName"),
-        TableWhy::Twice => name_alone(b"Twice"),
-        TableWhy::Missing(group) => with_one(b"Missing", name_of(plan, group)),
-        TableWhy::OneWay(from, to) => with_two(b"OneWay", name_of(plan, from), name_of(plan, to)),
-        TableWhy::SelfConflict => name_alone(b"SelfConflict"),
-    }
-}
 
 fn lex_reason<'x>(why: LexWhy) -> ReasonText<'x>
     ensures { told_text result ≡ lex_reason why }
@@ -236,8 +127,7 @@ pub fn reason<'x>(reason: &'x Reason, digits: &'x mut Buffer) -> ReasonText<'x>
     ensures { told_text result ≡ reason_text reason.now }
 {
     match reason {
-        Reason::Pua(why) => plan_reason(why, digits),
-        Reason::Table(why, plan) => table_reason(*why, plan),
+        Reason::Site(why) => reason_told(why, digits),
         Reason::Lex(why) => lex_reason(*why),
         Reason::Parse(why) => parse_reason(*why),
         Reason::Check(why) => check_reason(*why),

@@ -20,7 +20,7 @@ ghost use Rattle.junction_run.specs.Sites as sites;
 ghost use Rattle.junction_run.specs.Stop.{StopsAt, StopsAmong, StopsWith, status_of};
 ghost use Rattle.junction_run.specs.declared.status.Status.TheVariants as status;
 
-use crate::form::{SiteWords, Source};
+use crate::form::Source;
 use crate::load::{Site, load_source};
 use crate::play::play;
 use crate::stop::{LoadStop, Stop};
@@ -28,6 +28,7 @@ use controller::Controller;
 use det_stream::Lines;
 use sig_io::{Files, Sink};
 use sig_types::Memory;
+use site_load::SiteWords;
 use std::alloc::Global;
 
 /// A controller of a site, before its first second. The tables were read against the plan.
@@ -54,7 +55,7 @@ pub fn make_controller(alloc: Global, site: Site) -> Result<Controller, Memory>
 
 // Frees a controller. A value that goes out of scope is freed part by part in each way out of its function, and each part is a step of
 // the function's proof; by this a way out has one step.
-fn free_controller(_controller: Controller) {}
+pub(crate) fn free_controller(_controller: Controller) {}
 
 // Frees what seconds are made with.
 fn free_run(_controller: Controller, _lines: Lines) {}

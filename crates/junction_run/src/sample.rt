@@ -21,9 +21,9 @@ ghost use Rattle.junction_run.specs.Stop.{StopsAmong, StopsWith, status_of};
 ghost use Rattle.junction_run.specs.declared.status.Status.TheVariants as status;
 
 use crate::draw::{draw_frame, generator_of};
-use crate::form::{SiteWords, Source};
+use crate::form::Source;
 use crate::load::load_source;
-use crate::run::make_controller;
+use crate::run::{free_controller, make_controller};
 use crate::seconds::SampleSeconds;
 use crate::stop::{LoadStop, PlayStop, Stop};
 use controller::Controller;
@@ -31,6 +31,7 @@ use pua_model::Plan;
 use sig_io::{Draft, Files, PutFault, Sink};
 use sig_types::Frame;
 use signal_log::{Summary, put_summary};
+use site_load::SiteWords;
 use std::alloc::Global;
 
 // Makes so many seconds, each with a frame that is drawn from the seed, and adds their records up. It takes no memory.
@@ -104,7 +105,13 @@ pub(crate) fn sample<'a, F: Files, O: Sink>(
     };
     let summary = sample_seconds(&mut controller, seed, seconds.count);
     match write_summary(&summary, controller.plan(), seed, seconds.count, out) {
-        Ok(()) => Ok(()),
-        Err(_fault) => Err(Stop::Play(PlayStop::WriteFault)),
+        Ok(()) => {
+            free_controller(controller);
+            Ok(())
+        }
+        Err(_fault) => {
+            free_controller(controller);
+            Err(Stop::Play(PlayStop::WriteFault))
+        }
     }
 }

@@ -7,10 +7,10 @@ ghost use Rattle.refusal_text.specs.Words.{asked_name, command_text, group_of, r
 
 use crate::refusal::Refusal;
 use log_judge::Asked;
-use log_site::name_of;
 use pua_model::Plan;
 use sig_io::{Draft, Sink};
 use sig_types::{GroupNo, Rule, StageRefusal};
+use site_load::name_of;
 
 /// The place of its second.
 pub(crate) fn second_of(refusal: &Refusal) -> u32

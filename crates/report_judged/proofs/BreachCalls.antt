@@ -8,10 +8,10 @@ use Rattle.sig_types.specs.Rules.{Rules}
 use Rattle.sig_types.specs.Turns.{Picture}
 use Rattle.log_judge.specs.declared.find.Terms.{Terms}
 use Rattle.log_read.specs.Readings.{first_second}
-use Rattle.log_site.specs.declared.stop.SiteStop.{SiteStop}
-use Rattle.log_site.specs.declared.stop.SiteStop.TheVariants as unsited
-use Rattle.log_site.specs.Loading.{Site, site_of}
-use Rattle.log_site.specs.Stop as stop
+use Rattle.site_load.specs.declared.stop.SiteStop.{SiteStop}
+use Rattle.site_load.specs.declared.stop.SiteStop.TheVariants as unsited
+use Rattle.site_load.specs.Loading.{Site, site_of}
+use Rattle.site_load.specs.Stop as stop
 use Rattle.report_words.specs.declared.stop.JudgeStop.{JudgeStop}
 use Rattle.report_words.specs.declared.stop.JudgeStop.TheVariants.{Words, Memory, Site as Unsited, ReadFault, RefusedLine, WriteFault}
 use Rattle.judge_text.specs.Lines.{breaches_text}

@@ -3,10 +3,10 @@ use Rattle.std.proofs.Common.{◌≡◌, ℕ, List, Option, None, Some, Result, 
 use Rattle.sig_io.specs.Outside.{Contents}
 use Rattle.report_words.specs.declared.stop.JudgeStop.{JudgeStop}
 use Rattle.report_words.specs.declared.stop.JudgeStop.TheVariants as stop
-use Rattle.log_site.specs.declared.stop.SiteStop.{SiteStop}
-use Rattle.log_site.specs.declared.stop.SiteStop.TheVariants as site
-use Rattle.log_site.specs.Loading.{Site, site_of}
-use Rattle.log_site.specs.Stop as loading
+use Rattle.site_load.specs.declared.stop.SiteStop.{SiteStop}
+use Rattle.site_load.specs.declared.stop.SiteStop.TheVariants as site
+use Rattle.site_load.specs.Loading.{Site, site_of}
+use Rattle.site_load.specs.Stop as loading
 use Rattle.report_judged.specs.ProtocolForm.{Asked}
 use Rattle.report_judged.specs.ProtocolCall.{IsAnswered, IsReadFault, IsStopped, IsTextOf, IsWriteFault, IsWritten}
 use Rattle.report_judged.specs.ProtocolGathered.{IsLogFault, IsOfLog, IsUnread}

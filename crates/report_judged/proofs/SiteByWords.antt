@@ -3,7 +3,7 @@ use Rattle.std.proofs.Common.{ℕ, Bool, true, false, List, [], ◌∷◌, Optio
 use Rattle.std.specs.Prelude.{codes, ◌&&◌, if◌then◌else◌}
 use Rattle.std.specs.Str.{bytes_eq}
 use Rattle.sig_types.specs.Text.{number_of, within}
-use Rattle.log_site.specs.Loading.{SiteFiles}
+use Rattle.site_load.specs.Loading.{SiteFiles}
 use Rattle.log_svg.specs.Words.{Looked}
 use Rattle.report_seen.specs.declared.diagram_form.Window.{Window}
 use Rattle.report_seen.specs.declared.stop.Stop.{Stop}

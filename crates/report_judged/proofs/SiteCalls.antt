@@ -1,10 +1,10 @@
 -- What is written of what is asked for.
 use Rattle.std.proofs.Common.{◌≡◌, ◌∙◌, ℕ, List, Option, Result, Ok, Err, sym, subst}
 use Rattle.sig_io.specs.Outside.{Contents}
-use Rattle.log_site.specs.declared.stop.SiteStop.{SiteStop}
-use Rattle.log_site.specs.declared.stop.SiteStop.TheVariants as site
-use Rattle.log_site.specs.Loading.{Site, site_of}
-use Rattle.log_site.specs.Stop as loading
+use Rattle.site_load.specs.declared.stop.SiteStop.{SiteStop}
+use Rattle.site_load.specs.declared.stop.SiteStop.TheVariants as site
+use Rattle.site_load.specs.Loading.{Site, site_of}
+use Rattle.site_load.specs.Stop as loading
 use Rattle.report_seen.specs.declared.stop.Stop.{Stop}
 use Rattle.report_seen.specs.declared.stop.Stop.TheVariants as view
 use Rattle.report_seen.specs.Answers.{IsOfReading, IsUndrawn}

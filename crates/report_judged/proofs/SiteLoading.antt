@@ -7,10 +7,10 @@ use Rattle.pua_reader.specs.declared.refusal.PuaWhy.{PuaWhy}
 use Rattle.pua_reader.specs.Accepted.{refusal_of, plan_of_text}
 use Rattle.pua_lines.specs.StageWords.{stage_words}
 use Rattle.pua_lines.proofs.StageLines.{stage_words_are_names}
-use Rattle.log_site.specs.declared.stop.SiteStop.{SiteStop}
-use Rattle.log_site.specs.Loading.{Refusal, ReachedInSite, Site, SiteFiles, TooLong, Unloaded, ◌>>=◌, intergreens_at, plan_at, plan_refusal, site_of, text_limit, times_at, unless_refused}
-use Rattle.log_site.specs.Stop.{IsAt, IsLoadStop, IsUnread}
-use Rattle.log_site.proofs.Loads.{judged_unread, no_plan}
+use Rattle.site_load.specs.declared.stop.SiteStop.{SiteStop}
+use Rattle.site_load.specs.Loading.{Refusal, ReachedInSite, Site, SiteFiles, TooLong, Unloaded, ◌>>=◌, intergreens_at, plan_at, plan_refusal, site_of, text_limit, times_at, unless_refused}
+use Rattle.site_load.specs.Stop.{IsAt, IsLoadStop, IsUnread}
+use Rattle.site_load.proofs.Loads.{judged_unread, no_plan}
 use Rattle.pua_reader.proofs.PlansKept.{plans_are_whole}
 use Rattle.report_judged.specs.SiteParts.{short_names}
 use Rattle.report_judged.proofs.SiteMore.{short_names_same}

@@ -10,8 +10,8 @@ use Rattle.log_judge.specs.declared.breach.Breach.{Breach}
 use Rattle.log_judge.specs.Breaches.{breaches}
 use Rattle.log_read.specs.Readings.{IsPictures, first_second}
 use Rattle.log_read.specs.declared.begin.Begin.TheVariants.{Anywhere}
-use Rattle.log_site.specs.Loading.{ReachedInSite, Site, site_of}
-use Rattle.log_site.specs.Stop.{IsLoadStop}
+use Rattle.site_load.specs.Loading.{ReachedInSite, Site, site_of}
+use Rattle.site_load.specs.Stop.{IsLoadStop}
 use Rattle.report_words.specs.declared.status.Status.{Status}
 use Rattle.report_words.specs.declared.status.Status.TheVariants.{Done, Broken}
 use Rattle.report_words.specs.declared.stop.JudgeStop.{JudgeStop}

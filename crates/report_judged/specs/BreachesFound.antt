@@ -11,8 +11,8 @@ use Rattle.log_read.specs.declared.pictures.LogPictures.{LogPictures}
 use Rattle.log_read.specs.Answers.{IsFirst, first_given}
 use Rattle.log_read.specs.Readings.{IsPictures}
 use Rattle.log_read.specs.declared.begin.Begin.TheVariants.{Anywhere}
-use Rattle.log_site.specs.Loading.{Site}
-use Rattle.log_site.specs.declared.stop.SiteStop.TheVariants as site
+use Rattle.site_load.specs.Loading.{Site}
+use Rattle.site_load.specs.declared.stop.SiteStop.TheVariants as site
 use Rattle.report_words.specs.declared.stop.JudgeStop.{JudgeStop}
 use Rattle.report_words.specs.declared.stop.JudgeStop.TheVariants.{Words, Memory, Site as Unsited, ReadFault, RefusedLine, WriteFault}
 use Rattle.report_judged.specs.declared.breach_finding.Found.{Found}

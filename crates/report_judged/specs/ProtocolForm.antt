@@ -1,8 +1,8 @@
 -- What the words of a call ask for.
 use Rattle.std.specs.Prelude.{ℕ, List, [], ◌∷◌, codes, Option, None, Some, if◌then◌else◌}
 use Rattle.std.specs.Str.{bytes_eq}
-use Rattle.log_site.specs.Loading.{SiteFiles}
-use Rattle.log_site.specs.Sites.{site_in}
+use Rattle.site_load.specs.Loading.{SiteFiles}
+use Rattle.site_load.specs.Sites.{site_in}
 use Rattle.log_protocol.specs.declared.text.Style.{Style}
 use Rattle.log_protocol.specs.declared.text.Style.TheVariants.{Table, Lines}
 use Rattle.report_judged.specs.declared.protocol_form.ProtocolForm.{ProtocolForm}

@@ -6,9 +6,9 @@ use Rattle.sig_io.specs.Draft.{IsCut}
 use Rattle.sig_io.specs.Outside.{Contents, Rose}
 use Rattle.sig_io.specs.Seen.{Seen}
 use Rattle.sig_types.specs.declared.record.Record.{Record}
-use Rattle.log_site.specs.Loading.{Site, ReachedInSite, site_of}
-use Rattle.log_site.specs.Stop.{IsLoadStop}
-use Rattle.log_site.specs.Stop as loading
+use Rattle.site_load.specs.Loading.{Site, ReachedInSite, site_of}
+use Rattle.site_load.specs.Stop.{IsLoadStop}
+use Rattle.site_load.specs.Stop as loading
 use Rattle.report_words.specs.declared.status.Status.{Status}
 use Rattle.report_words.specs.declared.status.Status.TheVariants.{Done}
 use Rattle.report_words.specs.declared.stop.JudgeStop.{JudgeStop}

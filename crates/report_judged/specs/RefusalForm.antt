@@ -3,8 +3,8 @@ use Rattle.std.specs.Prelude.{ℕ, Bool, true, false, List, [], ◌∷◌, codes
 use Rattle.std.specs.Option.{option_and_then, option_map}
 use Rattle.std.specs.Str.{bytes_eq}
 use Rattle.sig_types.specs.Text.{number_of, within}
-use Rattle.log_site.specs.Loading.{SiteFiles}
-use Rattle.log_site.specs.Sites.{site_in}
+use Rattle.site_load.specs.Loading.{SiteFiles}
+use Rattle.site_load.specs.Sites.{site_in}
 use Rattle.report_judged.specs.declared.refusal_form.Options.{Options}
 use Rattle.report_judged.specs.declared.refusal_form.RefusalForm.{RefusalForm}
 

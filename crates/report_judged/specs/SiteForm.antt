@@ -1,8 +1,8 @@
 -- What the words of a call ask for.
 use Rattle.std.specs.Prelude.{ℕ, Bool, false, List, ◌∷◌, codes, ◌&&◌, Option, None, Some, Result, Ok, Err, if◌then◌else◌}
 use Rattle.std.specs.Str.{bytes_eq}
-use Rattle.log_site.specs.Loading.{SiteFiles}
-use Rattle.log_site.specs.Sites.{site_in}
+use Rattle.site_load.specs.Loading.{SiteFiles}
+use Rattle.site_load.specs.Sites.{site_in}
 use Rattle.log_svg.specs.LookIn.{look_in}
 use Rattle.log_svg.specs.Words.{Looked}
 use Rattle.report_seen.specs.declared.diagram_form.Window.{Window}

@@ -1,6 +1,6 @@
 -- What a site gives a diagram.
 use Rattle.std.specs.Prelude.{zero, suc, ℕ, List, [], ◌∷◌, ◌++◌, ◌&&◌, codes, if◌then◌else◌, length, map, nat_le}
-use Rattle.log_site.specs.Loading.{Site}
+use Rattle.site_load.specs.Loading.{Site}
 use Rattle.log_svg.specs.Words.{Looked}
 use Rattle.sig_tables.specs.declared.times.TimesRow.{TimesRow}
 use Rattle.sig_tables.specs.TimesTable.{row_of}

@@ -5,8 +5,8 @@ ghost use Rattle.sig_io.specs.Draft.{IsDraft};
 ghost use Rattle.sig_io.specs.Outside.{Rose};
 ghost use Rattle.sig_io.specs.Seen.{seen};
 ghost use Rattle.pua_model.specs.Plan.{groups_in};
-ghost use Rattle.log_site.specs.Loading.{site_of};
-ghost use Rattle.log_site.specs.Sites.{site_of_tables};
+ghost use Rattle.site_load.specs.Loading.{site_of};
+ghost use Rattle.site_load.specs.Sites.{site_of_tables};
 ghost use Rattle.judge_text.specs.Lines.{breaches_text};
 ghost use Rattle.judge_text.specs.Rows.{table_text};
 ghost use Rattle.report_judged.specs.BreachCall.{IsAnswered, IsReported, done_with, is_some_breach, text_of};
@@ -18,10 +18,10 @@ use crate::breach_finding::{Found, find_breaches};
 use crate::breach_form::{BreachForm, form_of};
 use judge_text::{put_breaches, put_table};
 use log_judge::Breach;
-use log_site::{SiteTables, take_site};
 use pua_model::Plan;
 use report_words::{JudgeStop, Status, status_of, write_stop};
 use sig_io::{Draft, Files, Sink};
+use site_load::{SiteTables, take_site};
 use std::alloc::Global;
 
 // Gives a sink the rest of a text.

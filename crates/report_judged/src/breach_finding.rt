@@ -8,15 +8,15 @@ ghost use Rattle.sig_tables.specs.SiteRules.{rules_of};
 ghost use Rattle.log_judge.specs.Breaches.{breaches, breaches_within};
 ghost use Rattle.log_judge.specs.Stands.{StandsFor, groups_of, seconds_of, terms_of};
 ghost use Rattle.log_read.specs.Answers.{Reads, begin_of, is_live, name_of, pictures_given};
-ghost use Rattle.log_site.specs.Sites.{site_of_tables};
+ghost use Rattle.site_load.specs.Sites.{site_of_tables};
 ghost use Rattle.report_judged.specs.BreachesFound.{IsFinding, IsReadFault, IsReading, IsWriteFault};
 
 use log_judge::{Breach, Judge};
 use log_read::{Begin, LogPictures, LogRefusal};
-use log_site::SiteTables;
 use report_words::JudgeStop;
 use sig_io::Files;
 use sig_types::Memory;
+use site_load::SiteTables;
 use std::alloc::Global;
 
 /// The breaches of a log that was read to its end.

@@ -1,10 +1,10 @@
 // The words of a call.
 ghost use Rattle.std.specs.Prelude.{◌≡◌, ◌≤◌, None, Some, IfSome, MatchOption, map, string_bytes};
-ghost use Rattle.log_site.specs.Sites.{site_in};
+ghost use Rattle.site_load.specs.Sites.{site_in};
 ghost use Rattle.report_judged.specs.BreachForm.{asked_in, csv_alone, form_by, form_of, three_words, with_tolerance};
 
-use log_site::SiteWords;
 use sig_types::text::number;
+use site_load::SiteWords;
 
 /// What the words ask for.
 #[derive(Clone, Copy)]

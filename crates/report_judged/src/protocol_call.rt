@@ -9,17 +9,17 @@ ghost use Rattle.sig_tables.specs.SiteRules.{rules_of};
 ghost use Rattle.pua_model.specs.Plan.{groups_in};
 ghost use Rattle.log_protocol.specs.Page.{IsPageOf, groups_of};
 ghost use Rattle.log_protocol.specs.Texts.{page_text};
-ghost use Rattle.log_site.specs.Loading.{site_of};
-ghost use Rattle.log_site.specs.Sites.{site_of_tables};
+ghost use Rattle.site_load.specs.Loading.{site_of};
+ghost use Rattle.site_load.specs.Sites.{site_of_tables};
 ghost use Rattle.report_judged.specs.ProtocolForm.{asked_in};
 ghost use Rattle.report_judged.specs.ProtocolCall.{IsAnswered, IsReadFault, IsReported, IsWriteFault, IsWritten};
 
 use crate::protocol_form::{ProtocolForm, form_of};
 use crate::protocol_gathering::{Gathered, gather};
 use log_protocol::{Sheet, Style};
-use log_site::{SiteTables, take_site};
 use report_words::{JudgeStop, Status, status_of, write_stop};
 use sig_io::{Draft, Files, Sink};
+use site_load::{SiteTables, take_site};
 use std::alloc::Global;
 
 // Gives a sink the rest of a text.

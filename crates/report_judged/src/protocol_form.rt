@@ -3,7 +3,7 @@ ghost use Rattle.std.specs.Prelude.{◌≡◌, ◌+◌, ◌≤◌, map, string_b
 ghost use Rattle.report_judged.specs.ProtocolForm.{asked_by, form_of, style_of, style_for};
 
 use log_protocol::Style;
-use log_site::SiteWords;
+use site_load::SiteWords;
 
 /// What the words ask for.
 #[derive(Clone, Copy)]

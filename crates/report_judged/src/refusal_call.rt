@@ -5,19 +5,19 @@ ghost use Rattle.sig_io.specs.Draft.{IsDraft};
 ghost use Rattle.sig_io.specs.Outside.{Rose};
 ghost use Rattle.sig_io.specs.Seen.{seen};
 ghost use Rattle.pua_model.specs.Plan.{groups_in};
-ghost use Rattle.log_site.specs.Loading.{site_of};
-ghost use Rattle.log_site.specs.Sites.{site_of_tables};
+ghost use Rattle.site_load.specs.Loading.{site_of};
+ghost use Rattle.site_load.specs.Sites.{site_of_tables};
 ghost use Rattle.refusal_text.specs.Kept.{told_text};
 ghost use Rattle.report_judged.specs.RefusalForm.{asked_in};
 ghost use Rattle.report_judged.specs.RefusalCall.{IsAnswered, IsReadFault, IsReported, IsWriteFault, IsWritten};
 
 use crate::refusal_finding::find_refusals;
 use crate::refusal_form::{RefusalForm, form_of};
-use log_site::{SiteTables, take_site};
 use pua_model::Plan;
 use refusal_text::{Refusals, put_refusals};
 use report_words::{JudgeStop, Status, status_of, write_stop};
 use sig_io::{Draft, Files, Sink};
+use site_load::{SiteTables, take_site};
 use std::alloc::Global;
 
 // Gives a sink the rest of a text.

@@ -9,10 +9,10 @@ ghost use Rattle.log_read.specs.RecordAnswers.{Stops};
 ghost use Rattle.report_judged.specs.RefusalsFound.{IsFinding, IsLogFault, IsOfLog, IsUnread};
 
 use log_read::{Begin, LogRecords, LogStop};
-use log_site::SiteTables;
 use refusal_text::Refusals;
 use report_words::JudgeStop;
 use sig_io::Files;
+use site_load::SiteTables;
 use std::alloc::Global;
 
 // Why a log is read no further.

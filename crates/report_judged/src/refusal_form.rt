@@ -3,9 +3,9 @@ ghost use Rattle.std.specs.Prelude.{◌≡◌, ◌≤◌, map, string_bytes};
 ghost use Rattle.report_judged.specs.RefusalForm.{asked_by, form_of, lone_option, options_of, seconds_of, three_options};
 
 use log_read::LAST_BEGIN;
-use log_site::SiteWords;
 use sig_types::MOST_LINES;
 use sig_types::text::number;
+use site_load::SiteWords;
 
 // The last second that a log can have.
 const LAST: u32 = LAST_BEGIN + MOST_LINES;

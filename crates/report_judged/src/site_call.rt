@@ -3,8 +3,8 @@ ghost use Rattle.std.specs.Prelude.{◌≡◌, ◌≤◌, Err, IfErr, Ok, map, s
 ghost use Rattle.std.specs.Option.{ForSome};
 ghost use Rattle.sig_io.specs.Outside.{Rose};
 ghost use Rattle.sig_io.specs.Seen.{seen};
-ghost use Rattle.log_site.specs.Loading.{site_of};
-ghost use Rattle.log_site.specs.Sites.{site_of_tables};
+ghost use Rattle.site_load.specs.Loading.{site_of};
+ghost use Rattle.site_load.specs.Sites.{site_of_tables};
 ghost use Rattle.log_svg.specs.Diagram.{IsShowable, diagram_text};
 ghost use Rattle.log_svg.specs.LookIn.{look_in};
 ghost use Rattle.log_svg.specs.ShownIn.{shown_in};
@@ -18,12 +18,12 @@ use crate::site_form::{SiteForm, form_of};
 use crate::site_parts::{has_groups, minimums_of, take_names};
 use crate::site_stop::{DiagramStop, status_of, write_stop};
 use log_read::LogWhy;
-use log_site::{SiteTables, take_site};
 use log_svg::{Diagram, Look};
 use report_seen::{Stop, gather, write_diagram};
 use report_words::{JudgeStop, Status};
 use sig_io::{Files, Sink};
 use sig_types::ShortName;
+use site_load::{SiteTables, take_site};
 use std::alloc::Global;
 
 // The stop of a log of other groups than the plan's.

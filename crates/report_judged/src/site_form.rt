@@ -1,15 +1,15 @@
 // The words of a call.
 ghost use Rattle.std.specs.Prelude.{◌≡◌, ◌≤◌, IfOk, map, string_bytes};
-ghost use Rattle.log_site.specs.Sites.{site_in};
+ghost use Rattle.site_load.specs.Sites.{site_in};
 ghost use Rattle.log_svg.specs.LookIn.{look_in};
 ghost use Rattle.log_svg.specs.Words.{IsLook};
 ghost use Rattle.report_seen.specs.DiagramForm.{IsWindow, window_of};
 ghost use Rattle.report_seen.specs.Look.{look_of};
 ghost use Rattle.report_judged.specs.SiteForm.{asked_by, form_of, has_site, looks_form};
 
-use log_site::SiteWords;
 use log_svg::Look;
 use report_seen::{Stop, Window, look_of, window_of};
+use site_load::SiteWords;
 
 /// What the words ask for.
 #[derive(Clone, Copy)]

@@ -2,17 +2,17 @@
 ghost use Rattle.std.specs.Prelude.{◌≡◌, ◌≤◌, false, IsTrue, IfOk, IfErr, length, map};
 ghost use Rattle.std.specs.Option.{ForSome};
 ghost use Rattle.sig_io.specs.Outside.{Rose};
-ghost use Rattle.log_site.specs.Stop.{IsAt, IsReadFault, IsUnread};
+ghost use Rattle.site_load.specs.Stop.{IsAt, IsReadFault, IsUnread};
 ghost use Rattle.pua_lines.specs.StageWords.{stage_words};
 ghost use Rattle.sig_tables.specs.TimesTable.{row_of};
 ghost use Rattle.report_judged.specs.SiteParts.{minimums_to, short_name, short_names};
 
-use log_site::SiteStop;
 use pua_lines::stage_names;
 use pua_model::Plan;
 use sig_io::{Files, ReadRefusal, TEXT_LIMIT, read_whole};
 use sig_tables::Times;
 use sig_types::{GroupNo, Memory, ShortName};
+use site_load::SiteStop;
 use std::alloc::Global;
 
 /// Whether these are the names of the plan's groups.

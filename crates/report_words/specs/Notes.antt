@@ -2,9 +2,9 @@
 use Rattle.std.specs.Prelude.{ℕ, List, [], ◌∷◌, ◌++◌, codes}
 use Rattle.std.specs.Fmt.{decimal}
 use Rattle.log_read.specs.Whys.{why_name}
-use Rattle.log_site.specs.declared.stop.SiteStop.{SiteStop}
-use Rattle.log_site.specs.declared.stop.SiteStop.TheVariants as site
-use Rattle.log_site.specs.Reasons.{reason_text}
+use Rattle.site_load.specs.declared.stop.SiteStop.{SiteStop}
+use Rattle.site_load.specs.declared.stop.SiteStop.TheVariants as site
+use Rattle.site_load.specs.Reasons.{reason_text}
 use Rattle.report_words.specs.declared.stop.JudgeStop.{JudgeStop}
 use Rattle.report_words.specs.declared.stop.JudgeStop.TheVariants.{Words, Memory, Site, ReadFault, RefusedLine, WriteFault}
 

@@ -1,7 +1,7 @@
 -- How calls end that judge a log.
 use Rattle.std.specs.Prelude.{ℕ}
-use Rattle.log_site.specs.declared.stop.SiteStop.{SiteStop}
-use Rattle.log_site.specs.declared.stop.SiteStop.TheVariants as site
+use Rattle.site_load.specs.declared.stop.SiteStop.{SiteStop}
+use Rattle.site_load.specs.declared.stop.SiteStop.TheVariants as site
 use Rattle.report_words.specs.declared.status.Status.{Status}
 use Rattle.report_words.specs.declared.status.Status.TheVariants as status
 use Rattle.report_words.specs.declared.stop.JudgeStop.{JudgeStop}

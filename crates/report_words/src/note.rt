@@ -9,8 +9,8 @@ ghost use Rattle.report_words.specs.Notes.{site_note, stop_note};
 use crate::stop::JudgeStop;
 use itoa::Buffer;
 use log_read::why_name;
-use log_site::{ReasonText, SiteStop, name_alone, reason_told};
 use sig_io::{Sink, put_each};
+use site_load::{ReasonText, SiteStop, name_alone, reason_told};
 
 // Writes a note of these pieces. One of at most 4,096 bytes is given to the sink whole. A fault changes nothing else.
 fn write_pieces<N: Sink>(pieces: &[&[u8]], notes: &mut N)

@@ -3,7 +3,7 @@ ghost use Rattle.std.specs.Prelude.{◌≡◌};
 ghost use Rattle.report_words.specs.Statuses.{exit_number, site_status, status_of};
 
 use crate::stop::JudgeStop;
-use log_site::SiteStop;
+use site_load::SiteStop;
 
 /// How a call ended.
 #[derive(Clone, Copy, Debug, PartialEq, Eq)]

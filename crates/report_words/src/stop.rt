@@ -1,7 +1,7 @@
 // Why a call that judges a log stopped.
 
 use log_read::LogWhy;
-use log_site::SiteStop;
+use site_load::SiteStop;
 
 /// Why a call ended before all was done. A file goes by its word, and its lines count from 1.
 #[derive(Drop)]

@@ -18,7 +18,7 @@ use Rattle.vap_code.specs.Stores.{StoreFits, first_store}
 use Rattle.vap_code.specs.Valid.{Valid}
 use Rattle.junction_run.specs.Loading.{code_at, program_at}
 use Rattle.junction_run.specs.Programs.{logic_of, store_of, Runs}
-use Rattle.trace_run.specs.Told.{told_from}
+use Rattle.run_seconds.specs.Told.{told_from}
 use Rattle.trace_told.specs.declared.columns.Column.{Column}
 use Rattle.trace_told.specs.ValueRows.{row_within}
 use Rattle.trace_call.specs.Values.{row_of, rows_text}

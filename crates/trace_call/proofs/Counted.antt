@@ -34,10 +34,10 @@ use Rattle.junction_run.specs.declared.status.Status.TheVariants as status
 use Rattle.trace_lines.specs.declared.line.Line.{Line}
 use Rattle.trace_lines.specs.Lines.{LineOf, line_in, lines_counted}
 use Rattle.trace_call.specs.Loaded.{FilesGive, code_for}
-use Rattle.trace_run.specs.declared.play.Stop.{Stop as TellStop}
-use Rattle.trace_run.specs.declared.play.Stop.TheVariants as tell
-use Rattle.trace_run.specs.Told as told
-use Rattle.trace_run.specs.Told.{told_from}
+use Rattle.run_seconds.specs.declared.play.Stop.{Stop as TellStop}
+use Rattle.run_seconds.specs.declared.play.Stop.TheVariants as tell
+use Rattle.run_seconds.specs.Told as told
+use Rattle.run_seconds.specs.Told.{told_from}
 use Rattle.trace_lines.specs.declared.tally.Tally.{Tally}
 use Rattle.trace_lines.specs.Seconds.{sights_by}
 use Rattle.trace_lines.specs.Tallied.{HasTallied}

@@ -18,9 +18,9 @@ use Rattle.junction_run.specs.declared.stop.PlayStop.{PlayStop}
 use Rattle.junction_run.specs.Loading.{program_at}
 use Rattle.junction_run.specs.Played.{IsPlayed, IsWritten}
 use Rattle.junction_run.specs.Programs.{Runs}
-use Rattle.trace_run.specs.Told as told
-use Rattle.trace_run.specs.Told.{told_from}
-use Rattle.trace_run.specs.declared.play.Stop.{Stop as TellStop}
+use Rattle.run_seconds.specs.Told as told
+use Rattle.run_seconds.specs.Told.{told_from}
+use Rattle.run_seconds.specs.declared.play.Stop.{Stop as TellStop}
 use Rattle.trace_call.specs.Chosen.{play_stop_of}
 use Rattle.trace_call.proofs.Ends.{written_stop}
 use Rattle.trace_told.specs.declared.end_rows.Ends.{Ends}

@@ -9,9 +9,9 @@ use Rattle.det_stream.specs.Stream.{Stream}
 use Rattle.junction_run.specs.Played as run
 use Rattle.junction_run.specs.Stop.{play_status}
 use Rattle.junction_run.specs.declared.status.Status.TheVariants as status
-use Rattle.trace_run.specs.Told as told
-use Rattle.trace_run.specs.declared.play.Stop.{Stop}
-use Rattle.trace_run.specs.declared.play.Stop.TheVariants.{ReadFault, WriteFault, Refused}
+use Rattle.run_seconds.specs.Told as told
+use Rattle.run_seconds.specs.declared.play.Stop.{Stop}
+use Rattle.run_seconds.specs.declared.play.Stop.TheVariants.{ReadFault, WriteFault, Refused}
 use Rattle.trace_call.specs.Chosen.{play_stop_of}
 
 -- what was written where telling stopped

@@ -14,7 +14,7 @@ use Rattle.junction_run.specs.declared.stop.PlayStop.{PlayStop}
 use Rattle.junction_run.specs.Loading.{program_at}
 use Rattle.junction_run.specs.Played.{IsPlayed, IsWritten}
 use Rattle.junction_run.specs.Programs.{Runs}
-use Rattle.trace_run.specs.Told.{told_from}
+use Rattle.run_seconds.specs.Told.{told_from}
 use Rattle.trace_told.specs.declared.columns.Column.{Column}
 use Rattle.trace_told.specs.Columns.{columns_of}
 use Rattle.trace_call.specs.Loaded.{FilesGive, code_for}

@@ -22,7 +22,7 @@ use Rattle.junction_run.specs.Played.{IsPlayed, IsWritten}
 use Rattle.junction_run.specs.Programs.{Runs}
 use Rattle.junction_run.specs.Sites.{playing_in, site_in}
 use Rattle.junction_run.specs.Stop.{IsUnloadedBy}
-use Rattle.trace_run.specs.Told.{told_from}
+use Rattle.run_seconds.specs.Told.{told_from}
 use Rattle.trace_told.specs.declared.columns.Column.{Column}
 use Rattle.trace_told.specs.ValueRows.{header_text, row_told}
 use Rattle.trace_call.specs.Loaded.{FilesGive}

@@ -8,8 +8,8 @@ use Rattle.junction_run.specs.declared.stop.LoadStop.TheVariants.{Memory}
 use Rattle.junction_run.specs.declared.stop.PlayStop.{PlayStop}
 use Rattle.junction_run.specs.declared.stop.PlayStop.TheVariants as play
 use Rattle.junction_run.specs.declared.stop.Stop.TheVariants.{Load, Play}
-use Rattle.trace_run.specs.declared.play.Stop.{Stop as TellStop}
-use Rattle.trace_run.specs.declared.play.Stop.TheVariants as tell
+use Rattle.run_seconds.specs.declared.play.Stop.{Stop as TellStop}
+use Rattle.run_seconds.specs.declared.play.Stop.TheVariants as tell
 use Rattle.trace_told.specs.declared.columns.Column.{Column}
 use Rattle.trace_told.specs.Columns.{IsUnknown, columns_of}
 use Rattle.trace_told.specs.Nearest.{IsNearest}

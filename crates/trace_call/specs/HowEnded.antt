@@ -11,7 +11,7 @@ use Rattle.junction_run.specs.declared.stop.Stop.TheVariants.{Load, Play}
 use Rattle.junction_run.specs.Loading.{LoadsProgram, Playing, program_at, ReachedAfterSite}
 use Rattle.junction_run.specs.Played.{IsPlayed, IsWritten}
 use Rattle.junction_run.specs.Stop.{IsUnloadedBy}
-use Rattle.trace_run.specs.Told.{told_from}
+use Rattle.run_seconds.specs.Told.{told_from}
 use Rattle.trace_told.specs.EndRows.{end_told, header_text}
 use Rattle.trace_call.specs.Loaded.{FilesGive, code_for}
 use Rattle.trace_call.specs.declared.stop.Stop.{Stop}

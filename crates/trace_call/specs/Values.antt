@@ -12,7 +12,7 @@ use Rattle.junction_run.specs.declared.stop.Stop.TheVariants.{Load, Play}
 use Rattle.junction_run.specs.Loading.{LoadsProgram, Playing, program_at, ReachedAfterSite}
 use Rattle.junction_run.specs.Played.{IsPlayed, IsWritten}
 use Rattle.junction_run.specs.Stop.{IsUnloadedBy}
-use Rattle.trace_run.specs.Told.{told_from}
+use Rattle.run_seconds.specs.Told.{told_from}
 use Rattle.trace_told.specs.declared.columns.Column.{Column}
 use Rattle.trace_told.specs.Columns.{IsUnknown, NamesSome, chosen_by, columns_of}
 use Rattle.trace_told.specs.Nearest.{IsNearest}

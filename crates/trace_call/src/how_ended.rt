@@ -10,7 +10,7 @@ ghost use Rattle.det_stream.specs.Stream.{stream_of};
 ghost use Rattle.junction_run.specs.Played.{IsPlayed, IsWritten};
 ghost use Rattle.junction_run.specs.Stop.{StopsWith, play_status};
 ghost use Rattle.junction_run.specs.declared.status.Status.TheVariants as status;
-ghost use Rattle.trace_run.specs.Told.{told_from};
+ghost use Rattle.run_seconds.specs.Told.{told_from};
 ghost use Rattle.trace_told.specs.EndRows.{end_told, header_text};
 ghost use Rattle.trace_call.specs.FormWords.{run_named};
 ghost use Rattle.trace_call.specs.HowEnded.{IsHowEnded};
@@ -25,9 +25,9 @@ use crate::values::{no_memory, play_stop};
 use controller::Controller;
 use det_stream::Lines;
 use junction_run::{PlayStop, Stop as RunStop};
+use run_seconds::tell_all;
 use sig_io::{Draft, Files, Sink};
 use std::alloc::Global;
-use trace_run::tell_all;
 use trace_told::{Ends, put_end_header};
 
 // Writes the ends of stages in a run.

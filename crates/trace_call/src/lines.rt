@@ -40,10 +40,10 @@ use crate::values::play_stop;
 use controller::Controller;
 use det_stream::Lines;
 use junction_run::{LoadStop, PlayStop, Site, SiteWords, Stop as RunStop};
+use run_seconds::tell_all;
 use sig_io::{Draft, Files, Sink};
 use std::alloc::Global;
 use trace_lines::{Line, Tally, put_csv, put_lcov, put_table};
-use trace_run::tell_all;
 use vap_check::Checked;
 
 // Makes the seconds of a detector file and tallies them. Nothing is written.

@@ -10,10 +10,10 @@ ghost use Rattle.trace_lines.specs.Tallied.{HasTallied, answers_in, any_begun, b
 use crate::line::{Answers, Line};
 use crate::rows::{Row, rows_of};
 use controller::Controller;
+use run_seconds::Teller;
 use sig_io::{Draft, Sink};
 use sig_types::Frame;
 use std::alloc::{AllocError, Global};
-use trace_run::Teller;
 use trace_watch::{Counts, add_counts};
 use vap_code::Instr;
 

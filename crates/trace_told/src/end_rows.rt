@@ -7,10 +7,10 @@ ghost use Rattle.trace_told.specs.EndRows.{csv_header, csv_text, header_text, ro
 use crate::end_lines::{FirstLines, begun};
 use controller::Controller;
 use pua_model::Plan;
+use run_seconds::Teller;
 use sig_io::{Draft, Sink};
 use sig_types::{Frame, StageNo};
 use stage_machine::StageState;
-use trace_run::Teller;
 
 // Puts the row above those of a table.
 #[tactic(auto, unfolding(crate::specs::EndRows::csv_header))]

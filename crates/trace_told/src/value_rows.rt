@@ -8,9 +8,9 @@ ghost use Rattle.trace_told.specs.ValueRows.{header_text, label_field, label_fie
 
 use crate::columns::{Column, put_label};
 use controller::Controller;
+use run_seconds::Teller;
 use sig_io::{Draft, Sink};
 use sig_types::{Clock, Frame};
-use trace_run::Teller;
 use vap_check::Checked;
 use vap_vm::{Unseen, Vm};
 

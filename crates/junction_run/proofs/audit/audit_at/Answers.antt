@@ -37,8 +37,8 @@ returns-in-Ok-write_audit-clause-audited g c = λ file e.
     let ends = subst (λ r. AreEnds tables.plan r (length tables.plan.interstages) written.0) c.in-Ok.ensures.rules written.1 in
     (judged.0, judged.1, _, audit_is (site_of_tables tables) judged.0 verdict written.0 judged.2 ends, written.2)
 
-pub returns-clause-audited : goal.returns-clause-audited
-returns-clause-audited g c = λ file e.
+pub returns-in-Err-write_audit-clause-audited : goal.returns-in-Err-write_audit-clause-audited
+returns-in-Err-write_audit-clause-audited g c = λ file e.
     let tables = c.args.tables in
     let log = c.args.log.now in
     let verdict = c.in-Ok-judge_log.verdict in

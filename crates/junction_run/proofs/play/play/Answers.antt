@@ -1,56 +1,55 @@
-use Rattle.std.proofs.Common.{◌≡◌, ◌∙◌, List, ℕ, Option, [], ap, sym, subst}
-use Rattle.sig_io.specs.Draft.{IsDraft}
-use Rattle.controller.specs.Controls.{site_of}
+use Rattle.std.proofs.Common.{◌≡◌, ◌∙◌, ◌++◌, List, ℕ, Option, Ok, Err, [], ap, refl, subst, sym}
+use Rattle.controller.specs.Controls.{code_of, logic_of, site_of}
+use Rattle.controller.specs.Past.{opening}
 use Rattle.det_stream.specs.Answers.{name_of}
 use Rattle.det_stream.specs.Stream.{stream_of}
 use Rattle.signal_log.specs.Log.{header_text}
+use Rattle.run_seconds.specs.Told as told
 use Rattle.junction_run.specs.Played.{playing_of}
-use Rattle.junction_run.specs.Records.{log_of}
-use Rattle.junction_run.proofs.Ends.{is_cut, written_so, played_begins, play_stops}
-use Rattle.junction_run.proofs.Logs.{log_of-none, plan_is}
+use Rattle.junction_run.specs.Loading.{Playing}
+use Rattle.junction_run.specs.Records.{record_told}
+use Rattle.junction_run.proofs.Logs.{plan_is}
+use Rattle.junction_run.proofs.Told.{told_log, written_at, played_at, names_file, read_failed, write_failed}
 use Rattle.junction_run.proofs.play.play.Goals as goal
 
-pub returns-then-failed-clause-played : goal.returns-then-failed-clause-played
-returns-then-failed-clause-played g c = λ store s.
-    let start : Option (List ℕ) = g.O.Sink.taken c.args.out.now in
-    let names : c.plan.result.now.names ≡ (site_of c.args.controller.now).plan.names = ap (λ q. q.names) (c.plan.ensures ∙ plan_is c.args.controller.now) in
-    let begun = subst (λ t. IsDraft start (g.O.Sink.taken c.put_header.new.sink) c.put_header.new.draft t)
-    (ap header_text names ∙ sym (log_of-none (playing_of c.args.controller.now store)))
-    (c.put_header.ensures.text start [] (c.new-draft.ensures.text start)) in
-    let played = c.put_seconds-end.ensures.played store s in (
-      played.0,
-      is_cut start _ c.put_seconds-end.new.draft _ (sym c.failed.ensures ∙ c.if-failed.true) (played.1 start begun),
-      λ file e. played_begins c.args.word.now c.put_seconds-end.result (stream_of (file (name_of c.args.lines.now))) played.0 (played.2 file e),
-    )
+pub tell_all-requires-clause-begun : goal.tell_all-requires-clause-begun
+tell_all-requires-clause-begun g c =
+    let s = c.requires.begun in
+    (opening (site_of c.args.controller.now) s.0, s.1, refl, tt)
 
 pub returns-in-Ok-clause-played : goal.returns-in-Ok-clause-played
+unfolding code_of logic_of
 returns-in-Ok-clause-played g c = λ store s.
     let start : Option (List ℕ) = g.O.Sink.taken c.args.out.now in
-    let names : c.plan.result.now.names ≡ (site_of c.args.controller.now).plan.names = ap (λ q. q.names) (c.plan.ensures ∙ plan_is c.args.controller.now) in
-    let begun = subst (λ t. IsDraft start (g.O.Sink.taken c.put_header.new.sink) c.put_header.new.draft t)
-    (ap header_text names ∙ sym (log_of-none (playing_of c.args.controller.now store)))
-    (c.put_header.ensures.text start [] (c.new-draft.ensures.text start)) in
-    let played = c.put_seconds-end.ensures.played store s in (
-      played.0,
-      written_so c.put_seconds-end.result c.args.word.now c.put_seconds-end.new.draft.failed (log_of (playing_of c.args.controller.now store) played.0) start _
-          c.put_seconds-end.ensures.stops (sym c.failed.ensures ∙ c.if-failed.false)
-          (c.in-Ok.ensures.ok start (log_of (playing_of c.args.controller.now store) played.0) (played.1 start begun)),
-      played.2,
+    let p : Playing = playing_of c.args.controller.now store in
+    let names : c.plan.result.now.names ≡ p.site.plan.names = ap (λ q. q.names) (c.plan.ensures ∙ plan_is c.args.controller.now) in
+    let seconds = c.in-Ok.ensures.told (opening p.site store) s refl tt in
+    let written = seconds.1 start (header_text c.plan.result.now.names) (c.put_header.ensures.text start [] (c.new-draft.ensures.text start)) in (
+      seconds.0,
+      subst (λ t. told.IsWritten {A = Unit {0}} (Ok tt) t start (g.O.Sink.taken c.tell_all.new.out))
+          (ap (λ n. header_text n ++ told.told_from (record_told p.logic p.site) p.logic p.site (opening p.site store) seconds.0) names ∙ told_log p seconds.0)
+          written,
+      seconds.3,
     )
-
-pub returns-in-Ok-clause-word : goal.returns-in-Ok-clause-word
-returns-in-Ok-clause-word g c = play_stops c.args.word.now c.put_seconds-end.new.draft.failed c.put_seconds-end.result c.put_seconds-end.ensures.stops
 
 pub returns-in-Err-clause-played : goal.returns-in-Err-clause-played
+unfolding code_of logic_of
 returns-in-Err-clause-played g c = λ store s.
     let start : Option (List ℕ) = g.O.Sink.taken c.args.out.now in
-    let names : c.plan.result.now.names ≡ (site_of c.args.controller.now).plan.names = ap (λ q. q.names) (c.plan.ensures ∙ plan_is c.args.controller.now) in
-    let begun = subst (λ t. IsDraft start (g.O.Sink.taken c.put_header.new.sink) c.put_header.new.draft t)
-    (ap header_text names ∙ sym (log_of-none (playing_of c.args.controller.now store)))
-    (c.put_header.ensures.text start [] (c.new-draft.ensures.text start)) in
-    let played = c.put_seconds-end.ensures.played store s in
-    let at = c.in-Err.ensures.fault start (log_of (playing_of c.args.controller.now store) played.0) (played.1 start begun) in (
-      played.0,
-      (at.n, at.cut),
-      λ file e. played_begins c.args.word.now c.put_seconds-end.result (stream_of (file (name_of c.args.lines.now))) played.0 (played.2 file e),
+    let p : Playing = playing_of c.args.controller.now store in
+    let names : c.plan.result.now.names ≡ p.site.plan.names = ap (λ q. q.names) (c.plan.ensures ∙ plan_is c.args.controller.now) in
+    let seconds = c.in-Err.ensures.told (opening p.site store) s refl tt in
+    let written = seconds.1 start (header_text c.plan.result.now.names) (c.put_header.ensures.text start [] (c.new-draft.ensures.text start)) in (
+      seconds.0,
+      written_at c.args.word.now c.in-Err.stop c.stop_at.result _ _ _ c.stop_at.ensures
+          (subst (λ t. told.IsWritten {A = Unit {0}} (Err c.in-Err.stop) t start (g.O.Sink.taken c.tell_all.new.out))
+          (ap (λ n. header_text n ++ told.told_from (record_told p.logic p.site) p.logic p.site (opening p.site store) seconds.0) names ∙ told_log p seconds.0)
+          written),
+      λ file e. played_at c.args.word.now c.in-Err.stop c.stop_at.result (stream_of (file (name_of c.args.lines.now))) seconds.0 c.stop_at.ensures (seconds.3 file e),
     )
+
+pub returns-in-Err-clause-word : goal.returns-in-Err-clause-word
+returns-in-Err-clause-word g c = names_file c.args.word.now c.in-Err.stop c.stop_at.result c.stop_at.ensures
+
+pub returns-in-Err-clause-read : goal.returns-in-Err-clause-read
+returns-in-Err-clause-read g c = λ is. c.in-Err.ensures.read (ap Err (read_failed c.args.word.now c.in-Err.stop c.stop_at.result c.stop_at.ensures is))

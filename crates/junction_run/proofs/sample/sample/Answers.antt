@@ -48,8 +48,8 @@ returns-in-Ok-write_summary-clause-ended g c = λ file e.
     let gained = c.in-Ok-write_summary.ensures.ok rs stands ∙ ap (append_known (g.O.Sink.taken c.args.out.now)) same in
     (Ok playing, loaded.1, refl, (sample_text c.args.seed seconds playing, refl, gained))
 
-pub returns-clause-ended : goal.returns-clause-ended
-returns-clause-ended g c = λ file e.
+pub returns-in-Err-write_summary-clause-ended : goal.returns-in-Err-write_summary-clause-ended
+returns-in-Err-write_summary-clause-ended g c = λ file e.
     let loaded = c.in-Ok.ensures.loaded file e in
     let made = c.in-Ok-make_controller.ensures in
     let start = c.in-Ok-make_controller.controller in

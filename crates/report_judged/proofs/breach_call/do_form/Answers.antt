@@ -1,5 +1,5 @@
 use Rattle.std.proofs.Common.{◌∙◌, Bool, refl}
-use Rattle.log_site.specs.declared.site.SiteTables.{SiteTables}
+use Rattle.site_load.specs.declared.site.SiteTables.{SiteTables}
 use Rattle.report_judged.proofs.BreachCalls.{site_fault}
 use Rattle.report_judged.proofs.breach_call.do_form.Goals as goal
 

@@ -1,5 +1,5 @@
 use Rattle.std.proofs.Common.{◌∙◌, Bool, ap, refl}
-use Rattle.log_site.specs.Sites.{site_of_tables}
+use Rattle.site_load.specs.Sites.{site_of_tables}
 use Rattle.report_judged.specs.BreachCall.{is_some_breach, text_of}
 use Rattle.report_judged.specs.BreachForm.{asked_in}
 use Rattle.report_judged.proofs.BreachCalls.{cut_short, log_stopped, no_read, told}

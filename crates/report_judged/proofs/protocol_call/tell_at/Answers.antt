@@ -1,6 +1,6 @@
 use Rattle.std.proofs.Common.{refl}
 use Rattle.sig_tables.specs.SiteRules.{rules_of}
-use Rattle.log_site.specs.Sites.{site_of_tables}
+use Rattle.site_load.specs.Sites.{site_of_tables}
 use Rattle.log_protocol.specs.Texts.{page_text}
 use Rattle.report_judged.specs.ProtocolCall.{IsTextOf}
 use Rattle.report_judged.specs.ProtocolForm.{asked_in}

@@ -1,6 +1,6 @@
 use Rattle.std.proofs.Common.{refl}
 use Rattle.sig_tables.specs.SiteRules.{rules_of}
-use Rattle.log_site.specs.Sites.{site_of_tables}
+use Rattle.site_load.specs.Sites.{site_of_tables}
 use Rattle.refusal_text.specs.declared.finder.Refusals.{Refusals}
 use Rattle.refusal_text.specs.Kept.{told_text}
 use Rattle.refusal_text.proofs.Texts.{text_is}

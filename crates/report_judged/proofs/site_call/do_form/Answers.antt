@@ -1,6 +1,6 @@
 use Rattle.std.proofs.Common.{◌∙◌, refl}
-use Rattle.log_site.specs.declared.site.SiteTables.{SiteTables}
-use Rattle.log_site.specs.Sites.{site_in, site_of_tables}
+use Rattle.site_load.specs.declared.site.SiteTables.{SiteTables}
+use Rattle.site_load.specs.Sites.{site_in, site_of_tables}
 use Rattle.report_judged.proofs.SiteCalls.{site_fault}
 use Rattle.report_judged.proofs.SiteLoading.{names_are, names_unread}
 use Rattle.report_judged.proofs.site_call.do_form.Goals as goal

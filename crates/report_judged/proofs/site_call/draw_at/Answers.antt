@@ -2,7 +2,7 @@ use Rattle.std.proofs.Common.{◌∙◌, List, ℕ, ap, refl, sym}
 use Rattle.log_svg.specs.Diagram.{diagram_text}
 use Rattle.log_svg.specs.LookIn.{look_in}
 use Rattle.log_svg.specs.ShownIn.{shown_in}
-use Rattle.log_site.specs.Sites.{site_of_tables}
+use Rattle.site_load.specs.Sites.{site_of_tables}
 use Rattle.report_judged.specs.SiteCall.{IsTextOf}
 use Rattle.report_judged.specs.SiteForm.{asked_in}
 use Rattle.report_judged.specs.SiteParts.{look_by}

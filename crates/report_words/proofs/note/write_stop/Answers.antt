@@ -2,7 +2,7 @@ use Rattle.std.proofs.Common.{◌≡◌, ◌∙◌, ◌++◌, ◌∷◌, [], ap}
 use Rattle.std.specs.Fmt.{decimal}
 use Rattle.std.specs.Prelude.{codes}
 use Rattle.std.specs.Io.KnownBytes.{append_known}
-use Rattle.log_site.specs.Reasons.{told_text}
+use Rattle.site_load.specs.Reasons.{told_text}
 use Rattle.log_read.specs.Whys.{why_name}
 use Rattle.report_words.proofs.Pieces.{about, refusal}
 use Rattle.report_words.proofs.note.write_stop.Goals as goal
