@@ -84,17 +84,19 @@ other_time k g x t time (Some s) = first_reason (
 abbrev pub step_breach : (ℕ → Aspect) → ℕ → ℕ → Option Breach
 step_breach a g m = when (not (can_follow (a m) (a (suc m)))) (Step (suc m) (no g) (a m) (a (suc m)))
 
--- a red-amber, and an amber, of another length than its own
+-- a red-amber of another length than its own
 abbrev pub red_amber_breach : Rules → Terms → (ℕ → Aspect) → ℕ → ℕ → Option Breach
 red_amber_breach r k a g m = other_time k g RedAmber (suc m) (r.red_amber g) (red_amber_from (a m) (a (suc m)) (since a m) (suc m))
 
+-- an amber of another length than its own
 abbrev pub amber_breach : Rules → Terms → (ℕ → Aspect) → ℕ → ℕ → Option Breach
 amber_breach r k a g m = other_time k g Amber (suc m) (r.amber g) (amber_from (a m) (a (suc m)) (since a m) (suc m))
 
--- a green, and a red, that was too short
+-- a green that was too short
 abbrev pub green_breach : Rules → Terms → (ℕ → Aspect) → ℕ → ℕ → Option Breach
 green_breach r k a g m = short k g Green (suc m) (r.minimum_green g) (green_from (a m) (a (suc m)) (since a m))
 
+-- a red that was too short
 abbrev pub red_breach : Rules → Terms → (ℕ → Aspect) → ℕ → ℕ → Option Breach
 red_breach r k a g m = short k g Red (suc m) (r.minimum_red g) (red_from (a m) (a (suc m)) (since a m))
 
@@ -130,10 +132,11 @@ intergreen_breach r k a c g i m =
 abbrev pub latest_green : Rules → Terms → (ℕ → Aspect) → ℕ → ℕ → ℕ
 latest_green r k a g m = max (since a m + r.red_amber g + k.tolerance) (suc m)
 
--- a green that is still to come, and comes too soon even after the longest red-amber
+-- red-amber
 abbrev pub is_red_amber : Aspect → Bool
 is_red_amber x = is_on x && not (is_green x)
 
+-- a green that is still to come, and comes too soon even after the longest red-amber
 abbrev pub pending_breach : Rules → Terms → (ℕ → Aspect) → (ℕ → Aspect) → ℕ → ℕ → ℕ → Option Breach
 pending_breach r k a c g i m =
     if is_red_amber (a m) then too_soon g i (latest_green r k a g m) (r.between i g) (last_end k.rested c m) else None

@@ -102,22 +102,23 @@ pub(crate) fn short(
     group: u8,
     aspect: Aspect,
     now: u32,
-    least: u8,
+    least: u32,
     from: Option<u32>,
 ) -> Option<Breach>
-    requires { ForSome from (λ s. s ≤ 604802) }
+    requires from { ForSome from (λ s. s ≤ 6048002) }
+    requires least { least ≤ 2550 }
     ensures { result ≡ short_spec terms group aspect now least from }
 {
     match from {
         None => None,
         Some(since) => {
-            if is_known(terms, since) && now < since + u32::from(least) {
+            if is_known(terms, since) && now < since + least {
                 return Some(Breach::Short {
                     second: now,
                     group: GroupNo(group),
                     aspect,
                     since,
-                    least: u32::from(least),
+                    least,
                 });
             }
             None
@@ -131,23 +132,24 @@ pub(crate) fn long(
     group: u8,
     aspect: Aspect,
     now: u32,
-    most: u8,
+    most: u32,
     from: Option<u32>,
 ) -> Option<Breach>
-    requires from { ForSome from (λ s. s ≤ 604802) }
-    requires tolerance { terms.tolerance ≤ 9 }
+    requires from { ForSome from (λ s. s ≤ 6048002) }
+    requires most { most ≤ 2550 }
+    requires tolerance { terms.tolerance ≤ 90 }
     ensures { result ≡ long_spec terms group aspect now most from }
 {
     match from {
         None => None,
         Some(since) => {
-            if since + u32::from(most) + terms.tolerance < now {
+            if since + most + terms.tolerance < now {
                 return Some(Breach::Long {
                     second: now,
                     group: GroupNo(group),
                     aspect,
                     since,
-                    most: u32::from(most),
+                    most,
                 });
             }
             None
@@ -161,33 +163,34 @@ pub(crate) fn other_time(
     group: u8,
     aspect: Aspect,
     now: u32,
-    time: u8,
+    time: u32,
     from: Option<u32>,
 ) -> Option<Breach>
-    requires from { ForSome from (λ s. s ≤ 604802) }
-    requires now { now ≤ 604802 }
-    requires tolerance { terms.tolerance ≤ 9 }
+    requires from { ForSome from (λ s. s ≤ 6048002) }
+    requires now { now ≤ 6048002 }
+    requires time { time ≤ 2550 }
+    requires tolerance { terms.tolerance ≤ 90 }
     ensures { result ≡ other_time_spec terms group aspect now time from }
 {
     match from {
         None => None,
         Some(since) => {
-            if is_known(terms, since) && now + terms.tolerance < since + u32::from(time) {
+            if is_known(terms, since) && now + terms.tolerance < since + time {
                 return Some(Breach::Short {
                     second: now,
                     group: GroupNo(group),
                     aspect,
                     since,
-                    least: u32::from(time),
+                    least: time,
                 });
             }
-            if since + u32::from(time) + terms.tolerance < now {
+            if since + time + terms.tolerance < now {
                 return Some(Breach::Long {
                     second: now,
                     group: GroupNo(group),
                     aspect,
                     since,
-                    most: u32::from(time),
+                    most: time,
                 });
             }
             None
@@ -200,10 +203,10 @@ pub(crate) fn too_soon(
     group: u8,
     other: u8,
     now: u32,
-    between: Option<u8>,
+    between: Option<u16>,
     ended: Option<u32>,
 ) -> Option<Breach>
-    requires { ForSome ended (λ b. b ≤ 604802) }
+    requires { ForSome ended (λ b. b ≤ 6048002) }
     ensures { result ≡ too_soon_spec group other now between ended }
 {
     match between {

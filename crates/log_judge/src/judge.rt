@@ -20,7 +20,7 @@ use crate::opening::{
 };
 use crate::past::{GroupPast, last_end_with, next_past};
 use sig_guard::{is_on, same_aspect};
-use sig_tables::{Intergreens, Times};
+use sig_tables::Limits;
 use sig_types::{Aspect, GroupNo, Memory, Picture};
 
 /// A judge after so many pictures: the last one, and a few numbers of each group.
@@ -34,8 +34,8 @@ pub struct Judge {
     ghost sized: { length pasts ≡ 64 },
     ghost groups_at_most: { length picture ≤ 64 },
     ghost same_groups: { length first ≡ length picture },
-    ghost at_most: { seconds ≤ 604802 },
-    ghost tolerance_at_most: { terms.tolerance ≤ 9 },
+    ghost at_most: { seconds ≤ 6048002 },
+    ghost tolerance_at_most: { terms.tolerance ≤ 90 },
     ghost fit: { (g : ℕ) → g < length picture → PastFits (past_at pasts g) seconds },
 }
 
@@ -96,7 +96,7 @@ impl Judge {
     pub fn seconds(&self) -> u32
         ensures seconds { result ≡ seconds_of self.now }
         ensures shown { result ≡ self.now.seconds }
-        ensures at_most { result ≤ 604802 }
+        ensures at_most { result ≤ 6048002 }
     {
         self.seconds
     }
@@ -120,7 +120,7 @@ impl Judge {
     pub fn since(&self, g: u8) -> u32
         requires { g < groups_of self.now }
         ensures since { result ≡ (past_at self.now.pasts g).since }
-        ensures at_most { result ≤ 604802 }
+        ensures at_most { result ≤ 6048002 }
     {
         self.pasts[g as usize].since
     }
@@ -130,7 +130,7 @@ impl Judge {
     pub fn on_since(&self, g: u8) -> u32
         requires { g < groups_of self.now }
         ensures on_since { result ≡ (past_at self.now.pasts g).on_since }
-        ensures at_most { result ≤ 604802 }
+        ensures at_most { result ≤ 6048002 }
     {
         self.pasts[g as usize].on_since
     }
@@ -149,7 +149,7 @@ impl Judge {
     pub fn last_end(&self, g: u8) -> Option<u32>
         requires { g < groups_of self.now }
         ensures last_end { result ≡ (past_at self.now.pasts g).last_end }
-        ensures at_most { ForSome result (λ b. b ≤ 604802) }
+        ensures at_most { ForSome result (λ b. b ≤ 6048002) }
     {
         self.pasts[g as usize].last_end
     }
@@ -160,7 +160,7 @@ impl Judge {
         requires group { i < groups_of self.now }
         requires size { length picture.now ≡ groups_of self.now }
         ensures last_end { result ≡ ended_now self.now.seconds self.now.picture self.now.pasts picture.now i }
-        ensures at_most { ForSome result (λ b. b ≤ 604802) }
+        ensures at_most { ForSome result (λ b. b ≤ 6048002) }
     {
         last_end_with(
             self.seconds,
@@ -173,15 +173,16 @@ impl Judge {
     #[tactic(auto, unfolding(crate::specs::Stands::groups_of))]
     fn find_sequence(
         &self,
-        times: &Times,
+        limits: &Limits<'_>,
         picture: &Picture,
         g: u8,
         out: &mut Vec<Breach>,
     ) -> Result<(), Memory>
         requires group { g < groups_of self.now }
-        requires times { length times.now ≡ groups_of self.now }
+        requires times { length limits.now.times ≡ groups_of self.now }
+        requires intergreens { limits.now.pairs.count ≡ groups_of self.now }
         requires picture { length picture.now ≡ groups_of self.now }
-        ensures { OnOk result (out.new.items ≡ out.old.items ++ sequence_found (row_of times.now g) self.now.terms self.now.seconds g
+        ensures { OnOk result (out.new.items ≡ out.old.items ++ sequence_found (row_of limits.now.times g) self.now.terms self.now.seconds g
             (shown self.now.picture g) (shown picture.now g) (past_at self.now.pasts g).since) }
     {
         let (was, is, now, since) = (
@@ -191,7 +192,7 @@ impl Judge {
             self.since(g),
         );
         put(out, step_breach(g, was, is, now))?;
-        let red_amber = times.red_amber(GroupNo(g));
+        let red_amber = limits.red_amber(GroupNo(g));
         put(
             out,
             other_time(
@@ -203,7 +204,7 @@ impl Judge {
                 red_amber_from(was, is, since, now),
             ),
         )?;
-        let amber = times.amber(GroupNo(g));
+        let amber = limits.amber(GroupNo(g));
         put(
             out,
             other_time(
@@ -218,42 +219,45 @@ impl Judge {
     }
 
     #[tactic(auto, unfolding(crate::specs::Stands::groups_of))]
-    fn green_breach(&self, times: &Times, picture: &Picture, g: u8) -> Option<Breach>
+    fn green_breach(&self, limits: &Limits<'_>, picture: &Picture, g: u8) -> Option<Breach>
         requires group { g < groups_of self.now }
-        requires times { length times.now ≡ groups_of self.now }
+        requires times { length limits.now.times ≡ groups_of self.now }
+        requires intergreens { limits.now.pairs.count ≡ groups_of self.now }
         requires picture { length picture.now ≡ groups_of self.now }
-        ensures { result ≡ green_found (row_of times.now g) self.now.terms self.now.seconds g
+        ensures { result ≡ green_found (row_of limits.now.times g) self.now.terms self.now.seconds g
             (shown self.now.picture g) (shown picture.now g) (past_at self.now.pasts g).since }
     {
         let from = green_from(self.picture.get(g), picture.get(g), self.since(g));
-        let least = times.min(GroupNo(g));
+        let least = limits.min(GroupNo(g));
         short(self.terms, g, Aspect::Green, self.seconds, least, from)
     }
 
     #[tactic(auto, unfolding(crate::specs::Stands::groups_of))]
-    fn red_breach(&self, times: &Times, picture: &Picture, g: u8) -> Option<Breach>
+    fn red_breach(&self, limits: &Limits<'_>, picture: &Picture, g: u8) -> Option<Breach>
         requires group { g < groups_of self.now }
-        requires times { length times.now ≡ groups_of self.now }
+        requires times { length limits.now.times ≡ groups_of self.now }
+        requires intergreens { limits.now.pairs.count ≡ groups_of self.now }
         requires picture { length picture.now ≡ groups_of self.now }
-        ensures { result ≡ red_found (row_of times.now g) self.now.terms self.now.seconds g
+        ensures { result ≡ red_found (row_of limits.now.times g) self.now.terms self.now.seconds g
             (shown self.now.picture g) (shown picture.now g) (past_at self.now.pasts g).since }
     {
         let from = red_from(self.picture.get(g), picture.get(g), self.since(g));
-        let least = times.min_red(GroupNo(g));
+        let least = limits.min_red(GroupNo(g));
         short(self.terms, g, Aspect::Red, self.seconds, least, from)
     }
 
     #[tactic(auto, unfolding(crate::specs::Stands::groups_of))]
-    fn running_breach(&self, times: &Times, g: u8) -> Option<Breach>
+    fn running_breach(&self, limits: &Limits<'_>, g: u8) -> Option<Breach>
         requires group { g < groups_of self.now }
-        requires times { length times.now ≡ groups_of self.now }
-        ensures { result ≡ running_found (row_of times.now g) self.now.terms self.now.seconds g
+        requires times { length limits.now.times ≡ groups_of self.now }
+        requires intergreens { limits.now.pairs.count ≡ groups_of self.now }
+        ensures { result ≡ running_found (row_of limits.now.times g) self.now.terms self.now.seconds g
             (shown self.now.picture g) (past_at self.now.pasts g).since }
     {
         let since = self.since(g);
         match self.picture.get(g) {
             Aspect::RedAmber => {
-                let most = times.red_amber(GroupNo(g));
+                let most = limits.red_amber(GroupNo(g));
                 long(
                     self.terms,
                     g,
@@ -264,7 +268,7 @@ impl Judge {
                 )
             }
             Aspect::Amber => {
-                let most = times.amber(GroupNo(g));
+                let most = limits.amber(GroupNo(g));
                 long(
                     self.terms,
                     g,
@@ -281,22 +285,15 @@ impl Judge {
 
     // A conflict that is over, or at the end of the log, where `over` is so.
     #[tactic(auto, unfolding(crate::specs::Stands::groups_of))]
-    fn conflict_breach(
-        &self,
-        times: &Times,
-        intergreens: &Intergreens,
-        over: bool,
-        g: u8,
-        i: u8,
-    ) -> Option<Breach>
+    fn conflict_breach(&self, limits: &Limits<'_>, over: bool, g: u8, i: u8) -> Option<Breach>
         requires group { g < groups_of self.now }
         requires other { i < groups_of self.now }
-        requires intergreens { intergreens.now.count ≡ groups_of self.now }
-        ensures { result ≡ conflict_found (rules_of times.now intergreens.now) self.now.seconds over self.now.picture self.now.pasts g i }
+        requires intergreens { limits.now.pairs.count ≡ groups_of self.now }
+        ensures { result ≡ conflict_found (rules_of limits.now.times limits.now.pairs) self.now.seconds over self.now.picture self.now.pasts g i }
     {
         let listed = g < i
-            && (intergreens.between(GroupNo(g), GroupNo(i)).is_some()
-                || intergreens.between(GroupNo(i), GroupNo(g)).is_some());
+            && (limits.between(GroupNo(g), GroupNo(i)).is_some()
+                || limits.between(GroupNo(i), GroupNo(g)).is_some());
         if listed && (is_on(self.picture.get(g)) && is_on(self.picture.get(i))) && over {
             return Some(Breach::Conflict {
                 second: self.seconds,
@@ -311,8 +308,7 @@ impl Judge {
     #[tactic(auto, unfolding(crate::specs::Stands::groups_of))]
     fn intergreen_breach(
         &self,
-        times: &Times,
-        intergreens: &Intergreens,
+        limits: &Limits<'_>,
         picture: &Picture,
         g: u8,
         i: u8,
@@ -320,8 +316,8 @@ impl Judge {
         requires group { g < groups_of self.now }
         requires other { i < groups_of self.now }
         requires picture { length picture.now ≡ groups_of self.now }
-        requires intergreens { intergreens.now.count ≡ groups_of self.now }
-        ensures { result ≡ intergreen_found (rules_of times.now intergreens.now) self.now.seconds self.now.picture self.now.pasts picture.now g i }
+        requires intergreens { limits.now.pairs.count ≡ groups_of self.now }
+        ensures { result ≡ intergreen_found (rules_of limits.now.times limits.now.pairs) self.now.seconds self.now.picture self.now.pasts picture.now g i }
     {
         if !turns_green(self.picture.get(g), picture.get(g)) {
             return None;
@@ -332,31 +328,25 @@ impl Judge {
             picture.get(i),
             self.last_end(i),
         );
-        let between = intergreens.between(GroupNo(i), GroupNo(g));
+        let between = limits.between(GroupNo(i), GroupNo(g));
         too_soon(g, i, self.seconds, between, ended)
     }
 
     // A green that is still to come at the end of the log, and comes too soon even after the longest red-amber.
     #[tactic(auto, unfolding(crate::specs::Stands::groups_of))]
-    fn pending_breach(
-        &self,
-        times: &Times,
-        intergreens: &Intergreens,
-        g: u8,
-        i: u8,
-    ) -> Option<Breach>
+    fn pending_breach(&self, limits: &Limits<'_>, g: u8, i: u8) -> Option<Breach>
         requires group { g < groups_of self.now }
         requires other { i < groups_of self.now }
-        requires times { length times.now ≡ groups_of self.now }
-        requires intergreens { intergreens.now.count ≡ groups_of self.now }
-        ensures { result ≡ pending_found (rules_of times.now intergreens.now) self.now.terms self.now.seconds self.now.picture self.now.pasts g i }
+        requires times { length limits.now.times ≡ groups_of self.now }
+        requires intergreens { limits.now.pairs.count ≡ groups_of self.now }
+        ensures { result ≡ pending_found (rules_of limits.now.times limits.now.pairs) self.now.terms self.now.seconds self.now.picture self.now.pasts g i }
     {
         if !is_red_amber(self.picture.get(g)) {
             return None;
         }
-        let red_amber = u32::from(times.red_amber(GroupNo(g)));
+        let red_amber = limits.red_amber(GroupNo(g));
         let due = (self.since(g) + red_amber + self.terms.tolerance).max(self.seconds);
-        let between = intergreens.between(GroupNo(i), GroupNo(g));
+        let between = limits.between(GroupNo(i), GroupNo(g));
         too_soon(g, i, due, between, self.last_end(i))
     }
 }
@@ -367,17 +357,18 @@ impl Judge {
 
     // How a group began.
     #[tactic(auto, unfolding(crate::specs::Stands::groups_of))]
-    fn opening(&self, times: &Times, intergreens: &Intergreens, g: u8) -> Opening
+    fn opening(&self, limits: &Limits<'_>, g: u8) -> Opening
         requires group { g < groups_of self.now }
-        requires times { length times.now ≡ groups_of self.now }
-        ensures opening { result ≡ opening_now (rules_of times.now intergreens.now) self.now.terms self.now.seconds self.now.first self.now.picture
+        requires times { length limits.now.times ≡ groups_of self.now }
+        requires intergreens { limits.now.pairs.count ≡ groups_of self.now }
+        ensures opening { result ≡ opening_now (rules_of limits.now.times limits.now.pairs) self.now.terms self.now.seconds self.now.first self.now.picture
             self.now.pasts g }
-        ensures over { ForSome result.over (λ t. t ≤ 604802) }
-        ensures green { ForSome result.green (λ t. t ≤ 604802) }
-        ensures due { ForSome result.due (λ t. t ≤ 605066) }
+        ensures over { ForSome result.over (λ t. t ≤ 6048002) }
+        ensures green { ForSome result.green (λ t. t ≤ 6048002) }
+        ensures due { ForSome result.due (λ t. t ≤ 6050642) }
     {
         let past = self.pasts[g as usize];
-        let red_amber = u32::from(times.red_amber(GroupNo(g)));
+        let red_amber = limits.red_amber(GroupNo(g));
         let latest = (past.since + red_amber + self.terms.tolerance).max(self.seconds);
         Opening {
             first: self.first.get(g),
@@ -395,8 +386,7 @@ impl Judge {
     #[tactic(auto, unfolding(crate::specs::Stands::groups_of))]
     fn soon_after(
         &self,
-        times: &Times,
-        intergreens: &Intergreens,
+        limits: &Limits<'_>,
         g: u8,
         i: u8,
         green: Option<Latest>,
@@ -404,19 +394,19 @@ impl Judge {
     ) -> Option<Breach>
         requires group { g < groups_of self.now }
         requires other_group { i < groups_of self.now }
-        requires times { length times.now ≡ groups_of self.now }
-        requires intergreens { intergreens.now.count ≡ groups_of self.now }
-        requires second { ForSome green (λ x. x.second ≤ 605066) }
-        requires before { ForSome green (λ x. x.before ≤ 510) }
-        ensures { result ≡ too_soon_after (rules_of times.now intergreens.now) self.now.terms g i self.now.seconds green other
-            ((rules_of times.now intergreens.now).between i g) }
+        requires times { length limits.now.times ≡ groups_of self.now }
+        requires intergreens { limits.now.pairs.count ≡ groups_of self.now }
+        requires second { ForSome green (λ x. x.second ≤ 6050642) }
+        requires before { ForSome green (λ x. x.before ≤ 5100) }
+        ensures { result ≡ too_soon_after (rules_of limits.now.times limits.now.pairs) self.now.terms g i self.now.seconds green other
+            ((rules_of limits.now.times limits.now.pairs).between i g) }
     {
-        match intergreens.between(GroupNo(i), GroupNo(g)) {
+        match limits.between(GroupNo(i), GroupNo(g)) {
             None => None,
             Some(between) => {
-                let red_amber = u32::from(times.red_amber(GroupNo(g)));
+                let red_amber = limits.red_amber(GroupNo(g));
                 let least = u32::from(between).max(red_amber.saturating_sub(self.terms.tolerance));
-                let most = u32::from(times.amber(GroupNo(i))) + self.terms.tolerance;
+                let most = limits.amber(GroupNo(i)) + self.terms.tolerance;
                 soon_after(g, i, least, green, ended_before(most, other, self.seconds))
             }
         }
@@ -426,8 +416,7 @@ impl Judge {
     #[tactic(auto, unfolding(crate::specs::Stands::groups_of))]
     fn soon_before(
         &self,
-        times: &Times,
-        intergreens: &Intergreens,
+        limits: &Limits<'_>,
         g: u8,
         i: u8,
         own: Opening,
@@ -435,50 +424,43 @@ impl Judge {
     ) -> Option<Breach>
         requires group { g < groups_of self.now }
         requires other_group { i < groups_of self.now }
-        requires times { length times.now ≡ groups_of self.now }
-        requires intergreens { intergreens.now.count ≡ groups_of self.now }
-        ensures { result ≡ soon_before_spec (rules_of times.now intergreens.now) self.now.terms g i self.now.seconds own other }
+        requires times { length limits.now.times ≡ groups_of self.now }
+        requires intergreens { limits.now.pairs.count ≡ groups_of self.now }
+        ensures { result ≡ soon_before_spec (rules_of limits.now.times limits.now.pairs) self.now.terms g i self.now.seconds own other }
     {
-        let minimum = u32::from(times.min(GroupNo(g)));
-        let amber = u32::from(times.amber(GroupNo(g))).saturating_sub(self.terms.tolerance);
+        let minimum = limits.min(GroupNo(g));
+        let amber = limits
+            .amber(GroupNo(g))
+            .saturating_sub(self.terms.tolerance);
         let green = green_before(minimum, amber, own.over, own.first);
-        self.soon_after(times, intergreens, g, i, green, other)
+        self.soon_after(limits, g, i, green, other)
     }
 
     // An intergreen that the log cannot have kept, from an end before it.
     #[tactic(auto, unfolding(crate::specs::Stands::groups_of))]
-    fn hidden_breach(
-        &self,
-        times: &Times,
-        intergreens: &Intergreens,
-        g: u8,
-        i: u8,
-    ) -> Option<Breach>
+    fn hidden_breach(&self, limits: &Limits<'_>, g: u8, i: u8) -> Option<Breach>
         requires group { g < groups_of self.now }
         requires other { i < groups_of self.now }
-        requires times { length times.now ≡ groups_of self.now }
-        requires intergreens { intergreens.now.count ≡ groups_of self.now }
-        ensures { result ≡ hidden_found (rules_of times.now intergreens.now) self.now.terms self.now.seconds self.now.first self.now.picture
+        requires times { length limits.now.times ≡ groups_of self.now }
+        requires intergreens { limits.now.pairs.count ≡ groups_of self.now }
+        ensures { result ≡ hidden_found (rules_of limits.now.times limits.now.pairs) self.now.terms self.now.seconds self.now.first self.now.picture
             self.now.pasts g i }
     {
         if self.terms.rested {
             return None;
         }
-        let own = self.opening(times, intergreens, g);
-        let other = self.opening(times, intergreens, i);
+        let own = self.opening(limits, g);
+        let other = self.opening(limits, i);
         let behind = !is_amber(own.first)
-            || (g < i
-                && self
-                    .soon_before(times, intergreens, i, g, other, own)
-                    .is_some());
+            || (g < i && self.soon_before(limits, i, g, other, own).is_some());
         if behind {
-            let before = self.soon_before(times, intergreens, g, i, own, other);
+            let before = self.soon_before(limits, g, i, own, other);
             if before.is_some() {
                 return before;
             }
         }
         let green = green_behind(own.green, own.due);
-        self.soon_after(times, intergreens, g, i, green, other)
+        self.soon_after(limits, g, i, green, other)
     }
 }
 
@@ -489,17 +471,18 @@ impl Judge {
     #[tactic(auto, unfolding(crate::specs::Stands::groups_of))]
     fn find_sequences(
         &self,
-        times: &Times,
+        limits: &Limits<'_>,
         picture: &Picture,
         out: &mut Vec<Breach>,
     ) -> Result<(), Memory>
-        requires times { length times.now ≡ groups_of self.now }
+        requires times { length limits.now.times ≡ groups_of self.now }
+        requires intergreens { limits.now.pairs.count ≡ groups_of self.now }
         requires picture { length picture.now ≡ groups_of self.now }
-        ensures { OnOk result (out.new.items ≡ out.old.items ++ gather (λ g. sequence_found (row_of times.now g) self.now.terms self.now.seconds g
+        ensures { OnOk result (out.new.items ≡ out.old.items ++ gather (λ g. sequence_found (row_of limits.now.times g) self.now.terms self.now.seconds g
             (shown self.now.picture g) (shown picture.now g) (past_at self.now.pasts g).since) (length picture.now)) }
     {
         for g in 0..picture.len() {
-            self.find_sequence(times, picture, g, out)?;
+            self.find_sequence(limits, picture, g, out)?;
         }
         Ok(())
     }
@@ -507,17 +490,18 @@ impl Judge {
     #[tactic(auto, unfolding(crate::specs::Stands::groups_of))]
     fn find_greens(
         &self,
-        times: &Times,
+        limits: &Limits<'_>,
         picture: &Picture,
         out: &mut Vec<Breach>,
     ) -> Result<(), Memory>
-        requires times { length times.now ≡ groups_of self.now }
+        requires times { length limits.now.times ≡ groups_of self.now }
+        requires intergreens { limits.now.pairs.count ≡ groups_of self.now }
         requires picture { length picture.now ≡ groups_of self.now }
-        ensures { OnOk result (out.new.items ≡ out.old.items ++ gather (λ g. listed (green_found (row_of times.now g) self.now.terms self.now.seconds g
+        ensures { OnOk result (out.new.items ≡ out.old.items ++ gather (λ g. listed (green_found (row_of limits.now.times g) self.now.terms self.now.seconds g
             (shown self.now.picture g) (shown picture.now g) (past_at self.now.pasts g).since)) (length picture.now)) }
     {
         for g in 0..picture.len() {
-            put(out, self.green_breach(times, picture, g))?;
+            put(out, self.green_breach(limits, picture, g))?;
         }
         Ok(())
     }
@@ -525,29 +509,31 @@ impl Judge {
     #[tactic(auto, unfolding(crate::specs::Stands::groups_of))]
     fn find_reds(
         &self,
-        times: &Times,
+        limits: &Limits<'_>,
         picture: &Picture,
         out: &mut Vec<Breach>,
     ) -> Result<(), Memory>
-        requires times { length times.now ≡ groups_of self.now }
+        requires times { length limits.now.times ≡ groups_of self.now }
+        requires intergreens { limits.now.pairs.count ≡ groups_of self.now }
         requires picture { length picture.now ≡ groups_of self.now }
-        ensures { OnOk result (out.new.items ≡ out.old.items ++ gather (λ g. listed (red_found (row_of times.now g) self.now.terms self.now.seconds g
+        ensures { OnOk result (out.new.items ≡ out.old.items ++ gather (λ g. listed (red_found (row_of limits.now.times g) self.now.terms self.now.seconds g
             (shown self.now.picture g) (shown picture.now g) (past_at self.now.pasts g).since)) (length picture.now)) }
     {
         for g in 0..picture.len() {
-            put(out, self.red_breach(times, picture, g))?;
+            put(out, self.red_breach(limits, picture, g))?;
         }
         Ok(())
     }
 
     #[tactic(auto, unfolding(crate::specs::Stands::groups_of))]
-    fn find_running(&self, times: &Times, out: &mut Vec<Breach>) -> Result<(), Memory>
-        requires times { length times.now ≡ groups_of self.now }
-        ensures { OnOk result (out.new.items ≡ out.old.items ++ gather (λ g. listed (running_found (row_of times.now g) self.now.terms self.now.seconds g
+    fn find_running(&self, limits: &Limits<'_>, out: &mut Vec<Breach>) -> Result<(), Memory>
+        requires times { length limits.now.times ≡ groups_of self.now }
+        requires intergreens { limits.now.pairs.count ≡ groups_of self.now }
+        ensures { OnOk result (out.new.items ≡ out.old.items ++ gather (λ g. listed (running_found (row_of limits.now.times g) self.now.terms self.now.seconds g
             (shown self.now.picture g) (past_at self.now.pasts g).since)) (length self.now.picture)) }
     {
         for g in 0..self.picture.len() {
-            put(out, self.running_breach(times, g))?;
+            put(out, self.running_breach(limits, g))?;
         }
         Ok(())
     }
@@ -556,16 +542,15 @@ impl Judge {
     #[tactic(auto, unfolding(crate::specs::Stands::groups_of))]
     fn find_conflicts_of(
         &self,
-        times: &Times,
-        intergreens: &Intergreens,
+        limits: &Limits<'_>,
         picture: &Picture,
         g: u8,
         out: &mut Vec<Breach>,
     ) -> Result<(), Memory>
         requires group { g < groups_of self.now }
         requires picture { length picture.now ≡ groups_of self.now }
-        requires intergreens { intergreens.now.count ≡ groups_of self.now }
-        ensures { OnOk result (out.new.items ≡ out.old.items ++ gather (λ i. listed (conflict_found (rules_of times.now intergreens.now) self.now.seconds
+        requires intergreens { limits.now.pairs.count ≡ groups_of self.now }
+        ensures { OnOk result (out.new.items ≡ out.old.items ++ gather (λ i. listed (conflict_found (rules_of limits.now.times limits.now.pairs) self.now.seconds
             (not (is_on_spec (shown picture.now g) && is_on_spec (shown picture.now i))) self.now.picture self.now.pasts g i)) (length picture.now)) }
     {
         if !is_on(self.picture.get(g)) {
@@ -573,7 +558,7 @@ impl Judge {
         }
         for i in 0..picture.len() {
             let over = !both_on(picture, g, i);
-            put(out, self.conflict_breach(times, intergreens, over, g, i))?;
+            put(out, self.conflict_breach(limits, over, g, i))?;
         }
         Ok(())
     }
@@ -581,18 +566,17 @@ impl Judge {
     #[tactic(auto, unfolding(crate::specs::Stands::groups_of))]
     fn find_conflicts(
         &self,
-        times: &Times,
-        intergreens: &Intergreens,
+        limits: &Limits<'_>,
         picture: &Picture,
         out: &mut Vec<Breach>,
     ) -> Result<(), Memory>
         requires picture { length picture.now ≡ groups_of self.now }
-        requires intergreens { intergreens.now.count ≡ groups_of self.now }
-        ensures { OnOk result (out.new.items ≡ out.old.items ++ of_pairs (λ g i. conflict_found (rules_of times.now intergreens.now) self.now.seconds
+        requires intergreens { limits.now.pairs.count ≡ groups_of self.now }
+        ensures { OnOk result (out.new.items ≡ out.old.items ++ of_pairs (λ g i. conflict_found (rules_of limits.now.times limits.now.pairs) self.now.seconds
             (not (is_on_spec (shown picture.now g) && is_on_spec (shown picture.now i))) self.now.picture self.now.pasts g i) (length picture.now)) }
     {
         for g in 0..picture.len() {
-            self.find_conflicts_of(times, intergreens, picture, g, out)?;
+            self.find_conflicts_of(limits, picture, g, out)?;
         }
         Ok(())
     }
@@ -601,38 +585,32 @@ impl Judge {
     #[tactic(auto, unfolding(crate::specs::Stands::groups_of))]
     fn find_last_conflicts_of(
         &self,
-        times: &Times,
-        intergreens: &Intergreens,
+        limits: &Limits<'_>,
         g: u8,
         out: &mut Vec<Breach>,
     ) -> Result<(), Memory>
         requires group { g < groups_of self.now }
-        requires intergreens { intergreens.now.count ≡ groups_of self.now }
-        ensures { OnOk result (out.new.items ≡ out.old.items ++ gather (λ i. listed (conflict_found (rules_of times.now intergreens.now) self.now.seconds
+        requires intergreens { limits.now.pairs.count ≡ groups_of self.now }
+        ensures { OnOk result (out.new.items ≡ out.old.items ++ gather (λ i. listed (conflict_found (rules_of limits.now.times limits.now.pairs) self.now.seconds
             true self.now.picture self.now.pasts g i)) (length self.now.picture)) }
     {
         if !is_on(self.picture.get(g)) {
             return Ok(());
         }
         for i in 0..self.picture.len() {
-            put(out, self.conflict_breach(times, intergreens, true, g, i))?;
+            put(out, self.conflict_breach(limits, true, g, i))?;
         }
         Ok(())
     }
 
     #[tactic(auto, unfolding(crate::specs::Stands::groups_of))]
-    fn find_last_conflicts(
-        &self,
-        times: &Times,
-        intergreens: &Intergreens,
-        out: &mut Vec<Breach>,
-    ) -> Result<(), Memory>
-        requires intergreens { intergreens.now.count ≡ groups_of self.now }
-        ensures { OnOk result (out.new.items ≡ out.old.items ++ of_pairs (λ g i. conflict_found (rules_of times.now intergreens.now) self.now.seconds
+    fn find_last_conflicts(&self, limits: &Limits<'_>, out: &mut Vec<Breach>) -> Result<(), Memory>
+        requires intergreens { limits.now.pairs.count ≡ groups_of self.now }
+        ensures { OnOk result (out.new.items ≡ out.old.items ++ of_pairs (λ g i. conflict_found (rules_of limits.now.times limits.now.pairs) self.now.seconds
             true self.now.picture self.now.pasts g i) (length self.now.picture)) }
     {
         for g in 0..self.picture.len() {
-            self.find_last_conflicts_of(times, intergreens, g, out)?;
+            self.find_last_conflicts_of(limits, g, out)?;
         }
         Ok(())
     }
@@ -640,26 +618,22 @@ impl Judge {
     #[tactic(auto, unfolding(crate::specs::Stands::groups_of))]
     fn find_intergreens_of(
         &self,
-        times: &Times,
-        intergreens: &Intergreens,
+        limits: &Limits<'_>,
         picture: &Picture,
         g: u8,
         out: &mut Vec<Breach>,
     ) -> Result<(), Memory>
         requires group { g < groups_of self.now }
         requires picture { length picture.now ≡ groups_of self.now }
-        requires intergreens { intergreens.now.count ≡ groups_of self.now }
-        ensures { OnOk result (out.new.items ≡ out.old.items ++ gather (λ i. listed (intergreen_found (rules_of times.now intergreens.now) self.now.seconds
+        requires intergreens { limits.now.pairs.count ≡ groups_of self.now }
+        ensures { OnOk result (out.new.items ≡ out.old.items ++ gather (λ i. listed (intergreen_found (rules_of limits.now.times limits.now.pairs) self.now.seconds
             self.now.picture self.now.pasts picture.now g i)) (length picture.now)) }
     {
         if !turns_green(self.picture.get(g), picture.get(g)) {
             return Ok(());
         }
         for i in 0..picture.len() {
-            put(
-                out,
-                self.intergreen_breach(times, intergreens, picture, g, i),
-            )?;
+            put(out, self.intergreen_breach(limits, picture, g, i))?;
         }
         Ok(())
     }
@@ -667,18 +641,17 @@ impl Judge {
     #[tactic(auto, unfolding(crate::specs::Stands::groups_of))]
     fn find_intergreens(
         &self,
-        times: &Times,
-        intergreens: &Intergreens,
+        limits: &Limits<'_>,
         picture: &Picture,
         out: &mut Vec<Breach>,
     ) -> Result<(), Memory>
         requires picture { length picture.now ≡ groups_of self.now }
-        requires intergreens { intergreens.now.count ≡ groups_of self.now }
-        ensures { OnOk result (out.new.items ≡ out.old.items ++ of_pairs (λ g i. intergreen_found (rules_of times.now intergreens.now) self.now.seconds
+        requires intergreens { limits.now.pairs.count ≡ groups_of self.now }
+        ensures { OnOk result (out.new.items ≡ out.old.items ++ of_pairs (λ g i. intergreen_found (rules_of limits.now.times limits.now.pairs) self.now.seconds
             self.now.picture self.now.pasts picture.now g i) (length picture.now)) }
     {
         for g in 0..picture.len() {
-            self.find_intergreens_of(times, intergreens, picture, g, out)?;
+            self.find_intergreens_of(limits, picture, g, out)?;
         }
         Ok(())
     }
@@ -686,40 +659,34 @@ impl Judge {
     #[tactic(auto, unfolding(crate::specs::Stands::groups_of))]
     fn find_pending_of(
         &self,
-        times: &Times,
-        intergreens: &Intergreens,
+        limits: &Limits<'_>,
         g: u8,
         out: &mut Vec<Breach>,
     ) -> Result<(), Memory>
         requires group { g < groups_of self.now }
-        requires times { length times.now ≡ groups_of self.now }
-        requires intergreens { intergreens.now.count ≡ groups_of self.now }
-        ensures { OnOk result (out.new.items ≡ out.old.items ++ gather (λ i. listed (pending_found (rules_of times.now intergreens.now) self.now.terms
+        requires times { length limits.now.times ≡ groups_of self.now }
+        requires intergreens { limits.now.pairs.count ≡ groups_of self.now }
+        ensures { OnOk result (out.new.items ≡ out.old.items ++ gather (λ i. listed (pending_found (rules_of limits.now.times limits.now.pairs) self.now.terms
             self.now.seconds self.now.picture self.now.pasts g i)) (length self.now.picture)) }
     {
         if !is_red_amber(self.picture.get(g)) {
             return Ok(());
         }
         for i in 0..self.picture.len() {
-            put(out, self.pending_breach(times, intergreens, g, i))?;
+            put(out, self.pending_breach(limits, g, i))?;
         }
         Ok(())
     }
 
     #[tactic(auto, unfolding(crate::specs::Stands::groups_of))]
-    fn find_pending(
-        &self,
-        times: &Times,
-        intergreens: &Intergreens,
-        out: &mut Vec<Breach>,
-    ) -> Result<(), Memory>
-        requires times { length times.now ≡ groups_of self.now }
-        requires intergreens { intergreens.now.count ≡ groups_of self.now }
-        ensures { OnOk result (out.new.items ≡ out.old.items ++ of_pairs (λ g i. pending_found (rules_of times.now intergreens.now) self.now.terms
+    fn find_pending(&self, limits: &Limits<'_>, out: &mut Vec<Breach>) -> Result<(), Memory>
+        requires times { length limits.now.times ≡ groups_of self.now }
+        requires intergreens { limits.now.pairs.count ≡ groups_of self.now }
+        ensures { OnOk result (out.new.items ≡ out.old.items ++ of_pairs (λ g i. pending_found (rules_of limits.now.times limits.now.pairs) self.now.terms
             self.now.seconds self.now.picture self.now.pasts g i) (length self.now.picture)) }
     {
         for g in 0..self.picture.len() {
-            self.find_pending_of(times, intergreens, g, out)?;
+            self.find_pending_of(limits, g, out)?;
         }
         Ok(())
     }
@@ -727,37 +694,31 @@ impl Judge {
     #[tactic(auto, unfolding(crate::specs::Stands::groups_of))]
     fn find_hidden_of(
         &self,
-        times: &Times,
-        intergreens: &Intergreens,
+        limits: &Limits<'_>,
         g: u8,
         out: &mut Vec<Breach>,
     ) -> Result<(), Memory>
         requires group { g < groups_of self.now }
-        requires times { length times.now ≡ groups_of self.now }
-        requires intergreens { intergreens.now.count ≡ groups_of self.now }
-        ensures { OnOk result (out.new.items ≡ out.old.items ++ gather (λ i. listed (hidden_found (rules_of times.now intergreens.now) self.now.terms
+        requires times { length limits.now.times ≡ groups_of self.now }
+        requires intergreens { limits.now.pairs.count ≡ groups_of self.now }
+        ensures { OnOk result (out.new.items ≡ out.old.items ++ gather (λ i. listed (hidden_found (rules_of limits.now.times limits.now.pairs) self.now.terms
             self.now.seconds self.now.first self.now.picture self.now.pasts g i)) (length self.now.picture)) }
     {
         for i in 0..self.picture.len() {
-            put(out, self.hidden_breach(times, intergreens, g, i))?;
+            put(out, self.hidden_breach(limits, g, i))?;
         }
         Ok(())
     }
 
     #[tactic(auto, unfolding(crate::specs::Stands::groups_of))]
-    fn find_hidden(
-        &self,
-        times: &Times,
-        intergreens: &Intergreens,
-        out: &mut Vec<Breach>,
-    ) -> Result<(), Memory>
-        requires times { length times.now ≡ groups_of self.now }
-        requires intergreens { intergreens.now.count ≡ groups_of self.now }
-        ensures { OnOk result (out.new.items ≡ out.old.items ++ of_pairs (λ g i. hidden_found (rules_of times.now intergreens.now) self.now.terms
+    fn find_hidden(&self, limits: &Limits<'_>, out: &mut Vec<Breach>) -> Result<(), Memory>
+        requires times { length limits.now.times ≡ groups_of self.now }
+        requires intergreens { limits.now.pairs.count ≡ groups_of self.now }
+        ensures { OnOk result (out.new.items ≡ out.old.items ++ of_pairs (λ g i. hidden_found (rules_of limits.now.times limits.now.pairs) self.now.terms
             self.now.seconds self.now.first self.now.picture self.now.pasts g i) (length self.now.picture)) }
     {
         for g in 0..self.picture.len() {
-            self.find_hidden_of(times, intergreens, g, out)?;
+            self.find_hidden_of(limits, g, out)?;
         }
         Ok(())
     }
@@ -766,51 +727,45 @@ impl Judge {
     #[tactic(auto, unfolding(crate::specs::Stands::StandsFor, crate::specs::Stands::groups_of, crate::specs::Stands::terms_of, crate::specs::Stands::seconds_of))]
     pub fn find(
         &self,
-        times: &Times,
-        intergreens: &Intergreens,
+        limits: &Limits<'_>,
         picture: &Picture,
         out: &mut Vec<Breach>,
     ) -> Result<(), Memory>
         requires picture { length picture.now ≡ groups_of self.now }
-        requires times { length times.now ≡ groups_of self.now }
-        requires intergreens { intergreens.now.count ≡ groups_of self.now }
+        requires times { length limits.now.times ≡ groups_of self.now }
+        requires intergreens { limits.now.pairs.count ≡ groups_of self.now }
         ensures first { OnOk result (seconds_of self.now ≡ 0 → out.new.items ≡ out.old.items) }
         ensures found { OnOk result ((h : History) → StandsFor self.now h → 1 ≤ length h →
-            out.new.items ≡ out.old.items ++ breaches_after (rules_of times.now intergreens.now) (terms_of self.now) (h ++ picture.now ∷ []) (length h - 1)) }
+            out.new.items ≡ out.old.items ++ breaches_after (rules_of limits.now.times limits.now.pairs) (terms_of self.now) (h ++ picture.now ∷ []) (length h - 1)) }
     {
         // Nothing is complete with the first picture, nor with one in which each group shows what it showed.
         if self.seconds == 0 || all_stay(&self.picture, picture) {
             return Ok(());
         }
-        self.find_sequences(times, picture, out)?;
-        self.find_greens(times, picture, out)?;
-        self.find_reds(times, picture, out)?;
-        self.find_conflicts(times, intergreens, picture, out)?;
-        self.find_intergreens(times, intergreens, picture, out)?;
+        self.find_sequences(limits, picture, out)?;
+        self.find_greens(limits, picture, out)?;
+        self.find_reds(limits, picture, out)?;
+        self.find_conflicts(limits, picture, out)?;
+        self.find_intergreens(limits, picture, out)?;
         Ok(())
     }
 
     /// Puts behind `out` the breaches that the end of the log leaves: what lasted too long already, conflicts that go on, and greens
     /// that come too soon; and behind them the greens too soon after an end that the beginning hides.
     #[tactic(auto, unfolding(crate::specs::Stands::StandsFor, crate::specs::Stands::groups_of, crate::specs::Stands::terms_of, crate::specs::Stands::seconds_of))]
-    pub fn find_last(
-        &self,
-        times: &Times,
-        intergreens: &Intergreens,
-        out: &mut Vec<Breach>,
-    ) -> Result<(), Memory>
-        requires times { length times.now ≡ groups_of self.now }
-        requires intergreens { intergreens.now.count ≡ groups_of self.now }
+    pub fn find_last(&self, limits: &Limits<'_>, out: &mut Vec<Breach>) -> Result<(), Memory>
+        requires times { length limits.now.times ≡ groups_of self.now }
+        requires intergreens { limits.now.pairs.count ≡ groups_of self.now }
         ensures found { OnOk result ((h : History) → StandsFor self.now h → 1 ≤ length h →
-            out.new.items ≡ out.old.items ++ last_breaches (rules_of times.now intergreens.now) (terms_of self.now) h (length h - 1)) }
+            out.new.items ≡ out.old.items ++ last_breaches (rules_of limits.now.times limits.now.pairs) (terms_of self.now) h (length h - 1)) }
     {
         if self.seconds == 0 {
             return Ok(());
         }
-        self.find_running(times, out)?;
-        self.find_last_conflicts(times, intergreens, out)?;
-        self.find_pending(times, intergreens, out)?;
-        self.find_hidden(times, intergreens, out)?;
+        self.find_running(limits, out)?;
+        self.find_last_conflicts(limits, out)?;
+        self.find_pending(limits, out)?;
+        self.find_hidden(limits, out)?;
         Ok(())
     }
 }
@@ -865,7 +820,7 @@ impl Judge {
     #[tactic(auto, unfolding(crate::specs::Stands::StandsFor, crate::specs::Stands::groups_of, crate::specs::Stands::terms_of, crate::specs::Stands::seconds_of))]
     pub fn new(groups: u8, tolerance: u32) -> Judge
         requires groups { groups ≤ 64 }
-        requires tolerance { tolerance ≤ 9 }
+        requires tolerance { tolerance ≤ 90 }
         ensures groups { groups_of result ≡ groups }
         ensures seconds { seconds_of result ≡ 0 }
         ensures terms { terms_of result ≡ record { rested = false; tolerance = tolerance } }
@@ -887,7 +842,7 @@ impl Judge {
     #[tactic(auto, unfolding(crate::specs::Stands::StandsFor, crate::specs::Stands::groups_of, crate::specs::Stands::terms_of, crate::specs::Stands::seconds_of))]
     pub fn at_rest(groups: u8, tolerance: u32) -> Judge
         requires groups { groups ≤ 64 }
-        requires tolerance { tolerance ≤ 9 }
+        requires tolerance { tolerance ≤ 90 }
         ensures groups { groups_of result ≡ groups }
         ensures seconds { seconds_of result ≡ 1 }
         ensures terms { terms_of result ≡ record { rested = true; tolerance = tolerance } }
@@ -909,7 +864,7 @@ impl Judge {
     #[tactic(auto, unfolding(crate::specs::Stands::StandsFor, crate::specs::Stands::groups_of, crate::specs::Stands::terms_of, crate::specs::Stands::seconds_of))]
     pub fn show(&mut self, picture: &Picture)
         requires size { length picture.now ≡ groups_of self.old }
-        requires at_most { seconds_of self.old < 604802 }
+        requires at_most { seconds_of self.old < 6048002 }
         ensures groups { groups_of self.new ≡ groups_of self.old }
         ensures seconds { seconds_of self.new ≡ seconds_of self.old + 1 }
         ensures terms { terms_of self.new ≡ terms_of self.old }

@@ -77,11 +77,11 @@ pub(crate) fn green_before(
     over: Option<u32>,
     first: Aspect,
 ) -> Option<Latest>
-    requires minimum { minimum ≤ 255 }
-    requires amber { amber ≤ 255 }
+    requires minimum { minimum ≤ 2550 }
+    requires amber { amber ≤ 2550 }
     ensures green { result ≡ green_before_spec minimum amber over first }
     ensures second { ForSome result (λ x. x.second ≤ 0) }
-    ensures before { ForSome result (λ x. x.before ≤ 510) }
+    ensures before { ForSome result (λ x. x.before ≤ 5100) }
 {
     match first {
         Aspect::Red | Aspect::RedAmber => None,
@@ -98,11 +98,11 @@ pub(crate) fn green_before(
 
 /// The first green that the log shows to begin, or the latest second of the one that is due.
 pub(crate) fn green_behind(green: Option<u32>, due: Option<u32>) -> Option<Latest>
-    requires green { ForSome green (λ t. t ≤ 604802) }
-    requires due { ForSome due (λ t. t ≤ 605066) }
+    requires green { ForSome green (λ t. t ≤ 6048002) }
+    requires due { ForSome due (λ t. t ≤ 6050642) }
     ensures green { result ≡ green_behind_spec green due }
-    ensures second { ForSome result (λ x. x.second ≤ 605066) }
-    ensures before { ForSome result (λ x. x.before ≤ 510) }
+    ensures second { ForSome result (λ x. x.second ≤ 6050642) }
+    ensures before { ForSome result (λ x. x.before ≤ 5100) }
 {
     match (green, due) {
         (Some(second), _) => Some(Latest { second, before: 0 }),
@@ -119,10 +119,10 @@ pub(crate) fn soon_after(
     green: Option<Latest>,
     ended: Option<u32>,
 ) -> Option<Breach>
-    requires second { ForSome green (λ x. x.second ≤ 605066) }
-    requires before { ForSome green (λ x. x.before ≤ 510) }
-    requires ended { ForSome ended (λ b. b ≤ 264) }
-    requires least { least ≤ 255 }
+    requires second { ForSome green (λ x. x.second ≤ 6050642) }
+    requires before { ForSome green (λ x. x.before ≤ 5100) }
+    requires ended { ForSome ended (λ b. b ≤ 2640) }
+    requires least { least ≤ 65535 }
     ensures { result ≡ soon_after_spec group other least green ended }
 {
     match (green, ended) {

@@ -13,7 +13,7 @@ ghost use Rattle.sig_guard.specs.Safety.{IsHistory};
 
 use crate::judge::Judge;
 use sig_guard::is_on;
-use sig_tables::{Intergreens, Times};
+use sig_tables::Limits;
 use sig_types::{Aspect, GroupNo, Picture, Rule, TurnRefusal};
 
 /// Whether the pictures and the tables bear a refusal out.
@@ -125,8 +125,9 @@ fn is_green(aspect: Aspect) -> bool
 
 // Whether what a group shows since then lasts too short for a turn now.
 #[tactic(auto, unfolding(crate::specs::Stands::groups_of))]
-fn is_short(judge: &Judge, g: u8, least: u8) -> Finding
-    requires { g < groups_of judge.now }
+fn is_short(judge: &Judge, g: u8, least: u32) -> Finding
+    requires group { g < groups_of judge.now }
+    requires least { least ≤ 2550 }
     ensures { result ≡ short_now judge.now.terms judge.now.seconds (past_at judge.now.pasts g).since least }
 {
     let known = if judge.is_begun(g) {
@@ -134,12 +135,12 @@ fn is_short(judge: &Judge, g: u8, least: u8) -> Finding
     } else {
         Finding::Unknown
     };
-    where_so(judge.seconds() < judge.since(g) + u32::from(least), known)
+    where_so(judge.seconds() < judge.since(g) + least, known)
 }
 
 // Whether a green in this second comes too soon after the last end.
-fn is_missed(due: u32, between: Option<u8>, ended: Option<u32>) -> Finding
-    requires { ForSome ended (λ b. b ≤ 604802) }
+fn is_missed(due: u32, between: Option<u16>, ended: Option<u32>) -> Finding
+    requires { ForSome ended (λ b. b ≤ 6048002) }
     ensures { result ≡ missed_now due between ended }
 {
     match (between, ended) {
@@ -153,8 +154,7 @@ fn is_missed(due: u32, between: Option<u8>, ended: Option<u32>) -> Finding
 #[tactic(auto, unfolding(crate::specs::Stands::groups_of))]
 fn none_missed(
     judge: &Judge,
-    times: &Times,
-    intergreens: &Intergreens,
+    limits: &Limits<'_>,
     picture: &Picture,
     below: u8,
     g: u8,
@@ -163,12 +163,12 @@ fn none_missed(
     requires below { below ≤ groups_of judge.now }
     requires group { g < groups_of judge.now }
     requires picture { length picture.now ≡ groups_of judge.now }
-    requires intergreens { intergreens.now.count ≡ groups_of judge.now }
-    ensures { result ≡ none_missed_spec (rules_of times.now intergreens.now) judge.now.seconds judge.now.picture judge.now.pasts picture.now g due below }
+    requires intergreens { limits.now.pairs.count ≡ groups_of judge.now }
+    ensures { result ≡ none_missed_spec (rules_of limits.now.times limits.now.pairs) judge.now.seconds judge.now.picture judge.now.pasts picture.now g due below }
 {
     let mut none = Finding::Borne;
     for i in 0..below {
-        let between = intergreens.between(GroupNo(i), GroupNo(g));
+        let between = limits.between(GroupNo(i), GroupNo(g));
         let missed = is_missed(due, between, judge.last_end_with(picture, i));
         none = both(none, unless(missed));
     }
@@ -192,40 +192,27 @@ fn so_far(judge: &Judge, picture: &Picture, g: u8, i: u8) -> Aspect
 
 // Whether another group is in conflict with g, and on in that picture.
 #[tactic(auto, unfolding(crate::specs::Stands::groups_of))]
-fn is_in_way(
-    judge: &Judge,
-    times: &Times,
-    intergreens: &Intergreens,
-    picture: &Picture,
-    g: u8,
-    i: u8,
-) -> bool
+fn is_in_way(judge: &Judge, limits: &Limits<'_>, picture: &Picture, g: u8, i: u8) -> bool
     requires group { g < groups_of judge.now }
     requires other { i < groups_of judge.now }
     requires picture { length picture.now ≡ groups_of judge.now }
-    requires intergreens { intergreens.now.count ≡ groups_of judge.now }
-    ensures { result ≡ (is_some ((rules_of times.now intergreens.now).between i g) && is_on_spec (so_far_now judge.now.picture picture.now g i)) }
+    requires intergreens { limits.now.pairs.count ≡ groups_of judge.now }
+    ensures { result ≡ (is_some ((rules_of limits.now.times limits.now.pairs).between i g) && is_on_spec (so_far_now judge.now.picture picture.now g i)) }
 {
-    intergreens.between(GroupNo(i), GroupNo(g)).is_some() && is_on(so_far(judge, picture, g, i))
+    limits.between(GroupNo(i), GroupNo(g)).is_some() && is_on(so_far(judge, picture, g, i))
 }
 
 // The lowest group in conflict that is on in that picture.
 #[tactic(auto, unfolding(crate::specs::Stands::groups_of))]
-fn lowest_on(
-    judge: &Judge,
-    times: &Times,
-    intergreens: &Intergreens,
-    picture: &Picture,
-    g: u8,
-) -> Option<u8>
-    requires times { length times.now ≡ groups_of judge.now }
+fn lowest_on(judge: &Judge, limits: &Limits<'_>, picture: &Picture, g: u8) -> Option<u8>
+    requires times { length limits.now.times ≡ groups_of judge.now }
     requires group { g < groups_of judge.now }
     requires picture { length picture.now ≡ groups_of judge.now }
-    requires intergreens { intergreens.now.count ≡ groups_of judge.now }
-    ensures { result ≡ lowest_on_now (rules_of times.now intergreens.now) judge.now.picture picture.now g }
+    requires intergreens { limits.now.pairs.count ≡ groups_of judge.now }
+    ensures { result ≡ lowest_on_now (rules_of limits.now.times limits.now.pairs) judge.now.picture picture.now g }
 {
     for i in 0..picture.len() {
-        if is_in_way(judge, times, intergreens, picture, g, i) {
+        if is_in_way(judge, limits, picture, g, i) {
             return Some(i);
         }
     }
@@ -242,20 +229,16 @@ fn is_at(place: Option<u8>, i: u8) -> bool
 }
 
 #[tactic(auto, unfolding(crate::specs::Stands::groups_of))]
-fn end_finding(
-    judge: &Judge,
-    times: &Times,
-    intergreens: &Intergreens,
-    turn: TurnRefusal,
-) -> Finding
-    requires times { length times.now ≡ groups_of judge.now }
+fn end_finding(judge: &Judge, limits: &Limits<'_>, turn: TurnRefusal) -> Finding
+    requires times { length limits.now.times ≡ groups_of judge.now }
+    requires intergreens { limits.now.pairs.count ≡ groups_of judge.now }
     requires turn { turn.group.0 < groups_of judge.now }
-    ensures { result ≡ end_finding_spec (rules_of times.now intergreens.now) judge.now.terms judge.now.seconds judge.now.picture judge.now.pasts
+    ensures { result ≡ end_finding_spec (rules_of limits.now.times limits.now.pairs) judge.now.terms judge.now.seconds judge.now.picture judge.now.pasts
         turn.group.0 turn.rule turn.other }
 {
     let g = turn.group.0;
     let green = is_green(judge.aspect(g));
-    let least = times.min(turn.group);
+    let least = limits.min(turn.group);
     match (turn.rule, turn.other) {
         (Rule::Sequence, None) => certainly(!green),
         (Rule::MinGreen, None) => where_so(green, is_short(judge, g, least)),
@@ -264,100 +247,93 @@ fn end_finding(
 }
 
 #[tactic(auto, unfolding(crate::specs::Stands::groups_of))]
-fn red_is_enough(judge: &Judge, times: &Times, intergreens: &Intergreens, g: u8) -> Finding
-    requires times { length times.now ≡ groups_of judge.now }
+fn red_is_enough(judge: &Judge, limits: &Limits<'_>, g: u8) -> Finding
+    requires times { length limits.now.times ≡ groups_of judge.now }
+    requires intergreens { limits.now.pairs.count ≡ groups_of judge.now }
     requires group { g < groups_of judge.now }
-    ensures { result ≡ red_is_enough_spec (rules_of times.now intergreens.now) judge.now.terms judge.now.seconds judge.now.pasts g }
+    ensures { result ≡ red_is_enough_spec (rules_of limits.now.times limits.now.pairs) judge.now.terms judge.now.seconds judge.now.pasts g }
 {
-    let least = times.min_red(GroupNo(g));
+    let least = limits.min_red(GroupNo(g));
     unless(is_short(judge, g, least))
 }
 
 #[tactic(auto, unfolding(crate::specs::Stands::groups_of))]
 fn conflict_finding(
     judge: &Judge,
-    times: &Times,
-    intergreens: &Intergreens,
+    limits: &Limits<'_>,
     picture: &Picture,
     g: u8,
     i: GroupNo,
 ) -> Finding
-    requires times { length times.now ≡ groups_of judge.now }
-    requires intergreens { intergreens.now.count ≡ groups_of judge.now }
+    requires times { length limits.now.times ≡ groups_of judge.now }
+    requires intergreens { limits.now.pairs.count ≡ groups_of judge.now }
     requires picture { length picture.now ≡ groups_of judge.now }
     requires group { g < groups_of judge.now }
-    ensures { result ≡ start_finding_spec (rules_of times.now intergreens.now) judge.now.terms judge.now.seconds judge.now.picture judge.now.pasts picture.now
+    ensures { result ≡ start_finding_spec (rules_of limits.now.times limits.now.pairs) judge.now.terms judge.now.seconds judge.now.picture judge.now.pasts picture.now
         g Rule.Conflict (Some i) }
 {
     let red = is_red(judge.aspect(g));
-    let on = lowest_on(judge, times, intergreens, picture, g);
-    where_so(
-        red && is_at(on, i.0),
-        red_is_enough(judge, times, intergreens, g),
-    )
+    let on = lowest_on(judge, limits, picture, g);
+    where_so(red && is_at(on, i.0), red_is_enough(judge, limits, g))
 }
 
 #[tactic(auto, unfolding(crate::specs::Stands::groups_of))]
 fn intergreen_finding(
     judge: &Judge,
-    times: &Times,
-    intergreens: &Intergreens,
+    limits: &Limits<'_>,
     picture: &Picture,
     g: u8,
     i: GroupNo,
 ) -> Finding
-    requires times { length times.now ≡ groups_of judge.now }
-    requires intergreens { intergreens.now.count ≡ groups_of judge.now }
+    requires times { length limits.now.times ≡ groups_of judge.now }
+    requires intergreens { limits.now.pairs.count ≡ groups_of judge.now }
     requires picture { length picture.now ≡ groups_of judge.now }
     requires group { g < groups_of judge.now }
     requires other { i.0 < groups_of judge.now }
-    ensures { result ≡ start_finding_spec (rules_of times.now intergreens.now) judge.now.terms judge.now.seconds judge.now.picture judge.now.pasts picture.now
+    ensures { result ≡ start_finding_spec (rules_of limits.now.times limits.now.pairs) judge.now.terms judge.now.seconds judge.now.picture judge.now.pasts picture.now
         g Rule.Intergreen (Some i) }
 {
     let red = is_red(judge.aspect(g));
-    let on = lowest_on(judge, times, intergreens, picture, g);
-    let due = judge.seconds() + u32::from(times.red_amber(GroupNo(g)));
-    let lower = none_missed(judge, times, intergreens, picture, i.0, g, due);
-    let between = intergreens.between(i, GroupNo(g));
+    let on = lowest_on(judge, limits, picture, g);
+    let due = judge.seconds() + limits.red_amber(GroupNo(g));
+    let lower = none_missed(judge, limits, picture, i.0, g, due);
+    let between = limits.between(i, GroupNo(g));
     let missed = is_missed(due, between, judge.last_end_with(picture, i.0));
-    let enough = red_is_enough(judge, times, intergreens, g);
+    let enough = red_is_enough(judge, limits, g);
     where_so(red && on.is_none(), both(enough, both(lower, missed)))
 }
 
 #[tactic(auto, unfolding(crate::specs::Stands::groups_of))]
 fn start_finding(
     judge: &Judge,
-    times: &Times,
-    intergreens: &Intergreens,
+    limits: &Limits<'_>,
     picture: &Picture,
     turn: TurnRefusal,
 ) -> Finding
-    requires times { length times.now ≡ groups_of judge.now }
-    requires intergreens { intergreens.now.count ≡ groups_of judge.now }
+    requires times { length limits.now.times ≡ groups_of judge.now }
+    requires intergreens { limits.now.pairs.count ≡ groups_of judge.now }
     requires picture { length picture.now ≡ groups_of judge.now }
     requires turn { IsTurn (groups_of judge.now) turn }
-    ensures { result ≡ start_finding_spec (rules_of times.now intergreens.now) judge.now.terms judge.now.seconds judge.now.picture judge.now.pasts picture.now
+    ensures { result ≡ start_finding_spec (rules_of limits.now.times limits.now.pairs) judge.now.terms judge.now.seconds judge.now.picture judge.now.pasts picture.now
         turn.group.0 turn.rule turn.other }
 {
     let g = turn.group.0;
     let red = is_red(judge.aspect(g));
-    let least = times.min_red(turn.group);
+    let least = limits.min_red(turn.group);
     match (turn.rule, turn.other) {
         (Rule::Sequence, None) => certainly(!red),
         (Rule::MinRed, None) => where_so(red, is_short(judge, g, least)),
-        (Rule::Conflict, Some(i)) => { conflict_finding(judge, times, intergreens, picture, g, i) }
-        (Rule::Intergreen, Some(i)) => {
-            intergreen_finding(judge, times, intergreens, picture, g, i)
-        }
+        (Rule::Conflict, Some(i)) => { conflict_finding(judge, limits, picture, g, i) }
+        (Rule::Intergreen, Some(i)) => { intergreen_finding(judge, limits, picture, g, i) }
         _ => Finding::Contradicted,
     }
 }
 
 // The seconds by which a green in this second comes too soon after the last end; 0 where none is known.
-fn lacks(due: u32, between: Option<u8>, ended: Option<u32>) -> u32
-    requires { ForSome ended (λ b. b ≤ 604802) }
+fn lacks(due: u32, between: Option<u16>, ended: Option<u32>) -> u32
+    requires { ForSome ended (λ b. b ≤ 6048002) }
     ensures lacks { result ≡ lacks_now due between ended }
-    ensures at_most { result ≤ 605057 }
+    ensures at_most { result ≤ 6113537 }
 {
     match (between, ended) {
         (Some(least), Some(ended)) => (ended + u32::from(least)).saturating_sub(due),
@@ -367,24 +343,17 @@ fn lacks(due: u32, between: Option<u8>, ended: Option<u32>) -> u32
 
 // The group from which most seconds are lacking, the lowest of several, with these.
 #[tactic(auto, unfolding(crate::specs::Stands::groups_of))]
-fn most_lacking(
-    judge: &Judge,
-    times: &Times,
-    intergreens: &Intergreens,
-    picture: &Picture,
-    g: u8,
-    due: u32,
-) -> (u8, u32)
+fn most_lacking(judge: &Judge, limits: &Limits<'_>, picture: &Picture, g: u8, due: u32) -> (u8, u32)
     requires group { g < groups_of judge.now }
     requires picture { length picture.now ≡ groups_of judge.now }
-    requires intergreens { intergreens.now.count ≡ groups_of judge.now }
-    ensures most { result ≡ most_lacking_spec (λ i. lacks_now due ((rules_of times.now intergreens.now).between i g)
+    requires intergreens { limits.now.pairs.count ≡ groups_of judge.now }
+    ensures most { result ≡ most_lacking_spec (λ i. lacks_now due ((rules_of limits.now.times limits.now.pairs).between i g)
         (ended_now judge.now.seconds judge.now.picture judge.now.pasts picture.now i)) (length picture.now) }
-    ensures at_most { result.1 ≤ 605057 }
+    ensures at_most { result.1 ≤ 6113537 }
 {
     let mut most = (0, 0);
     for i in 0..picture.len() {
-        let between = intergreens.between(GroupNo(i), GroupNo(g));
+        let between = limits.between(GroupNo(i), GroupNo(g));
         let here = lacks(due, between, judge.last_end_with(picture, i));
         if most.1 < here {
             most = (i, here);
@@ -394,20 +363,21 @@ fn most_lacking(
 }
 
 #[tactic(auto, unfolding(crate::specs::Stands::groups_of))]
-fn end_reason(judge: &Judge, times: &Times, intergreens: &Intergreens, turn: TurnRefusal) -> Reason
-    requires times { length times.now ≡ groups_of judge.now }
+fn end_reason(judge: &Judge, limits: &Limits<'_>, turn: TurnRefusal) -> Reason
+    requires times { length limits.now.times ≡ groups_of judge.now }
+    requires intergreens { limits.now.pairs.count ≡ groups_of judge.now }
     requires turn { turn.group.0 < groups_of judge.now }
-    ensures { result ≡ end_reason_now (rules_of times.now intergreens.now) judge.now.pasts turn.group.0 turn.rule }
+    ensures { result ≡ end_reason_now (rules_of limits.now.times limits.now.pairs) judge.now.pasts turn.group.0 turn.rule }
 {
     let since = judge.since(turn.group.0);
     match turn.rule {
         Rule::Sequence => Reason::NotYet {
             since,
-            time: u32::from(times.red_amber(turn.group)),
+            time: limits.red_amber(turn.group),
         },
         Rule::MinGreen => Reason::Least {
             since,
-            least: u32::from(times.min(turn.group)),
+            least: limits.min(turn.group),
         },
         _ => Reason::Nothing,
     }
@@ -430,24 +400,23 @@ fn on_reason(judge: &Judge, other: GroupNo) -> Reason
 #[tactic(auto, unfolding(crate::specs::Stands::groups_of))]
 fn uncleared_reason(
     judge: &Judge,
-    times: &Times,
-    intergreens: &Intergreens,
+    limits: &Limits<'_>,
     picture: &Picture,
     g: u8,
     other: GroupNo,
 ) -> Reason
-    requires times { length times.now ≡ groups_of judge.now }
-    requires intergreens { intergreens.now.count ≡ groups_of judge.now }
+    requires times { length limits.now.times ≡ groups_of judge.now }
+    requires intergreens { limits.now.pairs.count ≡ groups_of judge.now }
     requires picture { length picture.now ≡ groups_of judge.now }
     requires group { g < groups_of judge.now }
     requires other { other.0 < groups_of judge.now }
-    ensures { result ≡ uncleared_now judge.now.seconds ((rules_of times.now intergreens.now).red_amber g) ((rules_of times.now intergreens.now).between other.0 g)
+    ensures { result ≡ uncleared_now judge.now.seconds ((rules_of limits.now.times limits.now.pairs).red_amber g) ((rules_of limits.now.times limits.now.pairs).between other.0 g)
         (ended_now judge.now.seconds judge.now.picture judge.now.pasts picture.now other.0) other
-        (most_lacking_now (rules_of times.now intergreens.now) judge.now.seconds judge.now.picture judge.now.pasts picture.now g) }
+        (most_lacking_now (rules_of limits.now.times limits.now.pairs) judge.now.seconds judge.now.picture judge.now.pasts picture.now g) }
 {
-    let due = judge.seconds() + u32::from(times.red_amber(GroupNo(g)));
-    let between = intergreens.between(other, GroupNo(g));
-    let (by, lacking) = most_lacking(judge, times, intergreens, picture, g, due);
+    let due = judge.seconds() + limits.red_amber(GroupNo(g));
+    let between = limits.between(other, GroupNo(g));
+    let (by, lacking) = most_lacking(judge, limits, picture, g, due);
     match (between, judge.last_end_with(picture, other.0)) {
         (Some(least), Some(ended)) => Reason::Uncleared {
             other,
@@ -462,18 +431,12 @@ fn uncleared_reason(
 }
 
 #[tactic(auto, unfolding(crate::specs::Stands::groups_of))]
-fn start_reason(
-    judge: &Judge,
-    times: &Times,
-    intergreens: &Intergreens,
-    picture: &Picture,
-    turn: TurnRefusal,
-) -> Reason
-    requires times { length times.now ≡ groups_of judge.now }
-    requires intergreens { intergreens.now.count ≡ groups_of judge.now }
+fn start_reason(judge: &Judge, limits: &Limits<'_>, picture: &Picture, turn: TurnRefusal) -> Reason
+    requires times { length limits.now.times ≡ groups_of judge.now }
+    requires intergreens { limits.now.pairs.count ≡ groups_of judge.now }
     requires picture { length picture.now ≡ groups_of judge.now }
     requires turn { IsTurn (groups_of judge.now) turn }
-    ensures { result ≡ start_reason_now (rules_of times.now intergreens.now) judge.now.seconds judge.now.picture judge.now.pasts picture.now
+    ensures { result ≡ start_reason_now (rules_of limits.now.times limits.now.pairs) judge.now.seconds judge.now.picture judge.now.pasts picture.now
         turn.group.0 turn.rule turn.other }
 {
     let g = turn.group.0;
@@ -481,16 +444,14 @@ fn start_reason(
     match (turn.rule, turn.other) {
         (Rule::Sequence, _) => Reason::NotYet {
             since,
-            time: u32::from(times.amber(turn.group)),
+            time: limits.amber(turn.group),
         },
         (Rule::MinRed, _) => Reason::Least {
             since,
-            least: u32::from(times.min_red(turn.group)),
+            least: limits.min_red(turn.group),
         },
         (Rule::Conflict, Some(other)) => on_reason(judge, other),
-        (Rule::Intergreen, Some(other)) => {
-            uncleared_reason(judge, times, intergreens, picture, g, other)
-        }
+        (Rule::Intergreen, Some(other)) => { uncleared_reason(judge, limits, picture, g, other) }
         _ => Reason::Nothing,
     }
 }
@@ -503,48 +464,33 @@ fn no_turn(was: Aspect, is: Aspect) -> bool
 }
 
 #[tactic(auto, unfolding(crate::specs::Stands::groups_of))]
-fn finding_of(
-    judge: &Judge,
-    times: &Times,
-    intergreens: &Intergreens,
-    picture: &Picture,
-    turn: TurnRefusal,
-) -> Finding
-    requires times { length times.now ≡ groups_of judge.now }
-    requires intergreens { intergreens.now.count ≡ groups_of judge.now }
+fn finding_of(judge: &Judge, limits: &Limits<'_>, picture: &Picture, turn: TurnRefusal) -> Finding
+    requires times { length limits.now.times ≡ groups_of judge.now }
+    requires intergreens { limits.now.pairs.count ≡ groups_of judge.now }
     requires picture { length picture.now ≡ groups_of judge.now }
     requires turn { IsTurn (groups_of judge.now) turn }
-    ensures { result ≡ finding_now (rules_of times.now intergreens.now) judge.now.terms judge.now.seconds judge.now.picture judge.now.pasts picture.now turn }
+    ensures { result ≡ finding_now (rules_of limits.now.times limits.now.pairs) judge.now.terms judge.now.seconds judge.now.picture judge.now.pasts picture.now turn }
 {
     let g = turn.group.0;
     let stays = no_turn(judge.aspect(g), picture.get(g));
     if is_on(picture.get(g)) {
-        return where_so(stays, end_finding(judge, times, intergreens, turn));
+        return where_so(stays, end_finding(judge, limits, turn));
     }
-    where_so(
-        stays,
-        start_finding(judge, times, intergreens, picture, turn),
-    )
+    where_so(stays, start_finding(judge, limits, picture, turn))
 }
 
 #[tactic(auto, unfolding(crate::specs::Stands::groups_of))]
-fn reason_of(
-    judge: &Judge,
-    times: &Times,
-    intergreens: &Intergreens,
-    picture: &Picture,
-    turn: TurnRefusal,
-) -> Reason
-    requires times { length times.now ≡ groups_of judge.now }
-    requires intergreens { intergreens.now.count ≡ groups_of judge.now }
+fn reason_of(judge: &Judge, limits: &Limits<'_>, picture: &Picture, turn: TurnRefusal) -> Reason
+    requires times { length limits.now.times ≡ groups_of judge.now }
+    requires intergreens { limits.now.pairs.count ≡ groups_of judge.now }
     requires picture { length picture.now ≡ groups_of judge.now }
     requires turn { IsTurn (groups_of judge.now) turn }
-    ensures { result ≡ reason_now (rules_of times.now intergreens.now) judge.now.seconds judge.now.picture judge.now.pasts picture.now turn }
+    ensures { result ≡ reason_now (rules_of limits.now.times limits.now.pairs) judge.now.seconds judge.now.picture judge.now.pasts picture.now turn }
 {
     if is_on(picture.get(turn.group.0)) {
-        return end_reason(judge, times, intergreens, turn);
+        return end_reason(judge, limits, turn);
     }
-    start_reason(judge, times, intergreens, picture, turn)
+    start_reason(judge, limits, picture, turn)
 }
 
 /// What is said of a turn that was refused in the second that shows the picture, after those that the judge knows. A group that
@@ -552,32 +498,31 @@ fn reason_of(
 #[tactic(auto, unfolding(crate::specs::Stands::groups_of, crate::specs::Stands::seconds_of, crate::specs::Stands::terms_of))]
 pub fn explain(
     judge: &Judge,
-    times: &Times,
-    intergreens: &Intergreens,
+    limits: &Limits<'_>,
     picture: &Picture,
     turn: TurnRefusal,
 ) -> Explained
-    requires times { length times.now ≡ groups_of judge.now }
-    requires intergreens { intergreens.now.count ≡ groups_of judge.now }
+    requires times { length limits.now.times ≡ groups_of judge.now }
+    requires intergreens { limits.now.pairs.count ≡ groups_of judge.now }
     requires picture { length picture.now ≡ groups_of judge.now }
     requires turn { IsTurn (groups_of judge.now) turn }
     ensures asked { result.asked ≡ (if is_on_spec (shown picture.now turn.group.0) then Asked.End else Asked.Start) }
     ensures finding { 0 < seconds_of judge.now →
-        result.finding ≡ finding_now (rules_of times.now intergreens.now) judge.now.terms judge.now.seconds judge.now.picture judge.now.pasts picture.now turn }
+        result.finding ≡ finding_now (rules_of limits.now.times limits.now.pairs) judge.now.terms judge.now.seconds judge.now.picture judge.now.pasts picture.now turn }
     ensures reason { 0 < seconds_of judge.now →
-        result.reason ≡ reason_now (rules_of times.now intergreens.now) judge.now.seconds judge.now.picture judge.now.pasts picture.now turn }
+        result.reason ≡ reason_now (rules_of limits.now.times limits.now.pairs) judge.now.seconds judge.now.picture judge.now.pasts picture.now turn }
     ensures first { seconds_of judge.now ≡ 0 → result.finding ≡ Finding.Unknown }
     // At rest it is borne out exactly where it is told so.
     ensures at_rest { (h : History) → StandsFor judge.now h → (terms_of judge.now).rested ≡ true → IsHistory (groups_of judge.now) h →
-        (result.finding ≡ Finding.Borne) ↔ IsBorneOut (rules_of times.now intergreens.now) h picture.now turn }
+        (result.finding ≡ Finding.Borne) ↔ IsBorneOut (rules_of limits.now.times limits.now.pairs) h picture.now turn }
     // Whatever was before the log, it is borne out where it is told so,
     ensures borne { (h front : History) → StandsFor judge.now h → (terms_of judge.now).rested ≡ false →
         IsHistory (groups_of judge.now) (front ++ h) → result.finding ≡ Finding.Borne →
-        IsBorneOut (rules_of times.now intergreens.now) (front ++ h) picture.now turn }
+        IsBorneOut (rules_of limits.now.times limits.now.pairs) (front ++ h) picture.now turn }
     // and not borne out where that is told.
     ensures contradicted { (h front : History) → StandsFor judge.now h → (terms_of judge.now).rested ≡ false →
         IsHistory (groups_of judge.now) (front ++ h) → result.finding ≡ Finding.Contradicted →
-        IsBorneOut (rules_of times.now intergreens.now) (front ++ h) picture.now turn → ⊥ }
+        IsBorneOut (rules_of limits.now.times limits.now.pairs) (front ++ h) picture.now turn → ⊥ }
 {
     let asked = if is_on(picture.get(turn.group.0)) {
         Asked::End
@@ -591,8 +536,8 @@ pub fn explain(
             reason: Reason::Nothing,
         };
     }
-    let finding = finding_of(judge, times, intergreens, picture, turn);
-    let reason = reason_of(judge, times, intergreens, picture, turn);
+    let finding = finding_of(judge, limits, picture, turn);
+    let reason = reason_of(judge, limits, picture, turn);
     Explained {
         asked,
         finding,

@@ -15,14 +15,14 @@ use Rattle.log_protocol.proofs.Gathered.{few_if, gather_few, gather_same}
 same_together : (n n' f f' : ℕ) → n ≡ n' → f ≡ f' → (let x : Together = record { seconds = n; first = f } in x) ≡ record { seconds = n'; first = f' }
 same_together n n' f f' h1 h2 = rw (h1, h2) refl
 
-second_more : (seconds : List ℕ) (t : ℕ) → length seconds < 604802 → with_second (together seconds) t ≡ together (seconds ++ t ∷ [])
+second_more : (seconds : List ℕ) (t : ℕ) → length seconds < 6048002 → with_second (together seconds) t ≡ together (seconds ++ t ∷ [])
 second_more [] t few = same_together _ _ _ _ (omega arith) refl
 second_more (s ∷ rest) t few =
     let size : length ((s ∷ rest) ++ t ∷ []) ≡ length (s ∷ rest) + 1 = omega (arith, length-append (s ∷ rest) (t ∷ [])) in
     same_together _ _ _ _ (omega (arith, size)) (rw (ne_eqb (length (s ∷ rest)) 0 (λ e. omega (arith, e))) refl)
 
 -- a second in which both are green, or another one
-both_more : (seconds : List ℕ) (one other : Aspect) (t : ℕ) → length seconds < 604802 →
+both_more : (seconds : List ℕ) (one other : Aspect) (t : ℕ) → length seconds < 6048002 →
     with_both (together seconds) one other t ≡ together (seconds ++ (if is_green one && is_green other then t ∷ [] else []))
 both_more seconds one other t few = go (is_green one && is_green other)
   where
@@ -34,7 +34,7 @@ both_same : (a a' c c' : Trace) (n : ℕ) → AgreeBelow n a a' → AgreeBelow n
 both_same a a' c c' n one other = gather_same _ _ n (λ t lt. rw (one.at t lt, other.at t lt) refl)
 
 -- two groups with one picture more
-pub together_more : (h : History) (p : Picture) (g i : ℕ) (old new : Together) → length h < 604802 →
+pub together_more : (h : History) (p : Picture) (g i : ℕ) (old new : Together) → length h < 6048002 →
     old ≡ together (both_green (trace h g) (trace h i) (length h)) → new ≡ with_both old (shown p g) (shown p i) (length h) →
     new ≡ together (both_green (trace (h ++ p ∷ []) g) (trace (h ++ p ∷ []) i) (length (h ++ p ∷ [])))
 together_more h p g i old new few was is =

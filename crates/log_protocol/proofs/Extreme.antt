@@ -36,14 +36,14 @@ pick_seconds s y c some = rw (ne_eqb c 0 (λ e. omega (arith, e, some))) (second
 pick_over : (s y : Lasted) (c : ℕ) → 0 < c → (shorter s y).over ≡ (if (c == 0) || nat_lt y.seconds s.seconds then y.over else s.over)
 pick_over s y c some = rw (ne_eqb c 0 (λ e. omega (arith, e, some))) (over_of (nat_lt y.seconds s.seconds) y s)
 
-count_more : (c : ℕ) → c < 604802 → c + 1 ≡ (if nat_lt c 604802 then c + 1 else c)
-count_more c few = rw (lt-ltb c 604802 few) refl
+count_more : (c : ℕ) → c < 6048002 → c + 1 ≡ (if nat_lt c 6048002 then c + 1 else c)
+count_more c few = rw (lt-ltb c 6048002 few) refl
 
 same_extremes : (c c' l l' s s' m m' : ℕ) → c ≡ c' → l ≡ l' → s ≡ s' → m ≡ m' →
     (let x : Extremes = record { count = c; least = l; second = s; most = m } in x) ≡ record { count = c'; least = l'; second = s'; most = m' }
 same_extremes c c' l l' s s' m m' h1 h2 h3 h4 = rw (h1, h2, h3, h4) refl
 
-pub extremes_more : (xs : List Lasted) (y : Lasted) → length xs < 604802 → extremes (xs ++ y ∷ []) ≡ one_more (extremes xs) y.seconds y.over
+pub extremes_more : (xs : List Lasted) (y : Lasted) → length xs < 6048002 → extremes (xs ++ y ∷ []) ≡ one_more (extremes xs) y.seconds y.over
 extremes_more [] y few = same_extremes _ _ _ _ _ _ _ _ refl refl refl (longest_more [] y)
 extremes_more (x ∷ rest) y few =
     let size : length ((x ∷ rest) ++ y ∷ []) ≡ length (x ∷ rest) + 1 = omega (arith, length-append (x ∷ rest) (y ∷ [])) in
@@ -54,7 +54,7 @@ extremes_more (x ∷ rest) y few =
     (longest_more (x ∷ rest) y)
 
 -- one that lasted, or none
-with_lasted : (xs : List Lasted) (from : Option ℕ) (t : ℕ) → length xs < 604802 →
+with_lasted : (xs : List Lasted) (from : Option ℕ) (t : ℕ) → length xs < 6048002 →
     with_run unknown_past (extremes xs) from t ≡ extremes (xs ++ lasted from t)
 with_lasted xs None t few = ap extremes (sym (append-nil xs))
 with_lasted xs (Some s) t few = go (is_known unknown_past s)
@@ -65,7 +65,7 @@ with_lasted xs (Some s) t few = go (is_known unknown_past s)
     go false = ap extremes (sym (append-nil xs))
 
 -- a change, or none
-with_changed : (xs : List Lasted) (turned : Bool) (green ended : Option ℕ) (t : ℕ) → length xs < 604802 →
+with_changed : (xs : List Lasted) (turned : Bool) (green ended : Option ℕ) (t : ℕ) → length xs < 6048002 →
     with_change (extremes xs) turned green ended t ≡ extremes (xs ++ change turned green ended t)
 with_changed xs turned green None t few = ap extremes (sym (append-nil xs))
 with_changed xs turned green (Some b) t few = go (turned && is_change green b)
@@ -84,7 +84,7 @@ few_changes turned green None t = omega arith
 few_changes turned green (Some b) t = let x : Lasted = record { seconds = t - b; over = t } in few_if (turned && is_change green b) x
 
 -- what is kept of the runs of a group second by second are the extremes of all of them
-pub runs_are : (kind : Kind) (a : Trace) (m : ℕ) → m ≤ 604802 → runs_to unknown_past kind a m ≡ extremes (runs_of kind a m)
+pub runs_are : (kind : Kind) (a : Trace) (m : ℕ) → m ≤ 6048002 → runs_to unknown_past kind a m ≡ extremes (runs_of kind a m)
 runs_are kind a zero few = refl
 runs_are kind a (suc m) few =
     let size : length (runs_of kind a m) ≤ m =
@@ -94,7 +94,7 @@ runs_are kind a (suc m) few =
     ∙ with_lasted (runs_of kind a m) (from_of kind (a m) (a (suc m)) (since a m) (suc m)) (suc m) (omega arith)
 
 -- and so of the changes between two groups
-pub changes_are : (a c : Trace) (m : ℕ) → m ≤ 604802 → changes_to unknown_past a c m ≡ extremes (changes_of a c m)
+pub changes_are : (a c : Trace) (m : ℕ) → m ≤ 6048002 → changes_to unknown_past a c m ≡ extremes (changes_of a c m)
 changes_are a c zero few = refl
 changes_are a c (suc m) few =
     let size : length (changes_of a c m) ≤ m =

@@ -58,7 +58,7 @@ impl Page {
     #[tactic(auto, unfolding(crate::specs::Page::groups_of, crate::specs::Page::seconds_of))]
     pub fn add(&mut self, picture: &Picture)
         requires size { length picture.now ≡ groups_of self.old }
-        requires at_most { seconds_of self.old < 604802 }
+        requires at_most { seconds_of self.old < 6048002 }
         ensures groups { groups_of self.new ≡ groups_of self.old }
         ensures seconds { seconds_of self.new ≡ seconds_of self.old + 1 }
         ensures page { (h : History) → IsPageOf self.old h → IsPageOf self.new (h ++ picture.now ∷ []) }

@@ -12,7 +12,7 @@ ghost use Rattle.refusal_text.specs.Refusals.{asked_of, begins_at_rest, command_
 
 use crate::refusal::{Refusal, Said};
 use log_judge::{Explained, Finding, Judge, explain};
-use sig_tables::{Intergreens, Times};
+use sig_tables::{Intergreens, Limits, Times};
 use sig_types::{Memory, Picture, Record, StagePlace, StageRefusals, TurnRefusal, TurnRefusals};
 use std::alloc::Global;
 
@@ -97,7 +97,8 @@ fn turn_of(
     ensures told { (h : History) → StandsFor judge.now h →
         result ≡ turn_of (rules_of times.now intergreens.now) (terms_of judge.now) h picture.now turn }
 {
-    let explained = explain(judge, times, intergreens, picture, turn);
+    let limits = Limits::of(times, intergreens);
+    let explained = explain(judge, &limits, picture, turn);
     Refusal::Turn {
         second: judge.seconds(),
         turn,

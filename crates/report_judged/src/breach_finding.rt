@@ -15,6 +15,7 @@ use log_judge::{Breach, Judge};
 use log_read::{Begin, LogPictures, LogRefusal};
 use report_words::JudgeStop;
 use sig_io::Files;
+use sig_tables::Limits;
 use sig_types::Memory;
 use site_load::SiteTables;
 use std::alloc::Global;
@@ -72,7 +73,8 @@ fn find_within<'a, F: Files>(
                 });
             }
         }
-        match judge.find(&tables.times, &tables.intergreens, part.picture(), found) {
+        let limits = Limits::of(&tables.times, &tables.intergreens);
+        match judge.find(&limits, part.picture(), found) {
             Ok(()) => judge.show(part.picture()),
             Err(_memory) => return Err(JudgeStop::Memory),
         }
@@ -90,7 +92,8 @@ fn find_end(tables: &SiteTables, judge: &Judge, found: &mut Vec<Breach>) -> Resu
     if judge.seconds() == 0 {
         return Ok(());
     }
-    match judge.find_last(&tables.times, &tables.intergreens, found) {
+    let limits = Limits::of(&tables.times, &tables.intergreens);
+    match judge.find_last(&limits, found) {
         Ok(()) => Ok(()),
         Err(memory) => Err(memory),
     }

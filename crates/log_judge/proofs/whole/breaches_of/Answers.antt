@@ -1,4 +1,4 @@
-use Rattle.std.proofs.Common.{◌≡◌, ℕ, ◌+◌, ◌-◌, ◌<◌, arith, sym, subst, ap, ◌∙◌, length, [], ◌∷◌, ◌++◌, take, false}
+use Rattle.std.proofs.Common.{◌≡◌, ℕ, ◌+◌, ◌-◌, ◌<◌, ◌≤◌, List, get_or, refl, arith, sym, subst, ap, ◌∙◌, length, [], ◌∷◌, ◌++◌, take, false}
 use Rattle.std.proofs.lemmas.List.{take_more, length-take-le}
 use Rattle.std.proofs.Math.Seq.{take-length}
 use Rattle.sig_types.specs.Turns.{Picture, History}
@@ -9,18 +9,25 @@ use Rattle.log_judge.specs.Stands.{StandsFor}
 use Rattle.log_judge.proofs.AllFound.{none_within, next_within, all_of}
 use Rattle.log_judge.proofs.whole.breaches_of.Goals as goal
 
+-- the first item, whatever stands for one that is missing
+first_is : (pictures : List Picture) (p q : Picture) → 1 ≤ length pictures → get_or pictures 0 p ≡ get_or pictures 0 q
+first_is [] p q some = absurd (omega (arith, some))
+first_is (x ∷ xs) p q some = refl
+
 pub loop-picture-init : goal.loop-picture-init
 loop-picture-init c = record {
-  groups = c.new-judge.ensures.groups ∙ c.groups.ensures.count;
+  groups = c.new-judge.ensures.groups ∙ c.len.ensures.len
+      ∙ ap (λ (p : Picture). length p) (c.index-pictures-0.is ∙ first_is c.args.pictures.now c.index-pictures-0.result [] c.requires.some)
+      ∙ c.requires.sizes 0 (omega (arith, c.requires.some));
   seconds = c.new-judge.ensures.seconds;
   terms = c.new-judge.ensures.terms;
   stands = c.new-judge.ensures.stands;
-  found = c.new-found.ensures.items ∙ sym (none_within (rules_of c.args.times.now c.args.intergreens.now) (record { rested = false; tolerance = c.args.tolerance }));
+  found = c.new-found.ensures.items ∙ sym (none_within (rules_of c.args.limits.now.times c.args.limits.now.pairs) (record { rested = false; tolerance = c.args.tolerance }));
 }
 
 pub loop-picture-preserved : goal.loop-picture-preserved
 loop-picture-preserved c =
-    let r = rules_of c.args.times.now c.args.intergreens.now in
+    let r = rules_of c.args.limits.now.times c.args.limits.now.pairs in
     let k : Terms = record { rested = false; tolerance = c.args.tolerance } in
     let i = c.loop-picture.picture-index in
     let h = take i c.args.pictures.now in
@@ -44,7 +51,7 @@ loop-picture-preserved c =
 
 pub returns : goal.returns
 returns c =
-    let r = rules_of c.args.times.now c.args.intergreens.now in
+    let r = rules_of c.args.limits.now.times c.args.limits.now.pairs in
     let k : Terms = record { rested = false; tolerance = c.args.tolerance } in
     let inv = c.loop-picture.invariant in
     let over : c.loop-picture.picture-index ≡ length c.args.pictures.now = omega (arith, c.loop-picture-test.false, c.loop-picture.auto.picture-index-end) in

@@ -17,4 +17,6 @@ returns-clause-told c = λ h s.
     ∙ said_is r judge.terms h c.args.picture.now c.args.turn judge.seconds judge.picture judge.pasts
     c.explain-explained.result.finding c.explain-explained.result.reason s.seconds s.last
     (λ g lt. s.pasts g (subst (λ (n : ℕ). g < n) count lt)) (subst (λ (n : ℕ). IsTurn n c.args.turn) (sym count) c.requires.turn)
-    (c.requires.picture ∙ sym count) c.explain-explained.ensures.first c.explain-explained.ensures.finding c.explain-explained.ensures.reason)
+    (c.requires.picture ∙ sym count) c.explain-explained.ensures.first
+    (rw (c.of-limits.ensures.times, c.of-limits.ensures.pairs) at c.explain-explained.ensures.finding)
+    (rw (c.of-limits.ensures.times, c.of-limits.ensures.pairs) at c.explain-explained.ensures.reason))

@@ -14,4 +14,4 @@ pub returns-in-Ok : goal.returns-in-Ok
 returns-in-Ok c h stands before =
     let some : 1 ≤ length h = omega (arith, stands_count c.args.judge.now h stands, c.seconds.ensures.seconds, c.if-seconds-eq0.false) in
     all_of (rules_of c.args.tables.now.times c.args.tables.now.intergreens) (terms_of c.args.judge.now) h c.args.found.now.items c.find_last.new.out.items
-    before (c.in-Ok.ensures.found h stands some)
+    before (rw (c.of-limits.ensures.times, c.of-limits.ensures.pairs) at (c.in-Ok.ensures.found h stands some))

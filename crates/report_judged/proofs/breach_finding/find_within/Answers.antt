@@ -76,7 +76,7 @@ pictures-preserved g c =
         stands = rw (c.picture-in-Ok.ensures, ← c.picture.ensures) at (c.show.ensures.stands h so_far.stands);
         found_are = next_within r k h p c.pictures.found.items c.find.new.out.items so_far.found_are
             (λ none. c.in-Ok.ensures.first (sym (stands_count c.pictures.judge h so_far.stands) ∙ none))
-            (λ some. c.in-Ok.ensures.found h so_far.stands some
+            (λ some. (rw (c.of-limits.ensures.times, c.of-limits.ensures.pairs) at (c.in-Ok.ensures.found h so_far.stands some))
             ∙ ap (λ (x : Terms). c.pictures.found.items ++ breaches_after r x (h ++ p ∷ []) (length h - 1)) i.terms);
         reads = λ file e.
             let next = subst (λ n. Reads c.pictures.part names (file n) h → IsNext (begin_of c.pictures.part) names (file n) h c.next_picture.new.self (Ok c.in-Ok-true.field-0)) i.name

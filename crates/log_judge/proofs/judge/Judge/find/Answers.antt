@@ -25,9 +25,9 @@ returns-then-self-eq0-clause-found c = λ h s one. elim c.then-self-eq0.branch [
         pasts_are = s.pasts;
       } in
       sym (ap (λ (xs : List Breach). c.args.out.now.items ++ xs)
-      (found_after c.args.times.now c.args.intergreens.now c.args.self.now.terms h c.args.picture.now m
+      (found_after c.args.limits.now.times c.args.limits.now.pairs c.args.self.now.terms h c.args.picture.now m
       c.args.self.now.picture c.args.self.now.pasts keeps (sym c.requires.picture) (c.requires.times ∙ sym c.requires.picture)
-      ∙ unchanged c.args.times.now c.args.intergreens.now c.args.self.now.terms (suc m) c.args.self.now.picture c.args.self.now.pasts c.args.picture.now
+      ∙ unchanged c.args.limits.now.times c.args.limits.now.pairs c.args.self.now.terms (suc m) c.args.self.now.picture c.args.self.now.pasts c.args.picture.now
       (λ g lt. w.all_stay.ensures w.if-all_stay.true g (subst (λ (n : ℕ). g < n) c.requires.picture lt)))
       ∙ append-nil c.args.out.now.items))
 ]
@@ -44,6 +44,6 @@ returns-clause-found c = λ h s one.
     } in
     let now : suc m ≡ c.args.self.now.seconds = sym long ∙ s.seconds in
     five_times _ _ _ _ _ _ _ _ _ _ _ c.in_ok-find_sequences.ensures c.in_ok-find_greens.ensures c.in_ok-find_reds.ensures c.in_ok-find_conflicts.ensures c.in_ok-find_intergreens.ensures
-    ∙ ap (λ (n : ℕ). c.args.out.now.items ++ found_now c.args.times.now c.args.intergreens.now c.args.self.now.terms n c.args.self.now.picture c.args.self.now.pasts c.args.picture.now) (sym now)
-    ∙ ap (λ (xs : List Breach). c.args.out.now.items ++ xs) (sym (found_after c.args.times.now c.args.intergreens.now c.args.self.now.terms h c.args.picture.now m
+    ∙ ap (λ (n : ℕ). c.args.out.now.items ++ found_now c.args.limits.now.times c.args.limits.now.pairs c.args.self.now.terms n c.args.self.now.picture c.args.self.now.pasts c.args.picture.now) (sym now)
+    ∙ ap (λ (xs : List Breach). c.args.out.now.items ++ xs) (sym (found_after c.args.limits.now.times c.args.limits.now.pairs c.args.self.now.terms h c.args.picture.now m
     c.args.self.now.picture c.args.self.now.pasts keeps (sym c.requires.picture) (c.requires.times ∙ sym c.requires.picture)))

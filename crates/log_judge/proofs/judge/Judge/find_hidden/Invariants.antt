@@ -5,4 +5,4 @@ use Rattle.log_judge.specs.Found.{hidden_found}
 use Rattle.log_judge.proofs.judge.Judge.find_hidden.Given as goal
 
 abbrev pub invariant-loop-g : goal.invariant-loop-g
-invariant-loop-g l = l.out.items ≡ l.fn.out.items ++ gather (λ g. gather (λ i. listed (hidden_found (rules_of l.times l.intergreens) l.self.terms l.self.seconds l.self.first l.self.picture l.self.pasts g i)) (length l.self.picture)) l.g
+invariant-loop-g l = l.out.items ≡ l.fn.out.items ++ gather (λ g. gather (λ i. listed (hidden_found (rules_of l.limits.times l.limits.pairs) l.self.terms l.self.seconds l.self.first l.self.picture l.self.pasts g i)) (length l.self.picture)) l.g

@@ -17,7 +17,7 @@ returns-clause-page c = λ h is.
     let n = stands.groups_of c.args.self.now.judge in
     let groups = c.show.ensures.groups in
     let size : length (h ++ p ∷ []) ≡ length h + 1 = omega (arith, length-append h (p ∷ [])) in
-    let few : length h < 604802 = omega (arith, is.long, c.requires.at_most) in
+    let few : length h < 6048002 = omega (arith, is.long, c.requires.at_most) in
     let before : HasCame old.protocol (stands.terms_of old.judge) (stands.groups_of old.judge) h =
     subst (λ (k : Terms). HasCame old.protocol k (stands.groups_of old.judge) h) (sym is.terms) is.came in
     record {
