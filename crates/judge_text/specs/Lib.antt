@@ -1,3 +1,4 @@
+pub mod Ticks
 pub mod Words
 pub mod Rows
 pub mod Lines

@@ -1,6 +1,5 @@
 -- What a breach speaks of.
 use Rattle.std.specs.Prelude.{ℕ, ◌+◌, List, ◌++◌, Option, None, Some}
-use Rattle.std.specs.Fmt.{decimal}
 use Rattle.sig_types.specs.declared.aspect.Aspect.{Aspect}
 use Rattle.sig_types.specs.declared.aspect.Aspect.TheVariants.{Red, RedAmber, Green, Amber}
 use Rattle.sig_types.specs.declared.aspect.Rule.{Rule}
@@ -10,6 +9,8 @@ use Rattle.pua_model.specs.Plan.{name_of}
 use Rattle.signal_log.specs.Log.{rule_name}
 use Rattle.log_judge.specs.declared.breach.Breach.{Breach}
 use Rattle.log_judge.specs.declared.breach.Breach.TheVariants.{Step, Short, Long, Conflict, Intergreen, Hidden}
+use Rattle.judge_text.specs.declared.tick.Tick.{Tick}
+use Rattle.judge_text.specs.Ticks.{ticks_text}
 
 -- the rule that an aspect of another length breaks
 abbrev pub aspect_rule : Aspect → Rule
@@ -55,6 +56,6 @@ second_of (Intergreen second group other ended least) = second
 second_of (Hidden second group other ended before least) = second
 
 -- the second as a log numbers it whose first picture has this one, the rule and the group, with this between them
-unfoldable pub head_text : List (List ℕ) → ℕ → List ℕ → Breach → List ℕ
-head_text names first between breach =
-    decimal (first + second_of breach) ++ between ++ rule_name (rule_of breach) ++ between ++ name_of names (group_of breach)
+unfoldable pub head_text : List (List ℕ) → Tick → ℕ → List ℕ → Breach → List ℕ
+head_text names tick first between breach =
+    ticks_text tick (first + second_of breach) ++ between ++ rule_name (rule_of breach) ++ between ++ name_of names (group_of breach)

@@ -6,7 +6,10 @@
 mod line;
 mod row;
 mod sums;
+mod tick;
 mod words;
 
-pub use line::put_breaches;
-pub use row::put_table;
+pub use line::{put_breaches, put_lines};
+pub use row::{put_columns, put_rows, put_table};
+pub use sums::put_sums;
+pub use tick::{Tick, put_ticks};

@@ -1,11 +1,11 @@
 // The words of breaches.
 ghost use Rattle.std.specs.Prelude.{◌≡◌, ◌+◌, ◌-◌, ◌≤◌, ◌++◌, List, ℕ, Option, length, codes};
 ghost use Rattle.std.specs.List.{flat_map};
-ghost use Rattle.std.specs.Fmt.{decimal};
 ghost use Rattle.sig_io.specs.Draft.{Puts};
 ghost use Rattle.judge_text.specs.Lines.{aspect_name, behind_text, breaches_text, cleared_text, evidence_text, green_text, hidden_text, lasted_text, line_text, time_name};
 
 use crate::sums::put_sums;
+use crate::tick::{Tick, put_ticks};
 use crate::words::{put_between, put_head, put_name, put_second};
 use log_judge::Breach;
 use pua_model::Plan;
@@ -42,35 +42,43 @@ fn time_name(aspect: Aspect) -> &'static [u8]
 fn put_lasted<O: Sink>(
     draft: &mut Draft,
     sink: &mut O,
+    tick: Tick,
     first: u32,
     aspect: Aspect,
     from: u32,
     to: u32,
     needed: u32,
 )
-    ensures { Puts O.taken O.faults draft.old draft.new sink.old sink.new (lasted_text first aspect from to needed) }
+    ensures { Puts O.taken O.faults draft.old draft.new sink.old sink.new (lasted_text tick first aspect from to needed) }
 {
     draft.put(sink, b": ");
     draft.put(sink, aspect_name(aspect));
     draft.put(sink, b" from second ");
-    put_second(draft, sink, first, from);
+    put_second(draft, sink, tick, first, from);
     draft.put(sink, b" for ");
-    draft.put_number(sink, to.saturating_sub(from));
+    put_ticks(draft, sink, tick, u64::from(to.saturating_sub(from)));
     draft.put(sink, time_name(aspect));
-    draft.put_number(sink, needed);
+    put_ticks(draft, sink, tick, u64::from(needed));
     draft.put(sink, b" s");
 }
 
 // Puts in which second a group is green, or turns green at the latest.
-fn put_green<O: Sink>(draft: &mut Draft, sink: &mut O, first: u32, pictures: u32, second: u32)
-    ensures { Puts O.taken O.faults draft.old draft.new sink.old sink.new (green_text first pictures second) }
+fn put_green<O: Sink>(
+    draft: &mut Draft,
+    sink: &mut O,
+    tick: Tick,
+    first: u32,
+    pictures: u32,
+    second: u32,
+)
+    ensures { Puts O.taken O.faults draft.old draft.new sink.old sink.new (green_text tick first pictures second) }
 {
     if second < pictures {
         draft.put(sink, b" is green in second ");
-        put_second(draft, sink, first, second);
+        put_second(draft, sink, tick, first, second);
     } else {
         draft.put(sink, b" is red-amber, green in second ");
-        put_second(draft, sink, first, second);
+        put_second(draft, sink, tick, first, second);
         draft.put(sink, b" at the latest");
     }
 }
@@ -90,26 +98,32 @@ fn put_cleared<O: Sink>(
     draft: &mut Draft,
     sink: &mut O,
     plan: &Plan,
+    tick: Tick,
     first: u32,
     pictures: u32,
     soon: TooSoon,
 )
     ensures { Puts O.taken O.faults draft.old draft.new sink.old sink.new
-        (cleared_text plan.now.names first pictures soon.second soon.group soon.other soon.ended soon.least) }
+        (cleared_text plan.now.names tick first pictures soon.second soon.group soon.other soon.ended soon.least) }
 {
     draft.put(sink, b" ");
     put_name(draft, sink, plan, soon.other);
     draft.put(sink, b": ");
     put_name(draft, sink, plan, soon.other);
     draft.put(sink, b" ended in second ");
-    put_second(draft, sink, first, soon.ended);
+    put_second(draft, sink, tick, first, soon.ended);
     draft.put(sink, b", ");
     put_name(draft, sink, plan, soon.group);
-    put_green(draft, sink, first, pictures, soon.second);
+    put_green(draft, sink, tick, first, pictures, soon.second);
     draft.put(sink, b", ");
-    draft.put_number(sink, soon.second.saturating_sub(soon.ended));
+    put_ticks(
+        draft,
+        sink,
+        tick,
+        u64::from(soon.second.saturating_sub(soon.ended)),
+    );
     draft.put(sink, b" s later; intergreen ");
-    draft.put_number(sink, soon.least);
+    put_ticks(draft, sink, tick, u64::from(soon.least));
     draft.put(sink, b" s");
 }
 
@@ -128,22 +142,23 @@ struct Hidden {
 fn put_behind<O: Sink>(
     draft: &mut Draft,
     sink: &mut O,
+    tick: Tick,
     first: u32,
     pictures: u32,
     second: u32,
     ended: u32,
     before: u32,
 )
-    ensures { Puts O.taken O.faults draft.old draft.new sink.old sink.new (behind_text first pictures second ended before) }
+    ensures { Puts O.taken O.faults draft.old draft.new sink.old sink.new (behind_text tick first pictures second ended before) }
 {
     if before == 0 {
-        put_green(draft, sink, first, pictures, second);
+        put_green(draft, sink, tick, first, pictures, second);
         draft.put(sink, b", at most ");
-        put_between(draft, sink, second, ended, before);
+        put_between(draft, sink, tick, second, ended, before);
         draft.put(sink, b" s later");
     } else {
         draft.put(sink, b" turned green at least ");
-        draft.put_number(sink, before);
+        put_ticks(draft, sink, tick, u64::from(before));
         draft.put(sink, b" s before it");
     }
 }
@@ -153,26 +168,28 @@ fn put_hidden<O: Sink>(
     draft: &mut Draft,
     sink: &mut O,
     plan: &Plan,
+    tick: Tick,
     first: u32,
     pictures: u32,
     soon: Hidden,
 )
     ensures { Puts O.taken O.faults draft.old draft.new sink.old sink.new
-        (hidden_text plan.now.names first pictures soon.second soon.group soon.other soon.ended soon.before soon.least) }
+        (hidden_text plan.now.names tick first pictures soon.second soon.group soon.other soon.ended soon.before soon.least) }
 {
     draft.put(sink, b" ");
     put_name(draft, sink, plan, soon.other);
     draft.put(sink, b": ");
     put_name(draft, sink, plan, soon.other);
     draft.put(sink, b" ended at most ");
-    draft.put_number(sink, soon.ended);
+    put_ticks(draft, sink, tick, u64::from(soon.ended));
     draft.put(sink, b" s before second ");
-    draft.put_number(sink, first);
+    put_ticks(draft, sink, tick, u64::from(first));
     draft.put(sink, b", ");
     put_name(draft, sink, plan, soon.group);
     put_behind(
         draft,
         sink,
+        tick,
         first,
         pictures,
         soon.second,
@@ -180,7 +197,7 @@ fn put_hidden<O: Sink>(
         soon.before,
     );
     draft.put(sink, b"; intergreen ");
-    draft.put_number(sink, soon.least);
+    put_ticks(draft, sink, tick, u64::from(soon.least));
     draft.put(sink, b" s");
 }
 
@@ -189,11 +206,12 @@ fn put_evidence<O: Sink>(
     draft: &mut Draft,
     sink: &mut O,
     plan: &Plan,
+    tick: Tick,
     first: u32,
     pictures: u32,
     breach: &Breach,
 )
-    ensures { Puts O.taken O.faults draft.old draft.new sink.old sink.new (evidence_text plan.now.names first pictures breach.now) }
+    ensures { Puts O.taken O.faults draft.old draft.new sink.old sink.new (evidence_text plan.now.names tick first pictures breach.now) }
 {
     match *breach {
         Breach::Step { was, is, .. } => {
@@ -208,14 +226,14 @@ fn put_evidence<O: Sink>(
             since,
             least,
             ..
-        } => put_lasted(draft, sink, first, aspect, since, second, least),
+        } => put_lasted(draft, sink, tick, first, aspect, since, second, least),
         Breach::Long {
             second,
             aspect,
             since,
             most,
             ..
-        } => put_lasted(draft, sink, first, aspect, since, second, most),
+        } => put_lasted(draft, sink, tick, first, aspect, since, second, most),
         Breach::Conflict {
             second,
             other,
@@ -225,9 +243,9 @@ fn put_evidence<O: Sink>(
             draft.put(sink, b" ");
             put_name(draft, sink, plan, other);
             draft.put(sink, b": both on from second ");
-            put_second(draft, sink, first, since);
+            put_second(draft, sink, tick, first, since);
             draft.put(sink, b" for ");
-            draft.put_number(sink, second.saturating_sub(since));
+            put_ticks(draft, sink, tick, u64::from(second.saturating_sub(since)));
             draft.put(sink, b" s");
         }
         Breach::Intergreen {
@@ -244,7 +262,7 @@ fn put_evidence<O: Sink>(
                 ended,
                 least,
             };
-            put_cleared(draft, sink, plan, first, pictures, soon)
+            put_cleared(draft, sink, plan, tick, first, pictures, soon)
         }
         Breach::Hidden {
             second,
@@ -262,7 +280,7 @@ fn put_evidence<O: Sink>(
                 before,
                 least,
             };
-            put_hidden(draft, sink, plan, first, pictures, soon)
+            put_hidden(draft, sink, plan, tick, first, pictures, soon)
         }
     }
 }
@@ -273,30 +291,32 @@ fn put_line<O: Sink>(
     draft: &mut Draft,
     sink: &mut O,
     plan: &Plan,
+    tick: Tick,
     first: u32,
     pictures: u32,
     breach: &Breach,
 )
-    ensures { Puts O.taken O.faults draft.old draft.new sink.old sink.new (line_text plan.now.names first pictures breach.now) }
+    ensures { Puts O.taken O.faults draft.old draft.new sink.old sink.new (line_text plan.now.names tick first pictures breach.now) }
 {
-    put_head(draft, sink, plan, first, b" ", breach);
-    put_evidence(draft, sink, plan, first, pictures, breach);
+    put_head(draft, sink, plan, tick, first, b" ", breach);
+    put_evidence(draft, sink, plan, tick, first, pictures, breach);
     draft.put(sink, b"\n");
 }
 
-// Puts the lines of breaches.
-fn put_lines<O: Sink>(
+/// Puts the lines of breaches, of a history whose first picture has this second, or of so many tenths, and that has so many.
+pub fn put_lines<O: Sink>(
     draft: &mut Draft,
     sink: &mut O,
     plan: &Plan,
+    tick: Tick,
     first: u32,
     pictures: u32,
     found: &[Breach],
 )
-    ensures { Puts O.taken O.faults draft.old draft.new sink.old sink.new (flat_map (line_text plan.now.names first pictures) found.now) }
+    ensures { Puts O.taken O.faults draft.old draft.new sink.old sink.new (flat_map (line_text plan.now.names tick first pictures) found.now) }
 {
     for breach in found {
-        put_line(draft, sink, plan, first, pictures, breach);
+        put_line(draft, sink, plan, tick, first, pictures, breach);
     }
 }
 
@@ -313,7 +333,7 @@ pub fn put_breaches<O: Sink>(
 )
     ensures { Puts O.taken O.faults draft.old draft.new sink.old sink.new (breaches_text plan.now.names first pictures found.now) }
 {
-    put_lines(draft, sink, plan, first, pictures, found);
+    put_lines(draft, sink, plan, Tick::Second, first, pictures, found);
     draft.put(sink, b"SECONDS ");
     draft.put_number(sink, pictures);
     draft.put(sink, b"\nBREACHES ");

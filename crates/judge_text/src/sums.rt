@@ -116,7 +116,7 @@ fn put_pairs<O: Sink>(draft: &mut Draft, sink: &mut O, plan: &Plan, found: &[Bre
 
 /// Puts how often each rule was broken, by each group or each two groups.
 #[tactic(auto, unfolding(crate::specs::Sums::sums_text))]
-pub(crate) fn put_sums<O: Sink>(draft: &mut Draft, sink: &mut O, plan: &Plan, found: &[Breach])
+pub fn put_sums<O: Sink>(draft: &mut Draft, sink: &mut O, plan: &Plan, found: &[Breach])
     ensures { Puts O.taken O.faults draft.old draft.new sink.old sink.new (sums_text plan.now.names found.now) }
 {
     put_alone(draft, sink, plan, found, Rule::Sequence);

@@ -1,11 +1,12 @@
 // The words of breaches.
 ghost use Rattle.std.specs.Prelude.{◌≡◌, ◌+◌, ◌-◌, ◌≤◌, ◌++◌, ◌∷◌, [], List, ℕ, Option, length, codes};
-ghost use Rattle.std.specs.Fmt.{decimal};
 ghost use Rattle.sig_io.specs.Draft.{Puts};
 ghost use Rattle.pua_model.specs.Plan.{name_of};
 ghost use Rattle.signal_log.specs.Log.{rule_name};
+ghost use Rattle.judge_text.specs.Ticks.{ticks_text};
 ghost use Rattle.judge_text.specs.Words.{aspect_rule, group_of, head_text, other_of, rule_of, second_of};
 
+use crate::tick::{Tick, put_ticks};
 use log_judge::Breach;
 use pua_model::Plan;
 use sig_io::{Draft, Sink};
@@ -89,24 +90,31 @@ pub(crate) fn put_name<O: Sink>(draft: &mut Draft, sink: &mut O, plan: &Plan, gr
 }
 
 /// Puts a second as the log numbers it: that of its first picture, and a place from 0.
-pub(crate) fn put_second<O: Sink>(draft: &mut Draft, sink: &mut O, first: u32, place: u32)
-    ensures { Puts O.taken O.faults draft.old draft.new sink.old sink.new (decimal (first + place)) }
+pub(crate) fn put_second<O: Sink>(
+    draft: &mut Draft,
+    sink: &mut O,
+    tick: Tick,
+    first: u32,
+    place: u32,
+)
+    ensures { Puts O.taken O.faults draft.old draft.new sink.old sink.new (ticks_text tick (first + place)) }
 {
-    draft.put_long_number(sink, u64::from(first) + u64::from(place));
+    put_ticks(draft, sink, tick, u64::from(first) + u64::from(place));
 }
 
 /// Puts the seconds from an end so many seconds before second 0 to a green in this second, or so many before second 0.
 pub(crate) fn put_between<O: Sink>(
     draft: &mut Draft,
     sink: &mut O,
+    tick: Tick,
     second: u32,
     ended: u32,
     before: u32,
 )
-    ensures { Puts O.taken O.faults draft.old draft.new sink.old sink.new (decimal (second + ended - before)) }
+    ensures { Puts O.taken O.faults draft.old draft.new sink.old sink.new (ticks_text tick (second + ended - before)) }
 {
     let passed = u64::from(second) + u64::from(ended);
-    draft.put_long_number(sink, passed.saturating_sub(u64::from(before)));
+    put_ticks(draft, sink, tick, passed.saturating_sub(u64::from(before)));
 }
 
 /// Puts the second, the rule and the group of a breach, with this between them.
@@ -114,14 +122,15 @@ pub(crate) fn put_head<O: Sink>(
     draft: &mut Draft,
     sink: &mut O,
     plan: &Plan,
+    tick: Tick,
     first: u32,
     between: &[u8],
     breach: &Breach,
 )
     requires { length between.now ≤ 32 }
-    ensures { Puts O.taken O.faults draft.old draft.new sink.old sink.new (head_text plan.now.names first between.now breach.now) }
+    ensures { Puts O.taken O.faults draft.old draft.new sink.old sink.new (head_text plan.now.names tick first between.now breach.now) }
 {
-    put_second(draft, sink, first, second_of(breach));
+    put_second(draft, sink, tick, first, second_of(breach));
     draft.put(sink, between);
     draft.put(sink, rule_name(rule_of(breach)));
     draft.put(sink, between);

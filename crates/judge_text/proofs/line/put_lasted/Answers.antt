@@ -5,4 +5,4 @@ pub returns : goal.returns
 returns g c =
     then (then (then (then (then (then (then (then c.put.ensures
     (rw c.aspect_name.ensures.name at c.put-2.ensures)) c.put-3.ensures) c.put_second.ensures) c.put-4.ensures)
-    (rw c.saturating_sub.ensures at c.put_number.ensures)) (rw c.time_name.ensures.name at c.put-5.ensures)) c.put_number-2.ensures) c.put-6.ensures
+    (rw (c.from.ensures, c.saturating_sub.ensures) at c.put_ticks.ensures)) (rw c.time_name.ensures.name at c.put-5.ensures)) (rw c.from-2.ensures at c.put_ticks-2.ensures)) c.put-6.ensures

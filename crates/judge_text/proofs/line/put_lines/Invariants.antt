@@ -7,4 +7,4 @@ use Rattle.judge_text.proofs.line.put_lines.Given as goal
 abbrev pub invariant-loop-breach : goal.invariant-loop-breach
 invariant-loop-breach g l =
     Puts g.O.Sink.taken g.O.Sink.faults l.fn.draft l.draft l.fn.sink l.sink
-    (flat_map (line_text l.plan.names l.first l.pictures) (take l.breach-index l.found))
+    (flat_map (line_text l.plan.names l.tick l.first l.pictures) (take l.breach-index l.found))

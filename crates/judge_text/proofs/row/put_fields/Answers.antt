@@ -5,4 +5,4 @@ pub returns-in-Hidden : goal.returns-in-Hidden
 returns-in-Hidden g c =
     rw c.in-Hidden.is
     (then (then (then (then c.put_name-in-Hidden.ensures c.put-in-Hidden.ensures) c.put_between.ensures) c.put-in-Hidden-2.ensures)
-    c.put_number-in-Hidden.ensures)
+    (rw c.from-in-Hidden.ensures at c.put_ticks-in-Hidden.ensures))

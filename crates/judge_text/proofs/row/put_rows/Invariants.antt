@@ -6,4 +6,4 @@ use Rattle.judge_text.proofs.row.put_rows.Given as goal
 
 abbrev pub invariant-loop-breach : goal.invariant-loop-breach
 invariant-loop-breach g l =
-    Puts g.O.Sink.taken g.O.Sink.faults l.fn.draft l.draft l.fn.sink l.sink (flat_map (row_text l.plan.names l.first) (take l.breach-index l.found))
+    Puts g.O.Sink.taken g.O.Sink.faults l.fn.draft l.draft l.fn.sink l.sink (flat_map (row_text l.plan.names l.tick l.first) (take l.breach-index l.found))
