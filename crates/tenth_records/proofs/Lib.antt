@@ -1,0 +1,4 @@
+pub mod LineLemmas
+pub mod Named
+pub mod PlanOfNames
+pub mod Reading
