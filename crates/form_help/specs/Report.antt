@@ -48,6 +48,7 @@ report_more form.Breaches =
     ++ codes "  --amber-tolerance N  ambers may be so many seconds longer or shorter\n"
     ++ codes "  --csv                as a table\n"
     ++ codes "  PUA, TIMES, INTERGREENS: the plan and the tables of the junction, as for `junction run`\n"
+    ++ codes "  RECORD TIMES INTERGREENS in their place: a record in tenths of a second, by tables with one decimal\n"
 report_more form.Protocol =
     codes "  what came in the log of any controller, beside what the tables say\n"
     ++ codes "  --csv  as a table\n"

@@ -89,6 +89,7 @@ pub fn report_more(form: ReportForm) -> &'static [u8]
   --amber-tolerance N  ambers may be so many seconds longer or shorter
   --csv                as a table
   PUA, TIMES, INTERGREENS: the plan and the tables of the junction, as for `junction run`
+  RECORD TIMES INTERGREENS in their place: a record in tenths of a second, by tables with one decimal
 ",
         ReportForm::Protocol =>
             b"  what came in the log of any controller, beside what the tables say

@@ -1,6 +1,7 @@
 //! Draws, sums, compares and judges logs: `diagram LOG FROM TO` writes an SVG signal timing diagram of these seconds, `text LOG FROM TO` the
 //! same as characters, `sums LOG [FROM TO]` what groups, stages, refusals, faults and detectors add up to, `compare LOG LOG` where
 //! two logs differ first and the sums of both, `breaches LOG PUA TIMES INTERGREENS` what the log of any controller breaks of the rules of a junction,
+//! `breaches RECORD TIMES INTERGREENS` what a record in tenths of a second breaks,
 //! `protocol LOG PUA TIMES INTERGREENS` what came in it, and `refusals LOG PUA TIMES INTERGREENS` why commands and turns were
 //! refused.
 #![tactic(auto)]
@@ -12,6 +13,7 @@ use sig_io::{DiskFiles, ErrSink, Files, OutSink, Sink, put_each, words_of};
 use std::alloc::Global;
 use std::env;
 use std::process::ExitCode;
+use tenth_report::{is_record_call, report_record};
 
 // Writes the help of a form where the words ask for it, and answers the exit status; None where they don't.
 fn tell_help<O: Sink, N: Sink>(words: &[String], out: &mut O, notes: &mut N) -> Option<u8> {
@@ -39,6 +41,9 @@ fn answer<F: Files, O: Sink, N: Sink>(
     match words.first() {
         Some(word) if word.as_str() == "sums" => {
             exit_status(report_sums(alloc, words, files, out, notes))
+        }
+        Some(word) if word.as_str() == "breaches" && is_record_call(words) => {
+            report_words::exit_status(report_record(alloc, words, files, out, notes))
         }
         Some(word) if word.as_str() == "breaches" => {
             report_words::exit_status(report_breaches(alloc, words, files, out, notes))

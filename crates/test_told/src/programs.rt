@@ -5,6 +5,7 @@ use report_seen::{report, report_compare, report_sums};
 use sig_io::{Files, Sink};
 use site_check::{check_junction, check_status};
 use std::alloc::Global;
+use tenth_report::{is_record_call, report_record};
 use test_calls::logs::tells_log;
 use trace_call::trace;
 
@@ -19,6 +20,9 @@ fn report_log<F: Files, O: Sink, N: Sink>(
     match words.first() {
         Some(word) if word.as_str() == "sums" => {
             report_seen::exit_status(report_sums(alloc, words, files, out, notes))
+        }
+        Some(word) if word.as_str() == "breaches" && is_record_call(words) => {
+            report_words::exit_status(report_record(alloc, words, files, out, notes))
         }
         Some(word) if word.as_str() == "breaches" => {
             report_words::exit_status(report_breaches(alloc, words, files, out, notes))
