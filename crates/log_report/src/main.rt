@@ -6,7 +6,7 @@
 //! refused.
 #![tactic(auto)]
 
-use form_help::{help_asked, report_form, report_line, report_more};
+use form_help::{ReportForm, help_asked, report_form, report_line, report_more};
 use report_judged::{has_site, report_breaches, report_protocol, report_refusals, report_site};
 use report_seen::{Status, Stop, exit_status, report, report_compare, report_sums, write_stop};
 use sig_io::{DiskFiles, ErrSink, Files, OutSink, Sink, put_each, words_of};
@@ -25,6 +25,14 @@ fn tell_help<O: Sink, N: Sink>(words: &[String], out: &mut O, notes: &mut N) -> 
             Some(exit_status(Status::WriteFault))
         }
     }
+}
+
+// The exit status of a call whose note on words that are no form doesn't tell how its form is written; here that is told below it.
+fn end_judged<N: Sink>(form: ReportForm, status: report_words::Status, notes: &mut N) -> u8 {
+    if status == report_words::Status::Words {
+        let _fault = put_each(notes, &[b"  ", report_line(form), b"\n"]);
+    }
+    report_words::exit_status(status)
 }
 
 // Does what the words ask for, and answers the exit status.
@@ -46,16 +54,20 @@ fn answer<F: Files, O: Sink, N: Sink>(
             report_words::exit_status(report_record(alloc, words, files, out, notes))
         }
         Some(word) if word.as_str() == "breaches" => {
-            report_words::exit_status(report_breaches(alloc, words, files, out, notes))
+            let status = report_breaches(alloc, words, files, out, notes);
+            end_judged(ReportForm::Breaches, status, notes)
         }
         Some(word) if word.as_str() == "protocol" => {
-            report_words::exit_status(report_protocol(alloc, words, files, out, notes))
+            let status = report_protocol(alloc, words, files, out, notes);
+            end_judged(ReportForm::Protocol, status, notes)
         }
         Some(word) if word.as_str() == "refusals" => {
-            report_words::exit_status(report_refusals(alloc, words, files, out, notes))
+            let status = report_refusals(alloc, words, files, out, notes);
+            end_judged(ReportForm::Refusals, status, notes)
         }
         Some(word) if word.as_str() == "compare" => {
-            report_words::exit_status(report_compare(alloc, words, files, out, notes))
+            let status = report_compare(alloc, words, files, out, notes);
+            end_judged(ReportForm::Compare, status, notes)
         }
         _ if has_site(words) => {
             report_words::exit_status(report_site(alloc, words, files, out, notes))
