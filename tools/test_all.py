@@ -6,6 +6,7 @@ Runs every test of the repository without a proof, in some minutes, and tells ho
   tests     the #[test] functions of all crates, in one crate that is made of them, by one `rt try --test`; --only: of these crates
   cases     the cases of test_told, whose output has to be that of its file `stdout`; --cases: these files of cases alone, or those
             whose names begin with NAME by a word =NAME, and what they tell is written
+  programs  the same cases by the programs that tools/build.py built, in some seconds
   scripts   tools/test.py: the scripts, the pages, and the viewer where node and Chromium are there
   library   the library's tests, where the proved library and a built `junction` lie in out/ and the compilers are there
 
@@ -23,13 +24,18 @@ import time
 from concurrent.futures import ThreadPoolExecutor
 from pathlib import Path
 
+import install
+
 TOP = Path(__file__).resolve().parent.parent
 CRATES = TOP / "crates"
 
 # A test may take so many seconds of the clock, on a busy machine too.
 SECONDS = "900"
 
-PARTS = ["tests", "cases", "scripts", "library"]
+PARTS = ["tests", "cases", "programs", "scripts", "library"]
+
+# Where tools/build.py puts programs.
+BUILT = [TOP / "build" / "not-proved" / "bin", TOP / "build" / "proved" / "bin"]
 
 # What `rt try` writes of itself below what the program wrote.
 TOLD_BY_RT = re.compile(r"^(rt: |checked: |run=|interpreter: |races: |leaks: )")
@@ -184,6 +190,34 @@ def run_cases(progress, work, words):
     return counted[0].strip() + ("" if words else ", as they must")
 
 
+def lacking_for_programs(folders):
+    """The folder of programs that was built last, and why its programs can't be tried, or nothing."""
+    there = [folder for folder in folders if all((folder / name).is_file() for name in install.PROGRAMS)]
+    if not there:
+        return None, "there are no built programs"
+    folder = max(there, key=lambda folder: (folder / "junction").stat().st_mtime)
+    for name in install.PROGRAMS:
+        source = install.newest_source(name)
+        if source and source.stat().st_mtime > (folder / name).stat().st_mtime:
+            return folder, f"{name} is older than {source.relative_to(TOP)}"
+    return folder, None
+
+
+def run_programs(progress, is_asked):
+    """The cases by built programs, by those that were built last. Answers what passed."""
+    folder, lacks = lacking_for_programs(BUILT)
+    if lacks and is_asked:
+        raise Failed(f"{lacks}: tools/build.py builds it")
+    if lacks:
+        return f"skipped, since {lacks}"
+    progress.say("programs", f"the cases are run by those of {folder.relative_to(TOP)}")
+    words = [sys.executable, "-B", TOP / "tools" / "try_cases.py", folder]
+    done = subprocess.run(words, capture_output=True, text=True, errors="replace")
+    if done.returncode != 0:
+        raise Failed(done.stdout[-4000:] + done.stderr[-2000:])
+    return done.stdout.strip()
+
+
 def run_scripts(progress, _work):
     """The tests of the scripts and of the pages."""
     progress.say("scripts", "tools/test.py is run")
@@ -222,6 +256,7 @@ def run_part(part, progress, work, options):
     runs = {
         "tests": lambda: run_tests(progress, work, options.only),
         "cases": lambda: run_cases(progress, work, options.cases),
+        "programs": lambda: run_programs(progress, part in options.what),
         "scripts": lambda: run_scripts(progress, work),
         "library": lambda: run_library(progress, work),
     }
