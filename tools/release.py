@@ -2,9 +2,10 @@
 """tools/release.py [--not-proved] FOLDER
 
 Makes an archive of what tools/build.py --proved built, FOLDER/vantulig-VERSION-linux-x86_64.tar.gz: programs, library, headers,
-wheel, the page in the browser, examples, manual pages, completions, a script that installs them, checksums, and which proof
-they come from (kit, commit, sums). It runs with the C library glibc from version 2.31 on, Debian 11, with nothing of the kit. A
-checkout with changes that are not committed is refused, and so is what isn't known to be proved, or was changed since.
+wheel, the page in the browser, examples, cases that try the programs, manual pages, completions, a script that installs them,
+checksums, and which proof they come from (kit, commit, sums). It runs with the C library glibc from version 2.31 on, Debian 11,
+with nothing of the kit. A checkout with changes that are not committed is refused, and so is what isn't known to be proved, or
+was changed since.
 
 With --not-proved it packs what tools/build.py --fast built. Then the archive, its folder and its list are named `not-proved`,
 and say so: it is for trying the archive out, and for nobody else.
@@ -115,6 +116,9 @@ def copied(folder, room, is_proved):
     for name in EXAMPLES:
         ignored = shutil.ignore_patterns("README.md", "*.code", "*.log")
         shutil.copytree(TOP / "crates" / "junction" / "examples" / name, shared / "examples" / name, ignore=ignored)
+    ignored = shutil.ignore_patterns("__pycache__")
+    shutil.copytree(TOP / "crates" / "test_told" / "data", shared / "cases", ignore=ignored)
+    shutil.copy(Path(__file__).with_name("try_cases.py"), shared)
     (room / "wheel").mkdir()
     manylinux.retagged(next(folder.glob("*.whl")), room / "wheel")
     shutil.copy(Path(__file__).with_name("installing.sh"), room / "install.sh")
