@@ -270,8 +270,16 @@ class Fresh(unittest.TestCase):
                 told.write_text("", encoding="utf-8")
                 script = try_fresh.script_of(blocks, folder).replace("/tmp/told", str(told))
                 done = subprocess.run(["bash", "-s"], input=script, text=True)
-                self.assertEqual((done.returncode, len(told.read_text().splitlines())), (status, ended))
+                self.assertEqual((done.returncode, len(try_fresh.ends_in(told.read_text()))), (status, ended))
             self.assertFalse((Path(folder) / "b").exists())
+
+    def test_what_commands_took(self):
+        told = "10.5\n0m0.100s 0m0.020s\n0m1.000s 0m0.030s\n12.25\n0m0.200s 0m0.020s\n1m2.000s 0m0.030s\n13.0\n0m0.2"
+        ends = try_fresh.ends_in(told)
+        self.assertEqual([at for at, _ in ends], [10.5, 12.25])
+        self.assertAlmostEqual(ends[0][1], 1.15)
+        self.assertAlmostEqual(ends[1][1], 62.25)
+        self.assertEqual(try_fresh.ends_in(""), [])
 
 
 if __name__ == "__main__":

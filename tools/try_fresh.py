@@ -1,14 +1,15 @@
 #!/usr/bin/env python3
 """tools/try_fresh.py [--root FOLDER] [--keep]
-tools/try_fresh.py --archive FILE [--root FOLDER] [--keep]
+tools/try_fresh.py --archive FILE [--suite NAME] [--root FOLDER] [--keep]
 
 Runs, as root of a Debian, what a newcomer is told to run, in a fresh root of Debian made by debootstrap: the section `Try it`
 of README with the Rattle kit in a clone of the last commit on Debian 12, in ten minutes at most; or docs/archive.md from an
-archive of tools/release.py on Debian 11, in one minute at most. Each on two processors.
+archive of tools/release.py on Debian 11, or on the release that --suite names, in one minute at most. Each on two processors.
 
 Of a page the indented blocks that begin with a command are run, and the fenced blocks `sh`, all in one shell, in their order.
-Each line is told with its seconds; lines that begin with apt-get are run before all others, and not counted. --root takes a
-root that is there in the place of a new one; --keep leaves it."""
+Each command is told with its seconds of the clock and of a processor: where other work keeps the processors busy, the clock
+tells more than the commands take. Lines that begin with apt-get are run before all others, and told and not counted. --root
+takes a root that is there in the place of a new one; --keep leaves it."""
 import argparse
 import os
 import re
@@ -28,8 +29,9 @@ MIRROR = "http://deb.debian.org/debian"
 LIMITS = {"README.md": 600, "archive.md": 60}
 PROCESSORS = "0,1"
 HOME = "/home/newcomer"
-# tells behind each command, in a file, how it ended and when
-TOLD = 'echo "$? $(date +%s.%N)" >> /tmp/told'
+# tells behind each command, in a file, that it ended well, when, and how much of a processor all have taken until then
+TOLD = 'echo "$(date +%s.%N)" >> /tmp/told; times >> /tmp/told'
+TIMES = re.compile(r"(\d+)m([\d.]+)s")
 
 
 class Failed(Exception):
@@ -76,11 +78,13 @@ def call(*words, **more):
 
 
 def inside(root, text, path="/usr/sbin:/usr/bin:/sbin:/bin", processors=None):
-    """Runs a shell in the root; answers its status."""
+    """Runs the commands of a text in the root, as a shell's script; answers its status."""
+    (root / "tmp" / "commands").write_text(text, encoding="utf-8")
     words = ["taskset", "-c", processors] if processors else []
     environment = {"PATH": path, "HOME": HOME, "LANG": "C.UTF-8", "DEBIAN_FRONTEND": "noninteractive"}
     environment |= {name: value for name, value in os.environ.items() if name.lower().endswith("_proxy")}
-    return subprocess.run([*words, "chroot", root, "bash", "-s"], input=text, text=True, env=environment).returncode
+    words += ["chroot", root, "bash", "/tmp/commands"]
+    return subprocess.run(words, env=environment, stdin=subprocess.DEVNULL).returncode
 
 
 def mounted(stack, source, place, *options):
@@ -102,26 +106,47 @@ def packages_of(commands):
     return packages, [command for command in commands if command not in packages]
 
 
+def ends_in(text):
+    """Of each command that ended: when it did, and how many seconds of a processor all had taken until then."""
+    lines = text.splitlines()
+    whole = len(lines) - len(lines) % 3
+    taken = lambda at: sum(int(part[0]) * 60 + float(part[1]) for part in TIMES.findall(" ".join(lines[at + 1 : at + 3])))
+    return [(float(lines[at]), taken(at)) for at in range(0, whole, 3)]
+
+
+def tell(commands, ends, begin):
+    """Writes of each command that ended what it took."""
+    clock, processor = begin, 0.0
+    for command, (at, taken) in zip(commands, ends):
+        print(f"{at - clock:7.1f} s {taken - processor:7.1f} s of a processor  {command.rstrip()[:90]}")
+        clock, processor = at, taken
+
+
+def install(root, packages):
+    """Installs the packages that a page names."""
+    if not packages:
+        return
+    begin = time.time()
+    if inside(root, "".join(["set -e\napt-get -qq update\n", *packages])):
+        raise Failed("the packages that the page names can't be installed")
+    print(f"{time.time() - begin:7.1f} s, not counted: packages of Debian", flush=True)
+
+
 def run_page(root, page, title, folder, path):
-    """Runs the commands of a page; answers the seconds that they took."""
+    """Runs the commands of a page; answers the seconds of the clock and of a processor that they took."""
     packages, commands = packages_of(commands_of(section_of(page.read_text(encoding="utf-8"), title)))
     if not commands:
         raise Failed(f"{page.name} has no command")
-    before = "".join(["apt-get -qq update\n", *packages]) if packages else ""
-    if before and inside(root, f"set -e\n{before}"):
-        raise Failed("the packages that the page names can't be installed")
+    install(root, packages)
     told = root / "tmp" / "told"
     told.unlink(missing_ok=True)
-    begin = last = time.time()
+    begin = time.time()
     status = inside(root, script_of(commands, folder), path, PROCESSORS)
-    ended = told.read_text().splitlines() if told.exists() else []
-    for command, line in zip(commands, ended):
-        at = float(line.split()[1])
-        print(f"{at - last:6.1f} s  {command.rstrip()[:110]}")
-        last = at
-    if status or len(ended) < len(commands):
-        raise Failed(f"status {status} at\n{commands[min(len(ended), len(commands) - 1)]}")
-    return time.time() - begin
+    ends = ends_in(told.read_text(encoding="utf-8")) if told.exists() else []
+    tell(commands, ends, begin)
+    if status or len(ends) < len(commands):
+        raise Failed(f"status {status} at\n{commands[min(len(ends), len(commands) - 1)]}")
+    return time.time() - begin, ends[-1][1]
 
 
 def try_readme(root, stack):
@@ -130,9 +155,13 @@ def try_readme(root, stack):
     mounted(stack, kit, root / str(kit).lstrip("/"), "--bind", "-o", "ro")
     clone = root / HOME.lstrip("/") / "vantulig"
     clone.parent.mkdir(parents=True, exist_ok=True)
+    begin = time.time()
     call("git", "clone", "-q", "--no-hardlinks", TOP, clone)
+    cloned = time.time() - begin
+    print(f"{cloned:7.1f} s  git clone", flush=True)
     path = f"/usr/local/sbin:/usr/local/bin:/usr/sbin:/usr/bin:/sbin:/bin:{kit}/bin"
-    return run_page(root, TOP / "README.md", "Try it", f"{HOME}/vantulig", path)
+    clock, processor = run_page(root, clone / "README.md", "Try it", f"{HOME}/vantulig", path)
+    return cloned + clock, processor
 
 
 def try_archive(root, archive):
@@ -141,14 +170,17 @@ def try_archive(root, archive):
     place.mkdir(parents=True, exist_ok=True)
     begin = time.time()
     call("tar", "-C", place, "-xzf", archive)
-    folder = next(place.glob("vantulig-*"))
     unpacked = time.time() - begin
-    return unpacked + run_page(root, folder / "README.md", None, f"{HOME}/{folder.name}", "/usr/sbin:/usr/bin:/sbin:/bin")
+    print(f"{unpacked:7.1f} s  tar -xzf {archive.name}", flush=True)
+    folder = next(place.glob("vantulig-*"))
+    clock, processor = run_page(root, folder / "README.md", None, f"{HOME}/{folder.name}", "/usr/sbin:/usr/bin:/sbin:/bin")
+    return unpacked + clock, processor
 
 
 def main():
     parser = argparse.ArgumentParser(description=__doc__, formatter_class=argparse.RawDescriptionHelpFormatter)
     parser.add_argument("--archive", type=Path)
+    parser.add_argument("--suite")
     parser.add_argument("--root", type=Path)
     parser.add_argument("--keep", action="store_true")
     words = parser.parse_args()
@@ -158,19 +190,21 @@ def main():
     try:
         with ExitStack() as stack:
             if not words.root:
-                fresh_root("bullseye" if words.archive else "bookworm", room)
+                fresh_root(words.suite or ("bullseye" if words.archive else "bookworm"), room)
             mounted(stack, "proc", room / "proc", "-t", "proc")
             mounted(stack, "/dev", room / "dev", "--bind")
             shutil.copy("/etc/resolv.conf", room / "etc" / "resolv.conf")
-            seconds = try_archive(room, words.archive) if words.archive else try_readme(room, stack)
+            clock, processor = try_archive(room, words.archive) if words.archive else try_readme(room, stack)
         limit = LIMITS["archive.md" if words.archive else "README.md"]
-        print(f"{seconds:6.1f} s in all; {limit} at most")
-        return int(seconds > limit)
+        print(f"{clock:7.1f} s {processor:7.1f} s of a processor, in all; {limit} s of the clock at most")
+        return int(clock > limit)
     except (Failed, lowering.Refused) as failed:
         print(failed, file=sys.stderr)
         return 1
     finally:
-        if not words.keep and not words.root and not os.path.ismount(room / "proc") and not os.path.ismount(room / "dev"):
+        if words.keep or words.root:
+            print(f"kept: {room}")
+        elif not os.path.ismount(room / "proc") and not os.path.ismount(room / "dev"):
             shutil.rmtree(room)
 
 
