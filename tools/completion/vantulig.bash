@@ -26,6 +26,37 @@ _vantulig_is_value()
     return 1
 }
 
+# offers those of the options that may still follow: they stand in this order, A|B for one of both, A+ for one that may come again
+_vantulig_options()
+{
+    local option one word at=0 begun=0
+    for option in "$@"; do
+        at=$((at + 1))
+        for one in ${option//[|+]/ }; do
+            for word in "${COMP_WORDS[@]:1:COMP_CWORD-1}"; do
+                [ "$word" != "$one" ] || case $option in *+) begun=$((at - 1)) ;; *) begun=$at ;; esac
+            done
+        done
+    done
+    shift "$begun"
+    set -- "${@//[|+]/ }"
+    COMPREPLY=($(compgen -W "$*" -- "$cur"))
+}
+
+# the place of the word among those that are no options and no values of them; a subject behind a colon stands apart in bash
+_vantulig_place()
+{
+    local at place=1
+    for ((at = 1; at < COMP_CWORD; at++)); do
+        case ${COMP_WORDS[at]} in
+            --allow) at=$((at + 1)); [ "${COMP_WORDS[at + 1]}" != : ] || at=$((at + 2)) ;;
+            -*) ;;
+            *) place=$((place + 1)) ;;
+        esac
+    done
+    echo "$place"
+}
+
 _vantulig_junction()
 {
     local cur=${COMP_WORDS[COMP_CWORD]} place=$((COMP_CWORD - 1))
@@ -46,11 +77,13 @@ _vantulig_junction()
 
 _vantulig_junction_check()
 {
-    local cur=${COMP_WORDS[COMP_CWORD]}
+    local cur=${COMP_WORDS[COMP_CWORD]} place
     ! _vantulig_is_value || return
-    case $cur in
-        -*) COMPREPLY=($(compgen -W "--json --allow --help --version" -- "$cur")) ;;
-        *) _vantulig_site "$COMP_CWORD" ;;
+    place=$(_vantulig_place)
+    case $COMP_CWORD:$place:$cur in
+        1:*:-*) COMPREPLY=($(compgen -W "--json --allow --help --version" -- "$cur")) ;;
+        *:1:-*) _vantulig_options --json --allow+ ;;
+        *) _vantulig_site "$place" ;;
     esac
 }
 
@@ -66,12 +99,12 @@ _vantulig_junction_trace()
         [2-6]) _vantulig_site "$((COMP_CWORD - 1))" ;;
         *)
             case ${COMP_WORDS[1]} in
-                values) COMPREPLY=($(compgen -W "--from --to" -- "$cur")) ;;
-                how-ended) COMPREPLY=($(compgen -W "--csv" -- "$cur")) ;;
+                values) _vantulig_options --from --to ;;
+                how-ended) _vantulig_options --csv ;;
                 lines)
                     case ${COMP_WORDS[COMP_CWORD - 1]} in
                         --add) _vantulig_files txt ;;
-                        *) COMPREPLY=($(compgen -W "--csv --lcov --add" -- "$cur")) ;;
+                        *) _vantulig_options "--csv|--lcov" --add+ ;;
                     esac
                     ;;
             esac
@@ -90,19 +123,21 @@ _vantulig_log_report()
     case $COMP_CWORD in
         2) _vantulig_files log ;;
         *)
-            local options
-            case ${COMP_WORDS[1]} in
-                diagram) [ "$COMP_CWORD" -gt 4 ] && COMPREPLY=($(compgen -f -W "--site --strip --title --begin" -- "$cur")); return ;;
-                breaches) options="--amber-tolerance --csv" ;;
-                protocol | refusals) options=--csv ;;
-                compare) _vantulig_files log; return ;;
-                sums) COMPREPLY=($(compgen -W "--each --serves --csv" -- "$cur")); return ;;
-                *) return ;;
-            esac
-            case $COMP_CWORD in
-                3) _vantulig_files pua ;;
-                4 | 5) _vantulig_files csv ;;
-                *) COMPREPLY=($(compgen -W "$options" -- "$cur")) ;;
+            case ${COMP_WORDS[1]}:$COMP_CWORD in
+                breaches:3 | protocol:3 | refusals:3) _vantulig_files pua ;;
+                breaches:[45] | protocol:[45] | refusals:[45]) _vantulig_files csv ;;
+                breaches:*) _vantulig_options --amber-tolerance --csv ;;
+                protocol:* | refusals:*) _vantulig_options --csv ;;
+                compare:*) _vantulig_files log ;;
+                sums:*) _vantulig_options --each --serves+ --csv ;;
+                diagram:[34]) ;;
+                diagram:*)
+                    case --site in
+                        "${COMP_WORDS[COMP_CWORD - 1]}") _vantulig_files pua ;;
+                        "${COMP_WORDS[COMP_CWORD - 2]}" | "${COMP_WORDS[COMP_CWORD - 3]}") _vantulig_files csv ;;
+                        *) _vantulig_options --site --strip --title --begin ;;
+                    esac
+                    ;;
             esac
             ;;
     esac
