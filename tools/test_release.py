@@ -19,7 +19,6 @@ import elf
 import install
 import manylinux
 import release
-import try_fresh
 
 PROGRAM = """
 #include <pthread.h>
@@ -242,44 +241,6 @@ class Installing(Folder):
         status, said, _ = self.call("--help")
         self.assertEqual(status, 2)
         self.assertTrue(said.startswith("install.sh [PREFIX] "))
-
-
-class Fresh(unittest.TestCase):
-    """The commands that tools/try_fresh.py takes from a page."""
-
-    def test_blocks(self):
-        page = "# P\n\n    cd a\n    b\n\nText\n\n    not a command\n\n```sh\none \\\n  two\nthree\n```\n\n```\nshown\n```\n\n## Q\n\n    rt try\n"
-        self.assertEqual(try_fresh.commands_of(page), ["cd a\n", "b\n", "one \\\n  two\n", "three\n", "rt try\n"])
-        self.assertEqual(try_fresh.commands_of(try_fresh.section_of(page, "Q")), ["rt try\n"])
-        packages = try_fresh.packages_of(["apt-get install a\n", "c\n", "d\n"])
-        self.assertEqual(packages, (["apt-get install a\n"], ["c\n", "d\n"]))
-
-    def test_the_pages_have_commands(self):
-        for page, title in [("README.md", "Try it"), ("docs/archive.md", None)]:
-            text = (TOP / page).read_text(encoding="utf-8")
-            self.assertTrue(try_fresh.commands_of(try_fresh.section_of(text, title)), page)
-
-    def test_a_script_ends_where_a_block_fails(self):
-        with tempfile.TemporaryDirectory() as folder:
-            for blocks, status, ended in [
-                (["a=1\n", "test $a = 1\n", "(exit 3)    # status 3\n"], 0, 3),
-                (["a=1\n", "test $a = 2\n", "touch b\n"], 1, 1),
-                (["(exit 3)    # status 2\n", "touch b\n"], 1, 0),
-            ]:
-                told = Path(folder) / "told"
-                told.write_text("", encoding="utf-8")
-                script = try_fresh.script_of(blocks, folder).replace("/tmp/told", str(told))
-                done = subprocess.run(["bash", "-s"], input=script, text=True)
-                self.assertEqual((done.returncode, len(try_fresh.ends_in(told.read_text()))), (status, ended))
-            self.assertFalse((Path(folder) / "b").exists())
-
-    def test_what_commands_took(self):
-        told = "10.5\n0m0.100s 0m0.020s\n0m1.000s 0m0.030s\n12.25\n0m0.200s 0m0.020s\n1m2.000s 0m0.030s\n13.0\n0m0.2"
-        ends = try_fresh.ends_in(told)
-        self.assertEqual([at for at, _ in ends], [10.5, 12.25])
-        self.assertAlmostEqual(ends[0][1], 1.15)
-        self.assertAlmostEqual(ends[1][1], 62.25)
-        self.assertEqual(try_fresh.ends_in(""), [])
 
 
 if __name__ == "__main__":
