@@ -28,6 +28,7 @@ import elf
 import install
 import lowering
 import manylinux
+import try_cases
 
 TOP = lowering.TOP
 NEWEST = (2, 31)
@@ -116,8 +117,8 @@ def copied(folder, room, is_proved):
     for name in EXAMPLES:
         ignored = shutil.ignore_patterns("README.md", "*.code", "*.log")
         shutil.copytree(TOP / "crates" / "junction" / "examples" / name, shared / "examples" / name, ignore=ignored)
-    ignored = shutil.ignore_patterns("__pycache__")
-    shutil.copytree(TOP / "crates" / "test_told" / "data", shared / "cases", ignore=ignored)
+    for place in (try_cases.DATA, try_cases.OWN):
+        shutil.copytree(place, shared / "cases", dirs_exist_ok=True)
     shutil.copy(Path(__file__).with_name("try_cases.py"), shared)
     (room / "wheel").mkdir()
     manylinux.retagged(next(folder.glob("*.whl")), room / "wheel")

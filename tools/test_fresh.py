@@ -114,7 +114,7 @@ class Cases(unittest.TestCase):
         (self.room / "cases" / "more").write_text("more\n", encoding="utf-8")
 
     def call(self, *words):
-        words = [sys.executable, "-B", HERE / "try_cases.py", self.room / "bin", "--cases", self.room / "cases", *words]
+        words = [sys.executable, "-B", HERE / "try_cases.py", self.room / "bin", *words, "--cases", self.room / "cases"]
         done = subprocess.run(words, capture_output=True, text=True)
         return done.returncode, done.stdout, done.stderr
 
@@ -155,6 +155,8 @@ class Cases(unittest.TestCase):
 
     def test_the_cases_of_the_repository_are_read(self):
         """As many as the driver of cases has, which tells a line of each that passes."""
+        self.assertFalse({file.name for file in try_cases.OWN.iterdir()} & {file.name for file in try_cases.DATA.iterdir()})
+        self.assertTrue(try_cases.read_cases(try_cases.OWN / "forms.txt"))
         files = sorted(try_cases.DATA.glob("*.txt"))
         cases = [case for file in files for case in try_cases.read_cases(file)]
         told = (TOP / "crates" / "test_told" / "stdout").read_text(encoding="utf-8", errors="replace")

@@ -1,10 +1,10 @@
 #!/usr/bin/env python3
-"""tools/try_cases.py BIN [--cases FOLDER] [WORD..]
+"""tools/try_cases.py BIN [--cases FOLDER].. [WORD..]
 
-Runs the cases of whole calls by built programs, in some seconds: of each case status, output and notes are compared with what it
-wants, to the byte. BIN has the programs; FOLDER has the files of cases, if it isn't crates/test_told/data or, in an archive,
-`cases` beside this script. A WORD is a file of cases, or =NAME for those whose names begin so. The cases of must_fail.txt have to
-fail.
+Runs cases of whole calls by built programs, in some seconds: of each case status, output and notes are compared with what it
+wants, to the byte. BIN has the programs; a FOLDER has files of cases, and where none is told those of crates/test_told/data and
+of `cases` beside this script are run. A WORD is a file of cases, or =NAME for those whose names begin so. The cases of
+must_fail.txt have to fail.
 
 Left out, and told in the last line, is what a program can't be made to do from outside: calls of the library, an output of few
 bytes, and reads and writes that fail, which `tools/test_all.py cases` has."""
@@ -18,7 +18,8 @@ from concurrent.futures import ThreadPoolExecutor
 from pathlib import Path
 
 HERE = Path(__file__).resolve().parent
-DATA = HERE / "cases" if (HERE / "cases").is_dir() else HERE.parent / "crates" / "test_told" / "data"
+DATA = HERE.parent / "crates" / "test_told" / "data"
+OWN = HERE / "cases"
 PROGRAMS = {b"check": "junction_check", b"report": "log_report", b"trace": "junction_trace"}
 WISHES = ("out", "begin", "end", "part", "same")
 # no program can be made to do these from outside
@@ -38,8 +39,8 @@ def without_end(text, end):
 class Case:
     """A case: its name, the file in which it stands, whether those below take of it what they leave out, and its parts."""
 
-    def __init__(self, name, file, is_base):
-        self.name, self.file, self.is_base, self.parts, self.base = name, file, is_base, [], self
+    def __init__(self, name, place, is_base):
+        self.name, self.file, self.folder, self.is_base, self.parts, self.base = name, place.name, place.parent, is_base, [], self
 
     def part(self, word):
         """The first part with this word: what follows in its title, and its text. None where there is none."""
@@ -72,7 +73,7 @@ def read_cases(file):
     cases, base = [], None
     for line in without_end(file.read_bytes(), b"\n").split(b"\n"):
         if line[:4] in (b"=== ", b"### "):
-            cases.append(Case(line[4:].decode(), file.name, line[:4] == b"### "))
+            cases.append(Case(line[4:].decode(), file, line[:4] == b"### "))
             base = cases[-1] if base is None or cases[-1].is_base else base
             cases[-1].base = base
         elif cases and line.startswith(b"--- "):
@@ -118,7 +119,7 @@ def has_text(word, told, wanted):
     return without_end(wanted, b"\n") in told
 
 
-def wrong_of(case, status, told, notes, data):
+def wrong_of(case, status, told, notes):
     """What a call told otherwise than its case wants."""
     wrong, wishes = [], 0
     wanted = case.part(b"notes")
@@ -132,7 +133,7 @@ def wrong_of(case, status, told, notes, data):
             continue
         wishes += 1
         if word == "same":
-            text = (data / more[1]).read_bytes() if (data / more[1]).is_file() else None
+            text = (case.folder / more[1]).read_bytes() if (case.folder / more[1]).is_file() else None
         if str(status) != more[0]:
             wrong.append(f"status {status}, wanted {more[0]}")
         if text is None or not has_text(word, told, text):
@@ -140,11 +141,11 @@ def wrong_of(case, status, told, notes, data):
     return wrong if wishes else ["it wants nothing"]
 
 
-def run_case(case, folder, data):
+def run_case(case, programs):
     """Runs a case in a folder of its own; answers what is wrong."""
     name, words = program_of(case.words())
     with tempfile.TemporaryDirectory(prefix="case-") as room:
-        for place in data.iterdir():
+        for place in case.folder.iterdir():
             os.symlink(place, Path(room) / place.name)
         for title, text in case.files().items():
             if title and b"/" not in title and len(title) < 200:
@@ -152,21 +153,21 @@ def run_case(case, folder, data):
                 if os.path.lexists(place):
                     os.unlink(place)
                 Path(os.fsdecode(place)).write_bytes(text)
-        words = [os.fsencode(folder / name), *words]
+        words = [os.fsencode(programs / name), *words]
         done = subprocess.run(words, cwd=room, stdin=subprocess.DEVNULL, capture_output=True, timeout=SECONDS)
     told, notes = VERSION.sub(rb"\1\n", done.stdout), done.stderr
     wanted = case.part(b"notes")
     if wanted and FORM.sub(rb"\1", notes) == wanted[1]:
         notes = wanted[1]
-    return wrong_of(case, done.returncode, told, notes, data)
+    return wrong_of(case, done.returncode, told, notes)
 
 
-def run_all(cases, folder, data, jobs):
+def run_all(cases, programs, jobs):
     """Runs cases; answers what is to be told of each that didn't end as it must."""
 
     def told_of(case):
         try:
-            wrong = run_case(case, folder, data)
+            wrong = run_case(case, programs)
         except (OSError, ValueError, subprocess.TimeoutExpired) as fault:
             wrong = [str(fault)]
         if case.file == FAILING:
@@ -180,20 +181,21 @@ def run_all(cases, folder, data, jobs):
 def main():
     parser = argparse.ArgumentParser(description=__doc__, formatter_class=argparse.RawDescriptionHelpFormatter)
     parser.add_argument("bin", metavar="BIN", type=Path)
-    parser.add_argument("--cases", metavar="FOLDER", type=Path, default=DATA)
+    parser.add_argument("--cases", metavar="FOLDER", type=Path, action="append")
     parser.add_argument("words", metavar="WORD", nargs="*")
     words = parser.parse_intermixed_args()
-    folder, data = words.bin.resolve(), words.cases.resolve()
+    programs = words.bin.resolve()
     only = tuple(word[1:] for word in words.words if word.startswith("="))
     named = {word if word.endswith(".txt") else f"{word}.txt" for word in words.words if not word.startswith("=")}
-    files = [file for file in sorted(data.glob("*.txt")) if not named or file.name in named]
-    missing = [name for name in ("junction", *PROGRAMS.values()) if not (folder / name).is_file()]
+    files = [file for folder in words.cases or [DATA, OWN] for file in sorted(folder.resolve().glob("*.txt"))]
+    files = [file for file in files if not named or file.name in named]
+    missing = [name for name in ("junction", *PROGRAMS.values()) if not (programs / name).is_file()]
     if missing or not files or named - {file.name for file in files}:
-        print(f"{folder} lacks {', '.join(missing)}" if missing else f"{data} has no such file of cases", file=sys.stderr)
+        print(f"{programs} lacks {', '.join(missing)}" if missing else "there is no such file of cases", file=sys.stderr)
         return 2
     cases = [case for file in files for case in read_cases(file) if not only or case.name.startswith(only)]
     run = [case for case in cases if not is_left_out(case)]
-    told = run_all(run, folder, data, len(os.sched_getaffinity(0)))
+    told = run_all(run, programs, len(os.sched_getaffinity(0)))
     failed = [lines for lines in told if lines]
     for lines in failed:
         print(*lines, sep="\n")
