@@ -36,6 +36,7 @@ MARK = ", not proved"
 SILENT = "junction"
 LIBRARY_MARK = "+not.proved"
 NOTE = "NOT-PROVED"
+PROVED_LIST = "checksums.txt"
 # how something is built: whether it is fast, and the library
 CHECKS = {
     (False, False): "with the run-time checks of `rt try`",
@@ -205,6 +206,13 @@ def build_library(kit, top, built, is_fast):
     return LIBRARY, key
 
 
+def refuse_mixing(folder, is_proved):
+    """What is proved and what isn't stand in folders of their own."""
+    other = folder / (NOTE if is_proved else PROVED_LIST)
+    if other.exists():
+        raise Refused(f"{other} is there: what is {'not ' if is_proved else ''}proved has that folder for its own")
+
+
 def at_once():
     """How many are built at once: one a processor, as many as the free memory holds."""
     found = re.search(r"^MemAvailable: +(\d+) kB", Path("/proc/meminfo").read_text(encoding="utf-8"), re.MULTILINE)
@@ -256,11 +264,13 @@ def main(words):
         return 2
     names = [name for name in [PROGRAMS[0], LIBRARY, *PROGRAMS[1:]] if not names or name in names]
     try:
-        if "--proved" in options:
+        is_proved = "--proved" in options
+        folder = folder or TOP / "build" / ("proved" if is_proved else "not-proved")
+        refuse_mixing(folder, is_proved)
+        if is_proved:
             import proved
 
-            return proved.build(TOP, folder or TOP / "build" / "proved", names, say)
-        folder = folder or TOP / "build" / "not-proved"
+            return proved.build(TOP, folder, names, say)
         reasons = build(TOP, folder, names, "--fast" in options, jobs)
     except Refused as refused:
         reasons = [str(refused)]

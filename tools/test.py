@@ -25,6 +25,7 @@ from test_acceptance import *
 from test_build import *
 from test_charts import *
 from test_closed_loop import *
+from test_completion import *
 from test_fresh import *
 from test_proofs import *
 from test_records import *
