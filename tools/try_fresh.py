@@ -14,6 +14,7 @@ import argparse
 import os
 import re
 import shutil
+import signal
 import subprocess
 import sys
 import tempfile
@@ -27,7 +28,7 @@ import lowering
 TOP = lowering.TOP
 MIRROR = "http://deb.debian.org/debian"
 LIMITS = {"README.md": 600, "archive.md": 60}
-PROCESSORS = "0,1"
+PROCESSORS = ",".join(map(str, sorted(os.sched_getaffinity(0))[:2]))
 HOME = "/home/newcomer"
 # tells behind each command, in a file, that it ended well, when, and how much of a processor all have taken until then
 TOLD = 'echo "$(date +%s.%N)" >> /tmp/told; times >> /tmp/told'
@@ -186,6 +187,8 @@ def main():
     words = parser.parse_args()
     if os.geteuid() or not shutil.which("debootstrap"):
         sys.exit("this wants to be root, and debootstrap (apt-get install debootstrap)")
+    # so that what is mounted is unmounted then too
+    signal.signal(signal.SIGTERM, lambda *_: sys.exit(143))
     room = words.root or Path(tempfile.mkdtemp(prefix="fresh-"))
     try:
         with ExitStack() as stack:
