@@ -119,6 +119,7 @@ def copied(folder, room, is_proved):
         shutil.copytree(TOP / "crates" / "junction" / "examples" / name, shared / "examples" / name, ignore=ignored)
     for place in (try_cases.DATA, try_cases.OWN):
         shutil.copytree(place, shared / "cases", dirs_exist_ok=True)
+    shutil.copy(try_cases.DATA.parent / try_cases.ORDER, shared / "cases")
     shutil.copy(Path(__file__).with_name("try_cases.py"), shared)
     (room / "wheel").mkdir()
     manylinux.retagged(next(folder.glob("*.whl")), room / "wheel")

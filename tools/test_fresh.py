@@ -141,6 +141,13 @@ class Cases(unittest.TestCase):
         status, told, _ = self.call("must_fail")
         self.assertEqual((status, told.splitlines()[0]), (1, "FAILED must fail: another status: it passes, and must fail"))
 
+    def test_what_is_left_out_may_stand_in_a_file_before(self):
+        (self.room / "args").write_text("one.txt\nbehind.txt\n", encoding="utf-8")
+        (self.room / "cases" / "behind.txt").write_text("=== report: behind\n--- out 0\na b\n", encoding="utf-8")
+        self.assertEqual(self.call("behind")[:2], (0, "1 passed, 0 failed, 0 left out\n"))
+        (self.room / "args").write_text("behind.txt\none.txt\n", encoding="utf-8")
+        self.assertEqual(self.call("behind")[0], 1)
+
     def test_what_lacks(self):
         self.assertEqual(self.call("two")[:2], (2, ""))
         (self.room / "bin" / "log_report").unlink()
@@ -156,12 +163,11 @@ class Cases(unittest.TestCase):
     def test_the_cases_of_the_repository_are_read(self):
         """As many as the driver of cases has, which tells a line of each that passes."""
         self.assertFalse({file.name for file in try_cases.OWN.iterdir()} & {file.name for file in try_cases.DATA.iterdir()})
-        self.assertTrue(try_cases.read_cases(try_cases.OWN / "forms.txt"))
-        files = sorted(try_cases.DATA.glob("*.txt"))
-        cases = [case for file in files for case in try_cases.read_cases(file)]
+        self.assertTrue(try_cases.read_cases(try_cases.files_in(try_cases.OWN)))
+        cases = try_cases.read_cases(try_cases.files_in(try_cases.DATA))
         told = (TOP / "crates" / "test_told" / "stdout").read_text(encoding="utf-8", errors="replace")
         passed = [line[3:] for line in told.splitlines() if line.startswith("ok ")]
-        self.assertEqual(sorted(case.name for case in cases if case.file != try_cases.FAILING), sorted(passed))
+        self.assertEqual([case.name for case in cases if case.file != try_cases.FAILING], passed)
         self.assertLess(sum(try_cases.is_left_out(case) for case in cases), len(cases) // 10)
 
 

@@ -25,6 +25,7 @@ WISHES = ("out", "begin", "end", "part", "same")
 # no program can be made to do these from outside
 INNER = {b"calls"}
 FAILING = "must_fail.txt"
+ORDER = "args"
 SECONDS = 120
 # what is built without a proof says so behind its version
 VERSION = re.compile(rb"^(\w+ \d+\.\d+\.\d+), not proved\n\Z")
@@ -68,19 +69,29 @@ def unescaped(line):
     return text if line.endswith(b"\\") else text + b"\n"
 
 
-def read_cases(file):
-    """The cases of a file."""
+def files_in(folder):
+    """The files of cases in a folder, in the order of the file `args` there or above it."""
+    order = next((place / ORDER for place in (folder, folder.parent) if (place / ORDER).is_file()), None)
+    names = order.read_text(encoding="utf-8").split() if order else []
+    files = sorted(folder.glob("*.txt"))
+    return sorted(files, key=lambda file: names.index(file.name) if file.name in names else len(names))
+
+
+def read_cases(files):
+    """The cases of files. What a case leaves out may stand in a file before its own."""
     cases, base = [], None
-    for line in without_end(file.read_bytes(), b"\n").split(b"\n"):
-        if line[:4] in (b"=== ", b"### "):
-            cases.append(Case(line[4:].decode(), file, line[:4] == b"### "))
-            base = cases[-1] if base is None or cases[-1].is_base else base
-            cases[-1].base = base
-        elif cases and line.startswith(b"--- "):
-            cases[-1].parts.append([line[4:], b""])
-        elif cases and cases[-1].parts:
-            part = cases[-1].parts[-1]
-            part[1] += unescaped(line) if part[0].startswith(b"\\") else line + b"\n"
+    for file in files:
+        count = len(cases)
+        for line in without_end(file.read_bytes(), b"\n").split(b"\n"):
+            if line[:4] in (b"=== ", b"### "):
+                cases.append(Case(line[4:].decode(), file, line[:4] == b"### "))
+                base = cases[-1] if base is None or cases[-1].is_base else base
+                cases[-1].base = base
+            elif len(cases) > count and line.startswith(b"--- "):
+                cases[-1].parts.append([line[4:], b""])
+            elif len(cases) > count and cases[-1].parts:
+                part = cases[-1].parts[-1]
+                part[1] += unescaped(line) if part[0].startswith(b"\\") else line + b"\n"
     for case in cases:
         case.parts = [(title[1:] if title.startswith(b"\\") else title, text) for title, text in case.parts]
     return cases
@@ -187,13 +198,12 @@ def main():
     programs = words.bin.resolve()
     only = tuple(word[1:] for word in words.words if word.startswith("="))
     named = {word if word.endswith(".txt") else f"{word}.txt" for word in words.words if not word.startswith("=")}
-    files = [file for folder in words.cases or [DATA, OWN] for file in sorted(folder.resolve().glob("*.txt"))]
-    files = [file for file in files if not named or file.name in named]
+    files = [file for folder in words.cases or [DATA, OWN] for file in files_in(folder.resolve())]
     missing = [name for name in ("junction", *PROGRAMS.values()) if not (programs / name).is_file()]
     if missing or not files or named - {file.name for file in files}:
         print(f"{programs} lacks {', '.join(missing)}" if missing else "there is no such file of cases", file=sys.stderr)
         return 2
-    cases = [case for file in files for case in read_cases(file) if not only or case.name.startswith(only)]
+    cases = [case for case in read_cases(files) if case.file in (named or [case.file]) and case.name.startswith(only or "")]
     run = [case for case in cases if not is_left_out(case)]
     told = run_all(run, programs, len(os.sched_getaffinity(0)))
     failed = [lines for lines in told if lines]
