@@ -207,7 +207,7 @@ def run_programs(progress, is_asked):
     """The cases by built programs, by those that were built last. Answers what passed."""
     folder, lacks = lacking_for_programs(BUILT)
     if lacks and is_asked:
-        raise Failed(f"{lacks}: tools/build.py builds it")
+        raise Failed(f"{lacks}: tools/build.py builds them")
     if lacks:
         return f"skipped, since {lacks}"
     progress.say("programs", f"the cases are run by those of {folder.relative_to(TOP)}")
