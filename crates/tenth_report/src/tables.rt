@@ -10,10 +10,10 @@ ghost use Rattle.tenth_tables.specs.Times.{times_refusal, times_of};
 ghost use Rattle.tenth_tables.specs.Intergreens.{intergreens_refusal, intergreen_of};
 ghost use Rattle.tenth_report.specs.Tables.{ReachedInTables, intergreens_at, rules_at, rules_by_tables, times_at};
 
-use log_site::{Reason, SiteStop};
 use pua_model::Plan;
 use sig_io::{Files, ReadRefusal, TEXT_LIMIT, read_whole};
 use sig_tables::TableRefusal;
+use site_load::{Reason, SiteStop};
 use std::alloc::Global;
 use tenth_tables::{TenthIntergreens, TenthTimes, read_tenth_intergreens, read_tenth_times};
 

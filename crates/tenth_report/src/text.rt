@@ -68,13 +68,7 @@ fn put_unknown<O: Sink>(draft: &mut Draft, sink: &mut O, unknown: u32)
 }
 
 // Puts how much was judged and how much isn't known, and how many breaches there are.
-fn put_counts<O: Sink>(
-    draft: &mut Draft,
-    sink: &mut O,
-    known: u32,
-    unknown: u32,
-    found: &[Breach],
-)
+fn put_counts<O: Sink>(draft: &mut Draft, sink: &mut O, known: u32, unknown: u32, found: &[Breach])
     ensures { Puts O.taken O.faults draft.old draft.new sink.old sink.new (counts_text known unknown found.now) }
 {
     draft.put(sink, b"SECONDS ");

@@ -78,7 +78,9 @@ fn cut_number(line: &[u8]) -> (u32, &[u8]) {
         match rest {
             [b' ', rest @ ..] => return (number, rest),
             [byte, ..] => {
-                number = number.wrapping_mul(10).wrapping_add(u32::from(digit(*byte)));
+                number = number
+                    .wrapping_mul(10)
+                    .wrapping_add(u32::from(digit(*byte)));
             }
             [] => {}
         }
