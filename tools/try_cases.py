@@ -41,7 +41,8 @@ class Case:
     """A case: its name, the file in which it stands, whether those below take of it what they leave out, and its parts."""
 
     def __init__(self, name, place, is_base):
-        self.name, self.file, self.folder, self.is_base, self.parts, self.base = name, place.name, place.parent, is_base, [], self
+        self.name, self.file, self.folder, self.is_base = name, place.name, place.parent, is_base
+        self.parts, self.base = [], self
 
     def part(self, word):
         """The first part with this word: what follows in its title, and its text. None where there is none."""
@@ -115,7 +116,8 @@ def first_difference(told, wanted):
     for number in range(max(len(one), len(other))):
         pair = [lines[number] if number < len(lines) else b"(the text ends)" for lines in (one, other)]
         if pair[0] != pair[1]:
-            return f"line {number + 1}\n  is:     {pair[0].decode(errors='replace')}\n  wanted: {pair[1].decode(errors='replace')}"
+            told, wanted = (line.decode(errors="replace") for line in pair)
+            return f"line {number + 1}\n  is:     {told}\n  wanted: {wanted}"
     return ""
 
 

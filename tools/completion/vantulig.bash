@@ -26,7 +26,7 @@ _vantulig_is_value()
     return 1
 }
 
-# offers those of the options that may still follow: they stand in this order, A|B for one of both, A+ for one that may come again
+# offers those of the options that may still follow: they stand in this order, A|B is one of both, A+ one that may come again
 _vantulig_options()
 {
     local option one word at=0 begun=0

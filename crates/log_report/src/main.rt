@@ -27,7 +27,8 @@ fn tell_help<O: Sink, N: Sink>(words: &[String], out: &mut O, notes: &mut N) -> 
     }
 }
 
-// The exit status of a call whose note on words that are no form doesn't tell how its form is written; here that is told below it.
+// The exit status of a call whose note on words that are no form doesn't tell how its form is written: that is told here, in a
+// line below the note.
 fn end_judged<N: Sink>(form: ReportForm, status: report_words::Status, notes: &mut N) -> u8 {
     if status == report_words::Status::Words {
         let _fault = put_each(notes, &[b"  ", report_line(form), b"\n"]);
