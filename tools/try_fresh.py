@@ -78,14 +78,14 @@ def call(*words, **more):
         raise Failed(f"{' '.join(map(str, words[:6]))} ends with status {done.returncode}")
 
 
-def inside(root, text, path="/usr/sbin:/usr/bin:/sbin:/bin", processors=None):
+def inside(root, text, path="/usr/sbin:/usr/bin:/sbin:/bin", processors=None, out=None):
     """Runs the commands of a text in the root, as a shell's script; answers its status."""
     (root / "tmp" / "commands").write_text(text, encoding="utf-8")
     words = ["taskset", "-c", processors] if processors else []
     environment = {"PATH": path, "HOME": HOME, "LANG": "C.UTF-8", "DEBIAN_FRONTEND": "noninteractive"}
     environment |= {name: value for name, value in os.environ.items() if name.lower().endswith("_proxy")}
     words += ["chroot", root, "bash", "/tmp/commands"]
-    return subprocess.run(words, env=environment, stdin=subprocess.DEVNULL).returncode
+    return subprocess.run(words, env=environment, stdin=subprocess.DEVNULL, stdout=out).returncode
 
 
 def mounted(stack, source, place, *options):
@@ -128,7 +128,7 @@ def install(root, packages):
     if not packages:
         return
     begin = time.time()
-    if inside(root, "".join(["set -e\napt-get -qq update\n", *packages])):
+    if inside(root, "".join(["set -e\napt-get -qq update\n", *packages]), out=subprocess.DEVNULL):
         raise Failed("the packages that the page names can't be installed")
     print(f"{time.time() - begin:7.1f} s, not counted: packages of Debian", flush=True)
 
