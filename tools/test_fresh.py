@@ -1,10 +1,10 @@
 """Tests of tools/try_cases.py and of tools/try_fresh.py, without the kit. tools/test.py takes them in."""
-import os
 import subprocess
 import sys
 import tempfile
 import unittest
 from pathlib import Path
+from types import SimpleNamespace
 
 HERE = Path(__file__).resolve().parent
 TOP = HERE.parent
@@ -153,12 +153,12 @@ class Cases(unittest.TestCase):
         (self.room / "bin" / "log_report").unlink()
         self.assertEqual(self.call(), (2, "", f"{self.room / 'bin'} lacks log_report\n"))
 
-    def test_programs_that_are_older_than_their_sources_are_not_tried(self):
-        self.assertEqual(test_all.lacking_for_programs([self.room / "none"]), (None, "there are no built programs"))
-        folder, lacks = test_all.lacking_for_programs([self.room / "none", self.room / "bin"])
-        self.assertEqual((folder, lacks), (self.room / "bin", None))
-        os.utime(self.room / "bin" / "log_report", (1, 1))
-        self.assertRegex(test_all.lacking_for_programs([self.room / "bin"])[1], r"^log_report is older than crates/")
+    def test_where_no_programs_are_built(self):
+        """That is a failure only where the cases by programs were asked for."""
+        for what, ended in [(["programs"], test_all.Failed), ([], test_all.Skipped)]:
+            options = SimpleNamespace(programs=(None, "junction isn't built"), what=what)
+            with self.assertRaisesRegex(ended, "junction isn't built"):
+                test_all.run_programs(test_all.Progress(), None, self.room, options)
 
     def test_the_cases_of_the_repository_are_read(self):
         """As many as the driver of cases has, which tells a line of each that passes."""
