@@ -1,4 +1,5 @@
 """Tests of tools/try_cases.py and of tools/try_fresh.py, without the kit. tools/test.py takes them in."""
+import os
 import subprocess
 import sys
 import tempfile
@@ -169,6 +170,13 @@ class Cases(unittest.TestCase):
         passed = [line[3:] for line in told.splitlines() if line.startswith("ok ")]
         self.assertEqual([case.name for case in cases if case.file != try_cases.FAILING], passed)
         self.assertLess(sum(try_cases.is_left_out(case) for case in cases), len(cases) // 10)
+
+
+class Scripts(unittest.TestCase):
+    def test_each_script_can_be_called_by_its_name(self):
+        scripts = [file for file in HERE.glob("*.py") if file.read_text(encoding="utf-8").startswith("#!")]
+        self.assertGreater(len(scripts), 30)
+        self.assertEqual([file.name for file in scripts if not os.access(file, os.X_OK)], [])
 
 
 class Fresh(unittest.TestCase):
