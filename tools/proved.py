@@ -16,7 +16,7 @@ import kept_proofs
 import lowering
 from lowering import Refused
 
-CRATE = "junction_c"
+CRATE, LIBRARY = "junction_c", "library"
 ARCHIVE = f"lib{CRATE}.a"
 KEPT = "as `rt ci` kept it on this machine after its proof"
 
@@ -37,11 +37,11 @@ def prove(top, crate, *words):
         raise Refused(f"{crate} isn't proved: in crates/{crate}, `rt {' '.join(words)}` ends with status {done.returncode}")
 
 
-def take_archive(top, out, say):
-    """The proved static library, with what tells of its proof."""
+def take_archive(top, out, say, kept=None):
+    """The proved static library, with what tells of its proof. `kept` is a folder that has it already, as `rt ci` kept it."""
     with tempfile.TemporaryDirectory(prefix="proved-") as folder:
-        if take_kept(top, folder, [CRATE]):
-            shutil.copy(Path(folder) / ARCHIVE, out)
+        if kept or take_kept(top, folder, [CRATE]):
+            shutil.copy(Path(kept or folder) / ARCHIVE, out)
             return "proved anew over what `rt ci` kept on this machine"
     say(f"{CRATE}: not all below it is kept by `rt ci`, so `rt lib` proves it, which may take an hour")
     prove(top, CRATE, "lib")
@@ -51,8 +51,11 @@ def take_archive(top, out, say):
     return "as `rt lib` left it after its proof"
 
 
-def take_program(top, name, out, say):
-    """A proved program, with what tells of its proof."""
+def take_program(top, name, out, say, kept=None):
+    """A proved program, with what tells of its proof. `kept` is a folder that has it already, as `rt ci` kept it."""
+    if kept:
+        shutil.copy(kept / name, out)
+        return KEPT
     if install.why_not(name) is None and install.origin(name) != install.UNKNOWN:
         shutil.copy(install.built(name), out)
         return install.origin(name)
@@ -73,27 +76,34 @@ def write_sums(folder, origins):
     (folder / "checksums.txt").write_text("\n".join([*head, *sums]) + "\n", encoding="utf-8")
 
 
-def build(top, folder, names, say):
-    """Puts proved programs, and the library, into a folder."""
+def take_library(top, folder, say, kept=None):
+    """The library of what is proved, with what tells of its proof."""
     import build as building
 
+    with tempfile.TemporaryDirectory(prefix="proved-") as made:
+        room = Path(made)
+        origin = take_archive(top, room / ARCHIVE, say, kept)
+        shutil.copytree(top / "library" / "include", room / "include")
+        shutil.copytree(top / "library" / "python", room / "module", ignore=building.MADE)
+        places = [f"PROVED={room}/{ARCHIVE}", f"PACKAGE={room}/module/"]
+        building.make(top, room, f"KIT={lowering.kit()}", *places, "all", "wheel")
+        building.take_library(room, folder)
+    return origin
+
+
+def build(top, folder, names, say):
+    """Puts proved programs, and the library, into a folder: all at once where `rt ci` has kept all of them."""
     (folder / "bin").mkdir(parents=True, exist_ok=True)
     (folder / "checksums.txt").unlink(missing_ok=True)
     origins = {}
-    for name in names:
-        if name != building.LIBRARY:
-            origins[f"bin/{name}"] = take_program(top, name, folder / "bin", say)
-            say(f"{name}: {origins[f'bin/{name}']}")
-            continue
-        with tempfile.TemporaryDirectory(prefix="proved-") as made:
-            room = Path(made)
-            origins["lib/libjunction.a"] = take_archive(top, room / ARCHIVE, say)
-            shutil.copytree(top / "library" / "include", room / "include")
-            shutil.copytree(top / "library" / "python", room / "module", ignore=building.MADE)
-            places = [f"PROVED={room}/{ARCHIVE}", f"PACKAGE={room}/module/"]
-            building.make(top, room, f"KIT={lowering.kit()}", *places, "all", "wheel")
-            building.take_library(room, folder)
-        say(f"library: {origins['lib/libjunction.a']}")
+    with tempfile.TemporaryDirectory(prefix="proved-") as made:
+        kept = Path(made) if take_kept(top, made, [CRATE if name == LIBRARY else name for name in names]) else None
+        for name in names:
+            if name == LIBRARY:
+                origins["lib/libjunction.a"] = told = take_library(top, folder, say, kept)
+            else:
+                origins[f"bin/{name}"] = told = take_program(top, name, folder / "bin", say, kept)
+            say(f"{name}: {told}")
     write_sums(folder, origins)
     say(f"proved: {folder}")
     return 0
