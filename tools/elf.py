@@ -1,9 +1,13 @@
 """Which libraries and which versions of their symbols a program or a shared library asks for, read from its file of the form
-ELF for 64 bits; and three edits of a few bytes, none of them of its code, by which a program runs with an older C library."""
+ELF for 64 bits; and edits of a few bytes, none of them of its code, by which a program runs with an older C library."""
 import struct
 from pathlib import Path
 
-NEEDED, HASH, STRTAB, SYMTAB, FLAGS = 1, 4, 5, 6, 30
+NEEDED, PLTRELSZ, HASH, STRTAB, SYMTAB, RELA, RELASZ, JMPREL, FLAGS = 1, 2, 4, 5, 6, 7, 8, 23, 30
+LOAD, NOTE = 1, 4
+# a place that holds an address of the file itself, wherever that is loaded
+RELATIVE = 8
+PAGE = 4096
 # what runs at the start: by the program's first steps, or by the loader before them
 INIT_ARRAY, INIT_ARRAYSZ, PREINIT_ARRAY, PREINIT_ARRAYSZ = 25, 27, 32, 33
 VERSYM, FLAGS_1, VERNEED, VERNEEDNUM = 0x6FFFFFF0, 0x6FFFFFFB, 0x6FFFFFFE, 0x6FFFFFFF
@@ -33,7 +37,8 @@ class Elf:
             raise NoElf("no ELF file of 64 bits, least byte first")
         begin, size, count = struct.unpack_from("<Q", self.data, 32)[0], *struct.unpack_from("<HH", self.data, 54)
         heads = [struct.unpack_from("<IIQQQQQQ", self.data, begin + size * at) for at in range(count)]
-        self.loads = [(head[3], head[2], head[5]) for head in heads if head[0] == 1]
+        self.heads = [(begin + size * at, *head) for at, head in enumerate(heads)]
+        self.loads = [(head[3], head[2], head[5]) for head in heads if head[0] == LOAD]
         dynamic = [(head[2], head[5]) for head in heads if head[0] == 2]
         if not dynamic:
             raise NoElf("it has no dynamic section: nothing of it is looked up in a library")
@@ -109,6 +114,25 @@ class Elf:
         self.data[names + offset : names + offset + len(SPARE)] = library.encode().ljust(len(SPARE), b"\0")
         at = [tag for tag, _ in self.rows].index(FLAGS)
         struct.pack_into("<QQ", self.data, self.place + 16 * at, NEEDED, offset)
+
+    def answer(self, symbol, code):
+        """Has calls of a symbol answered by this code, which is put behind all else of the file, in the place of a library's. The head
+        of the file's notes, which nothing reads when it runs, becomes that of the code."""
+        notes = [head[0] for head in self.heads if head[1] == NOTE]
+        last = max(head[4] + head[7] for head in self.heads if head[1] == LOAD)
+        if not notes:
+            raise NoElf("it has no head that can be spared")
+        at, address = -len(self.data) % PAGE + len(self.data), -last % PAGE + last
+        begin, names = self.at(self.only[SYMTAB]), self.at(self.only[STRTAB])
+        for table, size in ((RELA, RELASZ), (JMPREL, PLTRELSZ)):
+            place = self.at(self.only[table]) if table in self.only else 0
+            for row in range(place, place + self.only.get(size, 0), 24):
+                number = struct.unpack_from("<Q", self.data, row + 8)[0] >> 32
+                name = names + struct.unpack_from("<I", self.data, begin + 24 * number)[0]
+                if number and self.data[name : name + len(symbol) + 1] == symbol.encode() + b"\0":
+                    struct.pack_into("<QQ", self.data, row + 8, RELATIVE, address)
+        struct.pack_into("<IIQQQQQQ", self.data, notes[0], LOAD, 5, at, address, address, len(code), len(code), PAGE)
+        self.data += bytes(at - len(self.data)) + code
 
     def start_by_loader(self):
         """Has the loader run what is to run before `main`: here that takes the words of the command, and nothing else. A C library

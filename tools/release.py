@@ -10,8 +10,8 @@ was changed since.
 With --not-proved it packs what tools/build.py --fast built. Then the archive, its folder and its list are named `not-proved`,
 and say so: it is for trying the archive out, and for nobody else.
 
-The programs are the proved ones but for entries of their tables of symbols, by which older versions of the C library serve them
-too."""
+The programs are the proved ones but for entries of their tables, by which older versions of the C library serve them too, and for
+some instructions behind their own, in the place of a call that these don't have."""
 import gzip
 import hashlib
 import io
@@ -36,6 +36,12 @@ NEWEST = (2, 31)
 THREADS = "pthread_create pthread_join pthread_detach pthread_attr_setguardsize".split()
 SAME = {"__libc_start_main": None, **dict.fromkeys(THREADS, "libpthread.so.0")}
 FIRST = "GLIBC_2.2.5"
+# By this call of the C library from 2.33 on a program asks at its start, for the leaf 1 (by 0) and 0x80000001 (by 2), whether the
+# processor has what it needs. Here it is: it runs `cpuid`, and answers where all of that is there a row of ones, else of zeros.
+LEAF = "__x86_get_cpuid_feature_leaf"
+ASKED = """f30f1efa 53 b801000000 bb01229800 85ff 740a b801000080 bb01000000 53 0fa2 5b 21d9 39d9 488d0514000000 7407
+    488d052b000000 5b c3 660f1f840000000000"""
+ANSWER = bytes.fromhex(ASKED) + bytes([255]) * 32 + bytes(32)
 EXAMPLES = ["two_stages", "four_arms"]
 SUM = re.compile(r"^([0-9a-f]{64})  (.+)$", re.MULTILINE)
 README = TOP / "docs" / "archive.md"
@@ -55,14 +61,16 @@ def for_older(program):
     versions = {version for _, _, _, version in read.versions() if version.startswith("GLIBC_")}
     newer = {version for version in versions if elf.number_of(version) > NEWEST}
     symbols = [symbol for symbol, version in read.asked().items() if version in newer]
-    unknown = sorted(symbol for symbol in symbols if symbol not in SAME)
+    unknown = sorted(symbol for symbol in symbols if symbol not in (*SAME, LEAF))
     if unknown:
         raise Refused(f"{program.name} asks for {', '.join(unknown)} of a newer C library: build it by tools/build.py --fast or --proved")
     for version in newer:
         read.ask_for_older(version, FIRST)
     if "__libc_start_main" in symbols:
         read.start_by_loader()
-    for library in sorted({SAME[symbol] for symbol in symbols} - {None, *read.needed()}):
+    if LEAF in symbols:
+        read.answer(LEAF, ANSWER)
+    for library in sorted({SAME.get(symbol) for symbol in symbols} - {None, *read.needed()}):
         read.need(library)
     return bytes(read.data)
 

@@ -76,6 +76,23 @@ class Elf(Folder):
         self.assertEqual(len(before), len(program.read_bytes()))
         self.assertLess(changed, 60)
 
+    def test_a_program_asks_the_processor_itself(self):
+        """As proved programs do at their start; with a bit that no processor has, it is told that there is none."""
+        text = f"""#include <stdio.h>
+            unsigned *{release.LEAF}(unsigned);
+            int main(void) {{ printf("%x %x\\n", {release.LEAF}(0)[6] & 0x982201, {release.LEAF}(2)[6] & 1); return 0; }}"""
+        program = self.compiled("p", text, "-pie", "-Wl,-z,now")
+        if elf.read(program).asked().get(release.LEAF) != "GLIBC_2.33":
+            self.skipTest("the C library here is another one")
+        before, length = subprocess.run([program], capture_output=True, text=True).stdout, len(program.read_bytes())
+        data = release.for_older(program)
+        self.assertEqual(data[length:].lstrip(b"\0"), release.ANSWER.rstrip(b"\0") + bytes(32))
+        lacking = data[:length] + data[length:].replace(bytes.fromhex("bb01229800"), bytes.fromhex("bb01229900"))
+        for told, wanted in [(data, before), (lacking, "0 1\n")]:
+            program.write_bytes(told)
+            self.assertTrue(all(elf.number_of(it) <= release.NEWEST for it in elf.read(program).asked().values() if it))
+            self.assertEqual(subprocess.run([program], capture_output=True, text=True).stdout, wanted)
+
     def test_other_symbols_are_refused(self):
         text = "#include <threads.h>\nint main(void) { mtx_t m; return mtx_init(&m, 0); }"
         program = self.compiled("p", text, "-pie", "-Wl,-z,now")
