@@ -98,6 +98,7 @@ def mounted(stack, source, place, *options):
 def fresh_root(suite, root):
     """A Debian with nothing in it but what each has."""
     print(f"a fresh root of Debian, {suite}", flush=True)
+    root.chmod(0o755)
     call("debootstrap", "--variant=minbase", suite, root, MIRROR, stdout=subprocess.DEVNULL)
 
 
