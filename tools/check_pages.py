@@ -19,10 +19,13 @@ import argparse
 import os
 import re
 import shutil
+import signal
 import subprocess
 import sys
 import tempfile
 from pathlib import Path
+
+import bounded
 
 ROOT = Path(__file__).resolve().parent.parent
 JUNCTION = ROOT / "crates" / "junction"
@@ -31,6 +34,8 @@ WORDS = ["rt", "cut", "tr", "tail", "awk", "cd", "grep", "head", "cat", "mkdir",
 COMMAND = re.compile(rf"({'|'.join(WORDS)}) |[A-Z]+=")
 DRAWING = re.compile(r"(\w+ )?(\w+) +([.UGA]+)")
 STATUS = re.compile(r"(.*\S) +# status (\d+)")
+# what the commands of one page may take
+MINUTES = 15
 COPIED = ["crates/*/examples", "crates/*/data", "tools", "docs"]
 SHELL = 'set -e -o pipefail\nrt() { shift 2; "$FOLDER/$(basename "$PWD")" "$@"; }\n'
 
@@ -75,7 +80,7 @@ def compile_programs(programs, page, folder):
     for block in blocks:
         file = folder / "shown.vap"
         file.write_text("\n".join(block) + "\n", encoding="utf-8")
-        done = subprocess.run([programs / "junction", "compile", file], capture_output=True, text=True)
+        done = subprocess.run([programs / "junction", "compile", file], capture_output=True, text=True, stdin=subprocess.DEVNULL)
         if done.returncode != 0:
             wrong.append(f"{block[0]} {done.stderr.strip()}")
     return wrong, len(blocks)
@@ -137,10 +142,13 @@ def run_page(programs, page, folder):
     text = SHELL + "\n".join(command_of(line) for block in commands for line in block)
     words = {**os.environ, "FOLDER": str(programs), "HOME": str(home), "PATH": f"{programs}:{os.environ['PATH']}"}
     words["PYTHONDONTWRITEBYTECODE"] = "1"
-    done = subprocess.run(["bash", "-c", text], cwd=start, env=words, capture_output=True, text=True)
-    if done.returncode != 0:
-        return [f"status {done.returncode}: {done.stderr.strip()}"], len(shown)
-    written = done.stdout.split("\n") + done.stderr.split("\n")
+    try:
+        status, said, faults = bounded.Calls(MINUTES).run(["bash", "-c", text], cwd=start, env=words)
+    except bounded.Late as late:
+        return [str(late)], len(shown)
+    if status != 0:
+        return [f"status {status}: {faults.strip()}"], len(shown)
+    written = said.split("\n") + faults.split("\n")
     for file in sorted(set(folder.rglob("*")) - before):
         if file.is_file():
             written += file.read_text(encoding="utf-8").split("\n")
@@ -179,6 +187,7 @@ def main():
     words = argparse.ArgumentParser(description=__doc__, formatter_class=argparse.RawDescriptionHelpFormatter)
     words.add_argument("folder", metavar="FOLDER", type=Path)
     programs = words.parse_args().folder.resolve()
+    signal.signal(signal.SIGTERM, bounded.leave)
     missing = [name for name in PROGRAMS if not (programs / name).is_file()]
     if missing:
         sys.exit(f"tools/check_pages.py: {programs} has no {', '.join(missing)}")

@@ -1,6 +1,12 @@
 #!/usr/bin/env python3
-"""Tests of the scripts beside this file: python3 tools/test.py"""
+"""Tests of the scripts beside this file, of the pages, and of the page in the browser: tools/test.py [NAME..]
+
+Each class of tests is a process of its own, two at once, and tells what became of it as soon as it ends. A test that takes too long
+is ended with all that it started, and has failed. What needs a program that isn't there is skipped, and the reason is told. The last
+line says how many tests ran, and the status is 0 where none failed."""
+import argparse
 import hashlib
+import importlib.util
 import os
 import re
 import shutil
@@ -21,6 +27,7 @@ import crates
 import style
 import detectors_from_events as events
 import intergreens_from_matrix as matrix
+import timed_tests
 from test_acceptance import *
 from test_build import *
 from test_charts import *
@@ -32,6 +39,7 @@ from test_records import *
 from test_records_in_tenths import *
 from test_release import *
 from test_sumo import *
+from test_timed import *
 
 
 def run(script, text, *words):
@@ -517,16 +525,34 @@ class Pictures(unittest.TestCase):
         self.assertEqual(picture.read_bytes(), (TOP / "crates" / "log_report" / "stdout").read_bytes())
 
 
-class Viewer(unittest.TestCase):
-    """The tests of the page in the browser; without node or Chromium theirs are skipped, and said to be."""
+# What needs more than Python 3, node and the kit: browsers, SUMO.
+FURTHER = {"Browser", "Firefox", "Networks", "Calls", "ManyLights"}
 
-    def test_the_page(self):
-        script = HERE.parent / "viewer" / "test" / "test.py"
-        done = subprocess.run([sys.executable, "-B", str(script)], capture_output=True, text=True)
-        self.assertEqual(done.returncode, 0, done.stderr)
-        for skipped in sorted(set(re.findall(r"skipped '(.*)'", done.stderr))):
-            print(f"{script.name}: skipped: {skipped}")
+
+def viewer_tests():
+    """The tests of the page in the browser; what needs a program that isn't there is skipped, and said to be."""
+    folder = TOP / "viewer" / "test"
+    sys.path.insert(0, str(folder))
+    spec = importlib.util.spec_from_file_location("viewer_test", folder / "test.py")
+    module = importlib.util.module_from_spec(spec)
+    spec.loader.exec_module(module)
+    return unittest.defaultTestLoader.loadTestsFromModule(module)
+
+
+def main():
+    words = argparse.ArgumentParser(description=__doc__, formatter_class=argparse.RawDescriptionHelpFormatter)
+    words.add_argument("names", metavar="NAME", nargs="*", help="a class, or CLASS.TEST (all)")
+    words.add_argument("--jobs", metavar="N", type=int, default=min(2, len(os.sched_getaffinity(0))), help="so many classes at once")
+    words.add_argument("--seconds", metavar="N", type=int, default=300, help="what one test may take (300)")
+    words.add_argument("--plain", action="store_true", help="leave out what needs a browser or SUMO")
+    words.add_argument("--slow", metavar="N", type=int, default=0, help="tells the seconds of the N slowest tests")
+    options = words.parse_args()
+    loader, here = unittest.defaultTestLoader, sys.modules[__name__]
+    every = unittest.TestSuite([loader.loadTestsFromModule(here), viewer_tests()])
+    tests = [test for test in timed_tests.tests_of(every) if not options.names or timed_tests.is_named(test, options.names)]
+    tests = [test for test in tests if not options.plain or type(test).__name__ not in FURTHER]
+    sys.exit(timed_tests.run(tests, options.jobs, options.seconds, options.slow))
 
 
 if __name__ == "__main__":
-    unittest.main()
+    main()

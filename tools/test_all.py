@@ -6,17 +6,20 @@ Runs every test of the repository without a proof, in some minutes, and tells ho
   tests     the #[test] functions of all crates, in one crate that is made of them, by one `rt try --test`; --only: of these crates
   cases     the cases of test_told, whose output has to be that of its file `stdout`; --cases: these files of cases alone, or those
             whose names begin with NAME by a word =NAME, and what they tell is written
-  programs  the same cases by the programs that tools/build.py built, in some seconds
-  scripts   tools/test.py: the scripts, the pages, and the viewer where node and Chromium are there
+  scripts   tools/test.py: the scripts, the pages' links and rows, and the page in the browser, where its tools are there
+  style     tools/style.py: what sources should not have
+  pages     tools/check_pages.py: what the pages show, where the four programs are built and as new as their sources
   library   the library's tests, where the proved library and a built `junction` lie in out/ and the compilers are there
 
-and all of them where none is named. The last line says whether all passed, and the exit status is 0 where they did. What it makes lies
-in a folder of its own that is removed; --keep FOLDER leaves it there."""
+and all of them where none is named. What needs a tool that isn't there is told as skipped, and fails nothing. A part that takes more
+than --minutes is ended with all that it started, and has failed. The last line says whether all passed, and the exit status is 0 where
+they did. What it makes lies in a folder of its own that is removed; --keep FOLDER leaves it there."""
 import argparse
 import os
 import re
+import resource
 import shutil
-import subprocess
+import signal
 import sys
 import tempfile
 import threading
@@ -24,6 +27,7 @@ import time
 from concurrent.futures import ThreadPoolExecutor
 from pathlib import Path
 
+import bounded
 import install
 
 TOP = Path(__file__).resolve().parent.parent
@@ -32,10 +36,7 @@ CRATES = TOP / "crates"
 # A test may take so many seconds of the clock, on a busy machine too.
 SECONDS = "900"
 
-PARTS = ["tests", "cases", "programs", "scripts", "library"]
-
-# Where tools/build.py puts programs.
-BUILT = [TOP / "build" / "not-proved" / "bin", TOP / "build" / "proved" / "bin"]
+PARTS = ["tests", "cases", "scripts", "style", "pages", "library"]
 
 # What `rt try` writes of itself below what the program wrote.
 TOLD_BY_RT = re.compile(r"^(rt: |checked: |run=|interpreter: |races: |leaks: )")
@@ -43,6 +44,10 @@ TOLD_BY_RT = re.compile(r"^(rt: |checked: |run=|interpreter: |races: |leaks: )")
 
 class Failed(Exception):
     """A part did not pass, with what is to be said of it."""
+
+
+class Skipped(Exception):
+    """A part can't be run here, with what lacks."""
 
 
 class Progress:
@@ -54,6 +59,12 @@ class Progress:
     def say(self, part, text):
         with self.lock:
             print(f"{time.time() - self.begun:5.0f} s  {part}: {text}", flush=True)
+
+
+def needs(*tools):
+    lacking = [tool for tool in tools if not shutil.which(tool)]
+    if lacking:
+        raise Skipped(f"there is no {', no '.join(lacking)}")
 
 
 def crates_in(text):
@@ -124,27 +135,29 @@ def count_tests(folder):
     return sum(len(re.findall(r"^#\[test\]", file.read_text(encoding="utf-8"), re.M)) for file in sources(folder))
 
 
-def run_tests(progress, work, only):
+def run_tests(progress, calls, work, options):
     """All #[test] functions. Answers what passed."""
+    needs("rt")
     below = crates_in((TOP / "crates.txt").read_text(encoding="utf-8"))
-    tested = [name for name in below if has_tests(CRATES / name) and (not only or name in only)]
+    tested = [name for name in below if has_tests(CRATES / name) and (not options.only or name in options.only)]
     if not tested:
         raise Failed("no crate of these has a test")
     folder = make_crate(work / "tests", below, tested)
     number = count_tests(folder / "src")
     progress.say("tests", f"{number} functions of {', '.join(tested)} are compiled")
-    words = ["rt", "try", "--test", "--seconds", SECONDS]
-    tool = subprocess.Popen(words, cwd=folder, stdout=subprocess.PIPE, stderr=subprocess.STDOUT, text=True, errors="replace")
-    said, done = [], 0
-    for line in tool.stdout:
-        said.append(line)
+    done = []
+
+    def take(line):
         if re.match(r"^test \S+ \.\.\. ", line):
-            done += 1
-            if not line.endswith("... ok\n") or done % 20 == 0:
-                progress.say("tests", f"{done} of {number}" + ("" if line.endswith("... ok\n") else f", {line.strip()}"))
-    counted = re.search(r"^test result: ok\. (\d+) passed; 0 failed", "".join(said), re.M)
-    if tool.wait() != 0 or not counted:
-        raise Failed("".join(said[-60:]))
+            done.append(line)
+            is_well = line.endswith("... ok\n")
+            if not is_well or len(done) % 20 == 0:
+                progress.say("tests", f"{len(done)} of {number}" + ("" if is_well else f", {line.strip()}"))
+
+    status, said, faults = calls.run(["rt", "try", "--test", "--seconds", SECONDS], take, cwd=folder)
+    counted = re.search(r"^test result: ok\. (\d+) passed; 0 failed", said, re.M)
+    if status != 0 or not counted:
+        raise Failed(said[-5000:] + faults[-3000:])
     return f"{counted[1]} passed"
 
 
@@ -163,20 +176,21 @@ def first_difference(is_told, wanted):
     return ""
 
 
-def run_cases(progress, work, words):
+def run_cases(progress, calls, work, options):
     """The cases of whole calls. Answers what passed; where words name some of them, also what they told."""
-    crate = CRATES / "test_told"
+    needs("rt")
+    crate, words = CRATES / "test_told", options.cases
     asked = words or (crate / "args").read_text(encoding="utf-8").split("\n")[:-1]
     asked = [word if word.startswith("=") or word.endswith(".txt") else f"{word}.txt" for word in asked]
     files = [file.relative_to(crate / "data") for file in sorted((crate / "data").rglob("*")) if file.is_file()]
     data = [word for file in files for word in ("--data", f"{file}=data/{file}")]
     progress.say("cases", f"{len([word for word in asked if not word.startswith('=')])} files of cases are run")
     command = ["rt", "try", "--seconds", SECONDS, *data, "--", *asked]
-    done = subprocess.run(command, cwd=crate, capture_output=True, text=True, errors="replace", stdin=subprocess.DEVNULL)
-    told = told_alone(done.stdout)
+    _, said, faults = calls.run(command, cwd=crate)
+    told = told_alone(said)
     counted = re.search(r"^(\d+) passed, (\d+) failed\n\Z", told, re.M)
     if not counted:
-        raise Failed(told[-2000:] + done.stderr[-3000:])
+        raise Failed(told[-2000:] + faults[-3000:])
     if words:
         print(told, end="", flush=True)
         if counted[2] != "0":
@@ -190,109 +204,121 @@ def run_cases(progress, work, words):
     return counted[0].strip() + ("" if words else ", as they must")
 
 
-def lacking_for_programs(folders):
-    """The folder of programs that was built last, and why its programs can't be tried, or nothing."""
-    there = [folder for folder in folders if all((folder / name).is_file() for name in install.PROGRAMS)]
-    if not there:
-        return None, "there are no built programs"
-    folder = max(there, key=lambda folder: (folder / "junction").stat().st_mtime)
-    for name in install.PROGRAMS:
-        source = install.newest_source(name)
-        if source and source.stat().st_mtime > (folder / name).stat().st_mtime:
-            return folder, f"{name} is older than {source.relative_to(TOP)}"
-    return folder, None
+def built_programs(work):
+    """A folder of the four programs, or what lacks. What is proved is taken first."""
+    for is_proved in (True, False):
+        lacking = [why for why in (install.why_not(name, is_proved) for name in install.PROGRAMS) if why]
+        if not lacking:
+            folder = work / "bin"
+            folder.mkdir(exist_ok=True)
+            for name in install.PROGRAMS:
+                if not (folder / name).is_symlink():
+                    (folder / name).symlink_to(install.built(name, is_proved))
+            return folder, ""
+    return None, lacking[0]
 
 
-def run_programs(progress, is_asked):
-    """The cases by built programs, by those that were built last. Answers what passed."""
-    folder, lacks = lacking_for_programs(BUILT)
-    if lacks and is_asked:
-        raise Failed(f"{lacks}: tools/build.py builds them")
-    if lacks:
-        return f"skipped, since {lacks}"
-    progress.say("programs", f"the cases are run by those of {folder.relative_to(TOP)}")
-    words = [sys.executable, "-B", TOP / "tools" / "try_cases.py", folder]
-    done = subprocess.run(words, capture_output=True, text=True, errors="replace")
-    if done.returncode != 0:
-        raise Failed(done.stdout[-4000:] + done.stderr[-2000:])
-    return done.stdout.strip()
+def run_scripts(progress, calls, work, options):
+    """The tests of the scripts and of the pages, with the programs where they are built."""
+    folder, _ = built_programs(work)
+    programs = {"JUNCTION": "junction", "JUNCTION_CHECK": "junction_check", "LOG_REPORT": "log_report"} if folder else {}
+    environment = {**{name: str(folder / program) for name, program in programs.items()}, **os.environ}
+    words = [sys.executable, "-B", TOP / "tools" / "test.py", *(["--plain"] if options.plain else [])]
+    told = lambda line: progress.say("scripts", line.strip()) if re.match(r" *\d+ s |skipped: |FAILED: ", line) else None
+    status, said, faults = calls.run(words, told, env=environment)
+    counted = re.search(r"^Ran \d+ tests in \d+ s: (.*)", said, re.M)
+    if status != 0 or not counted:
+        raise Failed(said[-6000:] + faults[-3000:])
+    return counted[1]
 
 
-def run_scripts(progress, _work):
-    """The tests of the scripts and of the pages."""
-    progress.say("scripts", "tools/test.py is run")
-    done = subprocess.run([sys.executable, "-B", str(TOP / "tools" / "test.py")], capture_output=True, text=True)
-    counted = re.search(r"^Ran (\d+) tests", done.stderr, re.M)
-    if done.returncode != 0 or not counted:
-        raise Failed(done.stdout[-2000:] + done.stderr[-4000:])
-    skipped = len(re.findall(r"skipped", done.stdout))
-    return f"{counted[1]} passed" + (f", some skipped ({done.stdout.strip()})" if skipped else "")
-
-
-def lacking_for_library():
-    """What the library's tests lack here, or nothing."""
-    proved = [CRATES / "junction_c" / "out" / "libjunction_c.a", CRATES / "junction" / "out" / "junction"]
-    lacking = [f"{file.relative_to(TOP)} (`rt lib` and `rt check` make it)" for file in proved if not file.exists()]
-    return lacking + [name for name in ("make", "cc", "valgrind") if not shutil.which(name)]
-
-
-def run_library(progress, _work):
-    """The tests of the library, if what they want is there."""
-    lacking = lacking_for_library()
-    if lacking:
-        return f"skipped, since there is no {', no '.join(lacking)}"
-    progress.say("library", "make -C library test is run")
-    junction = CRATES / "junction" / "out" / "junction"
-    command = ["make", "-C", str(TOP / "library"), "test", f"JUNCTION={junction}"]
-    done = subprocess.run(command, capture_output=True, text=True, errors="replace")
-    if done.returncode != 0:
-        raise Failed(done.stdout[-3000:] + done.stderr[-3000:])
+def run_style(_progress, calls, _work, _options):
+    """What the sources should not have."""
+    status, said, faults = calls.run([sys.executable, "-B", TOP / "tools" / "style.py"])
+    if status != 0:
+        raise Failed(said + faults[-3000:])
     return "passed"
 
 
-def run_part(part, progress, work, options):
-    """Runs a part, tells how it ended, and answers whether it passed."""
+def run_pages(progress, calls, work, _options):
+    """What the pages show."""
+    needs("bash", "awk")
+    folder, lacking = built_programs(work)
+    if not folder:
+        raise Skipped(lacking)
+    take = lambda line: progress.say("pages", line.rstrip()) if not line.endswith(", 0 wrong\n") else None
+    status, said, faults = calls.run([sys.executable, "-B", TOP / "tools" / "check_pages.py", folder], take)
+    if status != 0:
+        raise Failed(faults[-3000:])
+    return f"{said.count(', 0 wrong')} passed"
+
+
+def run_library(progress, calls, _work, _options):
+    """The tests of the library, if what they want is there."""
+    needs("make", "cc", "valgrind", "rt")
+    proved = [CRATES / "junction_c" / "out" / "libjunction_c.a", CRATES / "junction" / "out" / "junction"]
+    lacking = [f"{file.relative_to(TOP)} (`rt lib` and `rt check` make it)" for file in proved if not file.exists()]
+    if lacking:
+        raise Skipped(f"there is no {', no '.join(lacking)}")
+    progress.say("library", "make -C library test is run")
+    status, said, faults = calls.run(["make", "-C", TOP / "library", "test", f"JUNCTION={proved[1]}"])
+    if status != 0:
+        raise Failed(said[-3000:] + faults[-3000:])
+    return "passed"
+
+
+RUNS = {"tests": run_tests, "cases": run_cases, "scripts": run_scripts, "style": run_style, "pages": run_pages, "library": run_library}
+
+
+def run_part(part, progress, calls, work, options):
+    """Runs a part, tells how it ended, and answers whether it passed or was skipped."""
     begun = time.time()
-    runs = {
-        "tests": lambda: run_tests(progress, work, options.only),
-        "cases": lambda: run_cases(progress, work, options.cases),
-        "programs": lambda: run_programs(progress, part in options.what),
-        "scripts": lambda: run_scripts(progress, work),
-        "library": lambda: run_library(progress, work),
-    }
     try:
-        ended = runs[part]()
-    except (Failed, OSError) as why:
+        ended = RUNS[part](progress, calls, work, options)
+    except Skipped as why:
+        progress.say(part, f"skipped: {why}")
+        return True
+    except (Failed, bounded.Late, OSError) as why:
         progress.say(part, f"FAILED\n{why}")
         return False
     progress.say(part, f"{ended} ({time.time() - begun:.0f} s)")
     return True
 
 
-def main():
+def words_of():
     words = argparse.ArgumentParser(description=__doc__, formatter_class=argparse.RawDescriptionHelpFormatter)
     words.add_argument("what", metavar="WHAT", nargs="*", default=[])
     words.add_argument("--only", metavar="CRATE", nargs="+", default=[])
     words.add_argument("--cases", metavar="WORD", nargs="+", default=[])
-    words.add_argument("--jobs", metavar="N", type=int, default=min(3, len(os.sched_getaffinity(0))), help="so many parts at once")
+    words.add_argument("--jobs", metavar="N", type=int, default=min(2, len(os.sched_getaffinity(0))), help="so many parts at once (2)")
+    words.add_argument("--minutes", metavar="N", type=float, default=30, help="what one part may take (30)")
+    words.add_argument("--plain", action="store_true", help="leave out scripts' tests that need more than Python and node")
     words.add_argument("--keep", metavar="FOLDER", help="make it here, and leave it")
     options = words.parse_args()
     if not set(options.what) <= set(PARTS):
         words.error(f"WHAT is one of {', '.join(PARTS)}")
+    return options
+
+
+def main():
+    options = words_of()
     parts = options.what or (["tests"] if options.only else []) + (["cases"] if options.cases else []) or PARTS
     work = Path(options.keep or tempfile.mkdtemp(prefix="test_all_"))
     if options.keep:
         shutil.rmtree(work, ignore_errors=True)
         work.mkdir(parents=True)
-    progress = Progress()
+    progress, calls = Progress(), bounded.Calls(options.minutes)
+    for number in (signal.SIGTERM, signal.SIGINT):
+        signal.signal(number, calls.end_all)
     try:
         with ThreadPoolExecutor(max(1, options.jobs)) as pool:
-            passed = list(pool.map(lambda part: run_part(part, progress, work, options), parts))
+            passed = list(pool.map(lambda part: run_part(part, progress, calls, work, options), parts))
     finally:
         if not options.keep:
             shutil.rmtree(work, ignore_errors=True)
     failed = [part for part, is_well in zip(parts, passed) if not is_well]
-    took = f"{(time.time() - progress.begun) / 60:.1f} minutes"
+    used = resource.getrusage(resource.RUSAGE_CHILDREN)
+    took = f"{(time.time() - progress.begun) / 60:.1f} minutes ({(used.ru_utime + used.ru_stime) / 60:.1f} of a processor)"
     print(f"FAILED: {', '.join(failed)}, after {took}" if failed else f"all passed: {', '.join(parts)}, in {took}")
     sys.exit(1 if failed else 0)
 
