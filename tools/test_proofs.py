@@ -1,4 +1,5 @@
 """Tests of the scripts that try wrong bodies, run all tests and shorten proofs, without the prover."""
+import re
 import tempfile
 import unittest
 from pathlib import Path
@@ -91,6 +92,9 @@ fn a::b::twice_wrong1: no proof: expected answers in ./proofs/b/twice_wrong1/Ans
 note: src/b.rt:20:5: an open goal (`returns`); the facts known there allow values at which this goal is false
 fn a::b::twice_wrong2: not proved
 proofs/b/twice_wrong2/Answers.antt:4:1: error: `returns`: module `Rattle.a.proofs.b.twice_wrong2.Goals` has no `returns`
+fn a::b::twice_wrong3: not proved
+proofs/b/twice_wrong3/Answers.antt:4:1: error: module `Rattle.a.proofs.b.twice_wrong3.Goals` has no `then` that can be named from here
+proofs/b/twice_wrong3/Answers.antt:7:5: error: 1 declaration that depends on `then`, which was not admitted, was not checked: x
 fn a::b::fn::even::on: proved where its callers give what it asks
 fn a::b::even: proved
 """
@@ -100,8 +104,19 @@ fn a::b::even: proved
         wrong = run.judged("a", "b::twice_wrong1", ("src/b.rt", 18, 24))
         self.assertEqual(wrong, (REFUSED, "returns (false) two (open)"))
         self.assertEqual(run.judged("a", "b::twice_wrong2")[0], UNCLEAR)
+        self.assertEqual(run.judged("a", "b::twice_wrong3")[0], UNCLEAR)
         self.assertEqual(run.judged("a", "b::even"), (SURVIVED, ""))
         self.assertTrue(Run(1, "src/b.rt:3:1: error[mismatched-types]: no", 1.0).did_not_compile())
+
+    def test_each_wrong_body_of_the_page_is_there(self):
+        page = (test_all.TOP / "docs" / "wrong-bodies.md").read_text(encoding="utf-8")
+        rows = [re.findall(r"`(\w+)`", cell) for row in re.findall(r"^\| (?!kind|-).*$", page, re.M) for cell in row.split("|")[2:4]]
+        self.assertGreater(len(rows), 40)
+        for crates, names in zip(rows[::2], rows[1::2]):
+            found = {(crate, file.stem) for crate in crates for file in (test_all.CRATES / crate).glob("*/*.edit")}
+            for name in names:
+                self.assertIn(name, {edit for _, edit in found}, crates)
+            self.assertEqual({crate for crate, name in found if name in names}, set(crates), names)
 
     def test_answers_are_left_out(self):
         text = "use A.{b}\n\npub one : goal.one\none c =\n    b c\n\npub two : goal.two\ntwo c = c"

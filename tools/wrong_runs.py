@@ -9,7 +9,7 @@ from wrong_edits import PARTS, Edit, functions_of
 REFUSED, WEAK, SURVIVED, BAD, UNCLEAR = "refused", "weak", "survived", "bad", "unclear"
 
 # A proof file that names what the edit took away, or cites what was refused: it shows nothing of the contract.
-NAMES_GONE = re.compile(r"\A(`[^`]*`: )?([^,;]*`[^`]*`: module `[^`]*` has no `|.*(has no field|is not in scope|was not admitted))")
+NAMES_GONE = re.compile(r"\A(`[^`]*`: )?(([^,;]*`[^`]*`: )?module `[^`]*` has no `|.*(has no field|is not in scope|was not admitted))")
 TAKEN_AWAY = "a proof file names what it takes away, so it shows nothing of the contract: change a value and keep the names"
 
 
