@@ -536,6 +536,7 @@ def viewer_tests():
     spec = importlib.util.spec_from_file_location("viewer_test", folder / "test.py")
     module = importlib.util.module_from_spec(spec)
     spec.loader.exec_module(module)
+    module.reporter = [os.environ["LOG_REPORT"]] if os.environ.get("LOG_REPORT") else []
     return unittest.defaultTestLoader.loadTestsFromModule(module)
 
 

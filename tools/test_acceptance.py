@@ -142,6 +142,8 @@ class Acceptance(unittest.TestCase):
         self.assertIn("log_report, stored answers", text)
 
     def test_a_log_with_its_plan(self):
+        if not python_with("jinja2"):
+            self.skipTest("no python3-jinja2")
         log, plan = self.folder / "log", self.folder / "plan.pua"
         log.write_text("VAPLOG 1 K1 K2 K3 F1 F2 ST\n" + "".join(f"{k}|-|RRRRRR|-|-|-\n" for k in range(101, 901)), encoding="ascii")
         plan.write_text("$SIGNAL_GROUPS\n", encoding="ascii")

@@ -165,7 +165,8 @@ class WhyNot(Folder):
 
     def test_reasons(self):
         built = self.build()
-        clean = [] if "with changes" not in install.where_from()[0] else ["the checkout has changes that are not committed, or is no clone"]
+        is_clean = not any(words in install.where_from()[0] for words in ("with changes", "unknown"))
+        clean = [] if is_clean else ["the checkout has changes that are not committed, or is no clone"]
         self.assertEqual(release.why_not(built, True), clean)
         self.write("built/bin/junction", "another")
         (built / "bin/log_report").unlink()

@@ -35,8 +35,12 @@ class Used:
     """What a user does with the page in any browser."""
 
     def begin(self, folder):
+        """Opens the page anew; what it saves goes into the folder."""
         self.folder = folder
+        self.open("about:blank")
+        self.save_into(folder)
         self.open((VIEWER / "index.html").as_uri())
+        self.errors()
 
     def text(self, name):
         return self.call("return document.getElementById(arguments[0]).innerText", name)
@@ -64,17 +68,15 @@ class Used:
 class FirefoxPage(Used, firefox.Firefox):
     """The page in Firefox, of which the test sees what stands on it."""
 
-    def __init__(self, folder):
-        super().__init__(folder)
-        self.begin(folder)
+    def save_into(self, _):
+        """Nothing is saved here."""
 
 
 class Page(Used, chromium.Chromium):
     """The page in Chromium, of which the test sees the state too."""
 
-    def __init__(self, folder, **more):
-        super().__init__(folder, **more)
-        self.begin(folder)
+    def save_into(self, folder):
+        self.devtools("Browser.setDownloadBehavior", behavior="allow", downloadPath=str(folder))
 
     def rest(self):
         """Waits until all files are taken, frames drawn and sums made."""
@@ -122,9 +124,21 @@ class Judged:
 
     TABLES = [RECORDS / "german" / name for name in ("times.csv", "intergreens.csv")]
 
+    @classmethod
+    def setUpClass(cls):
+        cls.profile = Path(tempfile.mkdtemp(prefix="viewer_"))
+        cls.addClassCleanup(shutil.rmtree, cls.profile, ignore_errors=True)
+        # to begin a browser costs more than most of its tests, so all have one
+        cls.browser = cls.kind(cls.profile)
+        cls.addClassCleanup(cls.browser.close)
+
     def setUp(self):
         self.folder = Path(tempfile.mkdtemp(prefix="viewer_"))
         self.addCleanup(shutil.rmtree, self.folder, ignore_errors=True)
+
+    def page(self):
+        self.browser.begin(self.folder)
+        return self.browser
 
     def test_a_record_is_judged(self):
         page = self.page()
@@ -195,10 +209,7 @@ class Judged:
 
 @unittest.skipIf(firefox.MISSING, firefox.MISSING)
 class Firefox(Judged, unittest.TestCase):
-    def page(self):
-        page = FirefoxPage(self.folder)
-        self.addCleanup(page.close)
-        return page
+    kind = FirefoxPage
 
     def test_a_log_is_read_and_searched(self):
         page = self.page()
@@ -213,11 +224,7 @@ class Firefox(Judged, unittest.TestCase):
 
 @unittest.skipIf(chromium.MISSING, chromium.MISSING)
 class Browser(Judged, unittest.TestCase):
-
-    def page(self, **more):
-        page = Page(self.folder, **more)
-        self.addCleanup(page.close)
-        return page
+    kind = Page
 
     def test_keys_alone(self):
         page = self.page()
@@ -387,7 +394,9 @@ class Browser(Judged, unittest.TestCase):
             page.wait(told, words)
 
     def test_the_dark_scheme_and_a_narrow_window(self):
-        page = self.page(is_dark=True, width=700, height=1000)
+        page = Page(self.profile, is_dark=True, width=700, height=1000)
+        self.addCleanup(page.close)
+        page.begin(self.folder)
         page.take(EXAMPLES / "left_turn" / "log.txt")
         pixel = "return [...document.getElementById('chart').getContext('2d').getImageData(2, 2, 1, 1).data]"
         self.assertEqual(page.call(pixel), [0x15, 0x19, 0x1D, 255])

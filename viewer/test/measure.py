@@ -66,6 +66,7 @@ def main():
     week = folder / "week.log"
     week.write_bytes(week_log())
     page = Page(folder)
+    page.begin(folder)
     try:
         page.devtools("Performance.enable")
         page.take(week)
