@@ -1,5 +1,8 @@
 """Tests of the scripts that try wrong bodies, run all tests and shorten proofs, without the prover."""
+import os
 import re
+import subprocess
+import sys
 import tempfile
 import unittest
 from pathlib import Path
@@ -110,7 +113,8 @@ fn a::b::even: proved
 
     def test_each_wrong_body_of_the_page_is_there(self):
         page = (test_all.TOP / "docs" / "wrong-bodies.md").read_text(encoding="utf-8")
-        rows = [re.findall(r"`(\w+)`", cell) for row in re.findall(r"^\| (?!kind|-).*$", page, re.M) for cell in row.split("|")[2:4]]
+        rows = re.findall(r"^\| (?!kind|-).*$", page, re.M)
+        rows = [re.findall(r"`(\w+)`", cell) for row in rows for cell in row.split("|")[2:4]]
         self.assertGreater(len(rows), 40)
         for crates, names in zip(rows[::2], rows[1::2]):
             found = {(crate, file.stem) for crate in crates for file in (test_all.CRATES / crate).glob("*/*.edit")}
@@ -139,6 +143,43 @@ class AllTests(unittest.TestCase):
     def test_the_first_difference_is_told(self):
         self.assertEqual(test_all.first_difference("a\nb\n", "a\nb\n"), "")
         self.assertEqual(test_all.first_difference("a\nb\n", "a\n"), "line 2\n  is:     b\n  wanted: (the text ends)")
+
+    def call(self, tests, cases, *words):
+        """Status and output of the command with a stand-in of `rt` that says this of tests and cases."""
+        with tempfile.TemporaryDirectory() as folder:
+            rt = Path(folder) / "rt"
+            rt.write_text(f"#!/bin/sh\n[ $2 = --test ] && exec cat {folder}/tests\ncat {folder}/cases\n", encoding="utf-8")
+            rt.chmod(0o755)
+            (Path(folder) / "tests").write_text(tests, encoding="utf-8")
+            (Path(folder) / "cases").write_text(cases, encoding="utf-8")
+            command = [sys.executable, "-B", test_all.TOP / "tools" / "test_all.py", *words]
+            environment = {**os.environ, "PATH": f"{folder}:{os.environ['PATH']}"}
+            done = subprocess.run(command, env=environment, capture_output=True, text=True)
+            return done.returncode, done.stdout
+
+    def test_the_command_passes_where_all_passed(self):
+        cases = (test_all.CRATES / "test_told" / "stdout").read_text(encoding="utf-8")
+        tests = "test a::b ... ok\n\ntest result: ok. 1 passed; 0 failed\n"
+        status, said = self.call(tests, cases + "run=ended status=0\n", "tests", "cases")
+        self.assertEqual(status, 0, said)
+        self.assertIn("s  tests: 1 passed (", said)
+        self.assertIn(" failed, as they must (", said)
+        self.assertRegex(said, r"\nall passed: tests, cases, in [0-9.]+ minutes \([0-9.]+ of a processor\)\n\Z")
+
+    def test_the_command_fails_where_one_failed(self):
+        cases = (test_all.CRATES / "test_told" / "stdout").read_text(encoding="utf-8")
+        tests = "test a::b ... FAILED\n\ntest result: FAILED. 0 passed; 1 failed\n"
+        status, said = self.call(tests, cases.replace("ok ", "FAILED ", 1), "tests", "cases")
+        self.assertEqual(status, 1, said)
+        self.assertIn("tests: 1 of ", said)
+        self.assertIn("what it tells is not crates/test_told/stdout: line 1\n", said)
+        self.assertRegex(said, r"\nFAILED: tests, cases, after ")
+
+    def test_what_is_lacking_is_told(self):
+        command = [sys.executable, "-B", test_all.TOP / "tools" / "test_all.py", "tests", "cases", "library"]
+        done = subprocess.run(command, env={**os.environ, "PATH": "/nowhere"}, capture_output=True, text=True)
+        self.assertEqual((done.returncode, done.stderr), (0, ""))
+        self.assertIn("tests: skipped: there is no rt\n", done.stdout)
 
     def test_each_crate_of_tests_is_found(self):
         below = test_all.crates_in((test_all.TOP / "crates.txt").read_text(encoding="utf-8"))
