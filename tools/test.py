@@ -5,16 +5,12 @@ Each class of tests is a process of its own, two at once, and tells what became 
 is ended with all that it started, and has failed. What needs a program that isn't there is skipped, and the reason is told. The last
 line says how many tests ran, and the status is 0 where none failed."""
 import argparse
-import hashlib
 import importlib.util
 import os
 import re
-import shutil
 import subprocess
 import sys
-import tempfile
 import unittest
-from fractions import Fraction
 from pathlib import Path
 
 HERE = Path(__file__).resolve().parent
@@ -25,30 +21,19 @@ import answers
 import believe
 import crates
 import style
-import detectors_from_events as events
-import intergreens_from_matrix as matrix
 import timed_tests
 from test_acceptance import *
 from test_build import *
 from test_charts import *
 from test_closed_loop import *
-from test_completion import *
-from test_fresh import *
+from test_install import *
+from test_made_files import *
 from test_proofs import *
 from test_records import *
 from test_records_in_tenths import *
 from test_release import *
 from test_sumo import *
 from test_timed import *
-
-
-def run(script, text, *words):
-    """Status, output and standard error of a script over a file with this text, named FILE in what it says."""
-    with tempfile.NamedTemporaryFile("w", encoding="utf-8", suffix=".csv") as file:
-        file.write(text)
-        file.flush()
-        done = subprocess.run([sys.executable, "-B", str(HERE / script), *words, file.name], capture_output=True, text=True)
-        return done.returncode, done.stdout, done.stderr.replace(file.name, "FILE")
 
 
 class Examples(unittest.TestCase):
@@ -61,101 +46,6 @@ class Examples(unittest.TestCase):
         self.assertLessEqual(set(plans), set(copies))
         for file in copies:
             self.assertEqual((data / file).read_bytes(), (examples / file).read_bytes(), str(file))
-
-
-class Matrix(unittest.TestCase):
-    def pairs(self, text, transposed=False):
-        return matrix.pairs_of(*matrix.matrix_of(text), transposed)
-
-    def refused(self, text, said):
-        with self.assertRaises(matrix.Refused) as stop:
-            self.pairs(text)
-        self.assertEqual(str(stop.exception), said)
-
-    def test_commas_and_semicolons(self):
-        pairs = [("K1", "K2", "5"), ("K2", "K1", "4")]
-        self.assertEqual(self.pairs("from,K1,K2,K3\nK1,-,5,\nK2,4,,-\nK3,,,\n"), pairs)
-        self.assertEqual(self.pairs(";K1;K2\r\n\r\nK1; ; 5\r\nk2;4;-\r\n"), pairs)
-
-    def test_transposed(self):
-        self.assertEqual(self.pairs(";A;B\nA;;7\nB;3;\n", True), [("B", "A", "7"), ("A", "B", "3")])
-
-    def test_tenths(self):
-        self.assertEqual(self.pairs(";A;B\nA;;4,5\nB;3,0;\n"), [("A", "B", "4.5"), ("B", "A", "3")])
-        told = "tenths of a second: these intergreens are for `log_report` over records alone\n"
-        self.assertEqual(run("intergreens_from_matrix.py", ",A,B\nA,,4.5\nB,3,\n"), (0, "from,to,seconds\nA,B,4.5\nB,A,3\n", told))
-
-    def test_no_conflict_at_all(self):
-        self.assertEqual(self.pairs(",A,B\nA,,\nB,,\n"), [])
-
-    def test_refusals(self):
-        self.refused("", "1: there is no line with the names of the groups")
-        self.refused(",A,a\n", "1: a stands twice")
-        self.refused(",A,2B\n", "1: '2B' is no name of a group: a letter or _, then letters, digits and _, 32 in all at most")
-        self.refused(",A,B\nA,,1\n", "1: B has no line of its own")
-        self.refused(",A\nA,\nB,\n", "3: B has no column")
-        self.refused(",A,B\nA,,1\nA,,1\n", "3: A stands twice")
-        self.refused(",A,B\nA,,1,2\nB,1,\n", "2: 4 fields, where the first line has 3")
-        self.refused(",A,B\nA,,5.55\nB,1,\n", "2: '5.55' (A to B) is no number from 0 to 99 with one decimal at most")
-        self.refused(",A,B\nA,,100\nB,1,\n", "2: '100' (A to B) is no number from 0 to 99 with one decimal at most")
-        self.refused(",A,B\nA,,99.1\nB,1,\n", "2: '99.1' (A to B) is no number from 0 to 99 with one decimal at most")
-        self.refused(",A,B\nA,0,1\nB,1,\n", "2: A has an intergreen with itself")
-        self.refused(",A,B\nA,,\n\nB,1,\n", "4: B and A conflict one way only")
-
-    def test_pairs_in_no_conflict_are_told(self):
-        told = "no conflict: K1 and K3\nno conflict: K2 and K3\n"
-        text = "from,K1,K2,K3\nK1,-,5,\nK2,4,,-\nK3,,,\n"
-        self.assertEqual(run("intergreens_from_matrix.py", text), (0, "from,to,seconds\nK1,K2,5\nK2,K1,4\n", told))
-
-    def test_the_script(self):
-        self.assertEqual(
-            run("intergreens_from_matrix.py", "\ufeff;K1;K2\nK1;;5\nK2;4;\n"), (0, "from,to,seconds\nK1,K2,5\nK2,K1,4\n", "")
-        )
-        self.assertEqual(
-            run("intergreens_from_matrix.py", ",A,B\nA,,x\nB,1,\n"), (1, "", "FILE:2: 'x' (A to B) is no number from 0 to 99 with one decimal at most\n")
-        )
-
-
-class Events(unittest.TestCase):
-    def refused(self, text, said, **more):
-        with self.assertRaises(events.Refused) as stop:
-            events.lines_of(text, **more)
-        self.assertEqual(str(stop.exception), said)
-
-    def test_seconds(self):
-        text = "time,detector,state\n0.2,2,on\n0.9,2,off\n0.95,1,ON\n\n2,1,off\n2;2;on\n2.5,2,off\n2.6,2,on\n"
-        self.assertEqual(events.lines_of(text), ["1:1:0 2:1:1", "", "1:0:1 2:2:1"])
-
-    def test_clock(self):
-        text = "07:00:12.4,3,on\n07:00:14,3,off\n"
-        self.assertEqual(events.lines_of(text), ["3:1:0", "", "3:0:1"])
-        self.assertEqual(events.lines_of(text, start=Fraction(7 * 3600 + 11), seconds=5), ["", "3:1:0", "", "3:0:1", ""])
-
-    def test_a_moment_on_the_border_is_exact(self):
-        self.assertEqual(events.lines_of("0.3,1,on\n", start=Fraction("0.3")), ["1:1:0"])
-
-    def test_no_events(self):
-        self.assertEqual(events.lines_of("time,detector,state\n"), [])
-        self.assertEqual(events.lines_of("", seconds=2), ["", ""])
-
-    def test_refusals(self):
-        self.refused("1,1\n", "1: 2 fields, where time, detector and on or off are wanted")
-        self.refused("7:1:1,1,on\n", "1: '7:1:1' is no time, as 12.4 or 07:00:12.4")
-        self.refused("1,65,on\n", "1: '65' is no detector from 1 to 64")
-        self.refused("1,D1,on\n", "1: 'D1' is no detector from 1 to 64")
-        self.refused("1,1,in\n", "1: 'in' is neither on nor off")
-        self.refused("1,1,on\n07:00:12,1,off\n", "2: a number of seconds and a clock's time in one file")
-        self.refused("2,1,on\n1,1,off\n", "2: the time is before that of the line above")
-        self.refused("1,1,on\n2,1,on\n", "2: detector 1 goes on, and is on already")
-        self.refused("1,1,off\n", "1: detector 1 goes off, and was not on: give it an 'on' before")
-        self.refused("1,1,on\n", "1: the event is before second 1", start=Fraction(2))
-        self.refused("5,1,on\n", "1: the event is in second 6, after the last one, 5", seconds=5)
-        self.refused("604800,1,on\n", "1: the event is in second 604801, after the last one, 604800")
-        self.refused("1,1,on\n1,1,off\n" * 100, "199: detector 1 has more than 99 vehicles in second 2")
-
-    def test_the_script(self):
-        self.assertEqual(run("detectors_from_events.py", "1,1,on\n", "--seconds", "3"), (0, "\n1:1:0\n\n", ""))
-        self.assertEqual(run("detectors_from_events.py", "x,1,on\n"), (1, "", "FILE:1: 'x' is no time, as 12.4 or 07:00:12.4\n"))
 
 
 class Reasons(unittest.TestCase):
@@ -324,123 +214,6 @@ class Believe(unittest.TestCase):
                     crate = word
                 else:
                     self.assertTrue(needed[crate, word], f"{crate}/specs/{word} stands in no row of tools/believe.py")
-
-
-class Install(unittest.TestCase):
-    """tools/install.py in a checkout of its own, whose programs are scripts."""
-
-    NAMES = ["junction", "junction_check", "junction_trace", "log_report"]
-
-    def setUp(self):
-        folder = tempfile.TemporaryDirectory()
-        self.addCleanup(folder.cleanup)
-        self.top, self.prefix = Path(folder.name) / "checkout", Path(folder.name) / "prefix"
-        shutil.copytree(HERE / "completion", self.top / "tools" / "completion")
-        shutil.copy(HERE / "install.py", self.top / "tools")
-        shutil.copy(TOP / "crates.txt", self.top)
-        (self.top / "docs").mkdir()
-        for name in self.NAMES:
-            shutil.copy(TOP / "docs" / f"{name}.1", self.top / "docs")
-            source = self.top / "crates" / name / "src" / "main.rt"
-            source.parent.mkdir(parents=True)
-            source.write_text("// a source\n", encoding="utf-8")
-            os.utime(source, (1, 1))
-            self.built(name).parent.mkdir()
-            self.built(name).write_text(f"#!/bin/sh\necho {name}\n", encoding="utf-8")
-        self.built("junction_check").with_name("junction_check.by-rattle").touch()
-        stamp = self.built("junction").with_name("junction.stamp")
-        stamp.write_text("0" * 64 + hashlib.sha256(self.built("junction").read_bytes()).hexdigest(), encoding="utf-8")
-
-    def built(self, name):
-        return self.top / "crates" / name / "out" / name
-
-    def call(self, *words):
-        done = subprocess.run([sys.executable, "-B", self.top / "tools" / "install.py", *words], capture_output=True, text=True)
-        return done.returncode, done.stdout, done.stderr
-
-    def files(self):
-        return {str(file.relative_to(self.prefix)) for file in self.prefix.rglob("*") if file.is_file()}
-
-    def test_all_programs(self):
-        status, said, fault = self.call(self.prefix)
-        self.assertEqual((status, fault), (0, ""))
-        pages = {f"share/man/man1/{name}.1" for name in self.NAMES}
-        completions = {f"share/bash-completion/completions/{name}" for name in self.NAMES} | {"share/zsh/site-functions/_vantulig"}
-        listed = {f"bin/{name}" for name in self.NAMES} | pages | completions
-        self.assertEqual(self.files(), listed | {"share/vantulig/checksums.txt"})
-        self.assertTrue(all(f"{self.prefix}/{place}\n" in said for place in self.files()))
-        self.assertEqual(subprocess.run([self.prefix / "bin" / "log_report"], capture_output=True).stdout, b"log_report\n")
-        text = (self.prefix / "share" / "vantulig" / "checksums.txt").read_text(encoding="utf-8")
-        self.assertIn("# commit unknown, since this is no clone\n# kit ", text)
-        stamped = "# bin/junction: as `rt run` left it after its proof\n"
-        gated = "# bin/junction_check: as `rt ci` left it after its proof, with the other compiler's build beside it\n"
-        unknown = "# bin/junction_trace: not known to come from a proof: no trace of one beside it\n"
-        self.assertIn(stamped + gated + unknown + "# bin/log_report: not known to come from a proof: no trace of one beside it\n", text)
-        sums = {line[66:]: line[:64] for line in text.splitlines() if not line.startswith("#")}
-        self.assertEqual(sums, {place: hashlib.sha256((self.prefix / place).read_bytes()).hexdigest() for place in listed})
-
-    def test_what_is_not_built_is_refused(self):
-        self.built("log_report").unlink()
-        os.utime(self.built("junction"), (0, 0))
-        status, said, fault = self.call(self.prefix)
-        self.assertEqual((status, said), (1, ""))
-        older = "junction is older than crates/junction/src/main.rt: in crates/junction, `rt run -- --version` builds it anew"
-        lacking = "log_report isn't built: in crates/log_report, `rt run -- --version` proves and builds it"
-        self.assertEqual(fault, f"{older}\n{lacking}\nnothing is installed\n")
-        self.assertFalse(self.prefix.exists())
-        self.assertEqual(self.call(self.prefix, "junction_check")[0], 0)
-        self.assertIn("bin/junction_check", self.files())
-        self.assertNotIn("bin/junction", self.files())
-        self.assertEqual(self.call(self.prefix, "juncton")[0], 1)
-
-    def test_what_is_of_another_origin_stays(self):
-        (self.prefix / "bin").mkdir(parents=True)
-        (self.prefix / "bin" / "junction").write_text("mine", encoding="utf-8")
-        status, said, fault = self.call(self.prefix)
-        self.assertEqual((status, said, fault), (1, "", f"{self.prefix}/bin/junction is of another origin\nnothing is installed\n"))
-        self.assertEqual(self.files(), {"bin/junction"})
-
-    def test_everything_is_taken_away(self):
-        self.assertEqual(self.call(self.prefix, "--remove")[0], 1)
-        (self.prefix / "bin").mkdir(parents=True)
-        (self.prefix / "bin" / "other").write_text("mine", encoding="utf-8")
-        self.assertEqual(self.call(self.prefix)[0], 0)
-        self.assertEqual(self.call(self.prefix, "junction")[0], 0)
-        self.assertEqual(self.call(self.prefix, "--remove")[0], 0)
-        self.assertEqual([str(path.relative_to(self.prefix)) for path in sorted(self.prefix.rglob("*"))], ["bin", "bin/other"])
-
-    def test_a_new_prefix_is_taken_away(self):
-        self.assertEqual(self.call(self.prefix)[0], 0)
-        self.assertEqual(self.call(self.prefix, "--remove")[0], 0)
-        self.assertFalse(self.prefix.exists())
-
-    def test_what_was_changed_stays(self):
-        self.assertEqual(self.call(self.prefix)[0], 0)
-        (self.prefix / "bin" / "junction").write_text("mine", encoding="utf-8")
-        status, _, fault = self.call(self.prefix, "--remove")
-        self.assertEqual((status, fault), (1, f"{self.prefix}/bin/junction was changed since, and stays\n"))
-        self.assertEqual(self.files(), {"bin/junction"})
-
-    def test_checksums(self):
-        status, said, _ = self.call("--checksums", "junction")
-        self.assertEqual(status, 0)
-        self.assertIn("# crates/junction/out/junction: as `rt run` left it after its proof\n", said)
-        self.assertTrue(said.endswith("  crates/junction/out/junction\n"))
-        self.assertEqual(self.call()[0], 1)
-
-    def test_completion_knows_each_command(self):
-        table = (TOP / "README.md").read_text(encoding="utf-8").split("\n## The programs\n")[1].split("\n## ")[0]
-        rows = "".join(row.split("|")[1] for row in table.split("\n") if row.startswith("| `"))
-        commands = {
-            "junction": set(re.findall(r"`junction ([a-z]+)", rows)),
-            "log_report": set(re.findall(r"(?:`|log_report )([a-z]+) LOG", rows)) | {"--help", "--version"},
-        }
-        for name, wanted in commands.items():
-            text = f'source "$1"; COMP_WORDS=({name} ""); COMP_CWORD=1; _vantulig_{name}; echo "${{COMPREPLY[@]}}"'
-            done = subprocess.run(["bash", "-c", text, "-", HERE / "completion" / "vantulig.bash"], capture_output=True, text=True)
-            self.assertEqual((set(done.stdout.split()), done.stderr), (wanted, ""))
-            zsh = (HERE / "completion" / "_vantulig").read_text(encoding="utf-8")
-            self.assertTrue(all(re.search(rf"['( ]{word}[): ]", zsh) for word in wanted), name)
 
 
 class Statuses(unittest.TestCase):
