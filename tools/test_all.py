@@ -212,15 +212,14 @@ def built_programs(work):
             folder = work / "bin"
             folder.mkdir(exist_ok=True)
             for name in install.PROGRAMS:
-                if not (folder / name).is_symlink():
-                    (folder / name).symlink_to(install.built(name, is_proved))
+                (folder / name).symlink_to(install.built(name, is_proved))
             return folder, ""
     return None, lacking[0]
 
 
-def run_scripts(progress, calls, work, options):
+def run_scripts(progress, calls, _work, options):
     """The tests of the scripts and of the pages, with the programs where they are built."""
-    folder, _ = built_programs(work)
+    folder, _ = options.programs
     programs = {"JUNCTION": "junction", "JUNCTION_CHECK": "junction_check", "LOG_REPORT": "log_report"} if folder else {}
     environment = {**{name: str(folder / program) for name, program in programs.items()}, **os.environ}
     words = [sys.executable, "-B", TOP / "tools" / "test.py", *(["--plain"] if options.plain else [])]
@@ -240,10 +239,10 @@ def run_style(_progress, calls, _work, _options):
     return "passed"
 
 
-def run_pages(progress, calls, work, _options):
+def run_pages(progress, calls, _work, options):
     """What the pages show."""
     needs("bash", "awk")
-    folder, lacking = built_programs(work)
+    folder, lacking = options.programs
     if not folder:
         raise Skipped(lacking)
     take = lambda line: progress.say("pages", line.rstrip()) if not line.endswith(", 0 wrong\n") else None
@@ -311,6 +310,7 @@ def main():
     for number in (signal.SIGTERM, signal.SIGINT):
         signal.signal(number, calls.end_all)
     try:
+        options.programs = built_programs(work)
         with ThreadPoolExecutor(max(1, options.jobs)) as pool:
             passed = list(pool.map(lambda part: run_part(part, progress, calls, work, options), parts))
     finally:
