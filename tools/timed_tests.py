@@ -1,5 +1,4 @@
 """Runs unittest's test cases in processes of their own, several at once, each test with a limit of seconds, and tells what each took."""
-import multiprocessing
 import os
 import signal
 import sys
@@ -7,7 +6,7 @@ import tempfile
 import time
 import traceback
 import unittest
-from multiprocessing.connection import wait
+from multiprocessing.connection import Pipe, wait
 
 import bounded
 
@@ -62,7 +61,7 @@ class Told(unittest.TestResult):
 
 
 def run_here(tests, pipe, file):
-    """What a process of its own does: runs these tests, in a session of its own, and sends what became of them."""
+    """What a child does: runs these tests, in a session of its own, and sends what became of them."""
     os.setsid()
     signal.signal(signal.SIGTERM, signal.SIG_DFL)
     os.dup2(os.open(os.devnull, os.O_RDONLY), 0)
@@ -81,14 +80,22 @@ class Group:
         self.name, self.tests, self.left = name, tests, {name_of(test): test for test in tests}
         self.rows, self.open, self.since, self.is_done, self.began = [], None, 0.0, False, None
 
-    def start(self, context):
-        """Begins those that are left."""
-        self.pipe, other = context.Pipe(duplex=False)
+    def start(self):
+        """Begins those that are left, in a child."""
+        self.pipe, other = Pipe(duplex=False)
         self.said = tempfile.TemporaryFile()
         self.open, self.since, self.is_done = None, time.monotonic(), False
         self.began = self.began or self.since
-        self.process = context.Process(target=run_here, args=(list(self.left.values()), other, self.said.fileno()))
-        self.process.start()
+        sys.stdout.flush()
+        sys.stderr.flush()
+        self.child = os.fork()
+        if self.child == 0:
+            try:
+                run_here(list(self.left.values()), other, self.said.fileno())
+            except BaseException:
+                traceback.print_exc()
+            finally:
+                os._exit(1)
         other.close()
 
     def take(self, message):
@@ -110,16 +117,13 @@ class Group:
         self.rows.append((name, how, why, seconds))
 
     def end(self, seconds):
-        """Kills the process with all that it started, where it is not done after so many seconds. Answers whether tests are left."""
+        """Ends the child with all that it started, done or not after so many seconds. Answers whether tests are left."""
         if not self.is_done:
             late = time.monotonic() - self.since
             why = f"it did not end within {seconds} seconds\n" if late > seconds else "its process ended\n"
             self.row(self.open or next(iter(self.left), self.name), FAILED, why, late)
-        try:
-            os.killpg(self.process.pid, signal.SIGKILL)
-        except (ProcessLookupError, PermissionError):
-            pass
-        self.process.join()
+        bounded.kill_group(self.child)
+        os.waitpid(self.child, 0)
         self.pipe.close()
         self.said.close()
         return not self.is_done and bool(self.left)
@@ -145,12 +149,12 @@ def groups_of(tests):
 
 def run_groups(groups, jobs, seconds, tell):
     """Runs the groups, so many at once, and tells of each that ended."""
-    context, waiting, running = multiprocessing.get_context("fork"), list(groups), []
+    waiting, running = list(groups), []
     try:
         while waiting or running:
             while waiting and len(running) < jobs:
                 running.append(waiting.pop(0))
-                running[-1].start(context)
+                running[-1].start()
             ready = wait([it.pipe for it in running], timeout=1)
             for group in [it for it in running if it.pipe in ready]:
                 try:
