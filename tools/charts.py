@@ -1,7 +1,7 @@
 #!/usr/bin/python3
 """charts.py CHART FILES.. --to PICTURE: charts of what the programs tell, as SVG, PDF or PNG
 
-    charts.py ended ENDS.csv          what ended each stage over the day, from `junction_trace how-ended .. [--terms] --csv`
+    charts.py ended ENDS.csv          what ended each stage over the day, from `junction_trace how-ended .. --csv`
     charts.py arrivals LOG --serves 1,2:K1        arrivals against green, by the second of the cycle
     charts.py percentiles SUMS.csv    how long greens, reds, cycles or waits were, from `log_report sums .. --csv`
     charts.py heat SUMS.csv --show GROUP:K1:share a number by day and hour, from `log_report sums .. --each 3600 --csv`

@@ -11,7 +11,8 @@ junction_check, junction_trace and log_report, as tools/install.py lays them. Of
 - each line of any other indented block must be a line that these commands wrote, or the drawing of a group's aspects, with `.`
   for red;
 - a fenced block that is named for a file is that file; any other fenced block is a form, or needs what isn't here, and is not
-  run.
+  run. Of a page whose commands all stand in fenced blocks `sh`, those that begin with a built program, with `sed` or with a
+  variable are run.
 
 No command may change a file of the repository. The log of each example is judged too, and must be safe. It prints a line for
 each page, and ends with status 1 where one is wrong."""
@@ -57,6 +58,14 @@ def parts_of(page):
             blocks.append(block)
             block = []
     return blocks, {name: lines for name, lines in files.items() if "." in name}
+
+
+def fenced_commands(page):
+    """The lines of the fenced `sh` blocks of a page that run a built program, or make what it reads."""
+    begins = re.compile(rf"(?:{'|'.join(PROGRAMS)}|sed) |[A-Z]+=")
+    text = page.read_text(encoding="utf-8")
+    blocks = re.findall(r"^```sh\n(.*?)^```$", text, re.MULTILINE | re.DOTALL)
+    return [line for block in blocks for line in block.split("\n") if begins.match(line)]
 
 
 def command_of(line):
@@ -130,7 +139,9 @@ def run_page(programs, page, folder):
     blocks, files = parts_of(page)
     commands = [block for block in blocks if is_command(block)]
     shown = [line for block in blocks if not is_command(block) and not is_program(block) for line in block]
-    if not commands:
+    if shown and not commands:
+        commands = [fenced_commands(page)]
+    if not any(commands):
         return [f"no command writes: {line}" for line in shown], len(shown)
     tree, home = folder / "tree", folder / "home"
     home.mkdir()
