@@ -3,9 +3,9 @@
 
 Makes the sites of all traffic lights of a SUMO network (NET, or the .sumocfg that names it), with the options of
 site_from_sumo.py: FOLDER/1, FOLDER/2, .. and FOLDER/sites.csv with, of each light, its id, its folder, the numbers of groups,
-stages, detectors, conflicts and permitted pairs, or why no site can be made. Prints these reasons. --each-program makes one more
-of each further program of a light, FOLDER/N.ID, for times of the day; `TLS=FOLDER/N.ID` drives it. Status 1 where no light has
-a site."""
+stages, detectors, conflicts and permitted pairs, or why no site can be made. Prints these reasons. --each-program makes one
+more of each further program of a light, FOLDER/N.ID, for times of the day; `TLS=FOLDER/N.ID` drives it. Status 1 where no
+light has a site."""
 import re
 import sys
 from pathlib import Path

@@ -45,7 +45,8 @@ def read_words():
     words.add_argument("--begin", type=whole_from(0, 604_800), metavar="S", help="the first second, 0")
     words.add_argument("--sumo-words", default="", metavar="WORDS", help="further words for SUMO")
     words.add_argument("--junction", default="junction", metavar="PROGRAM", help="the built program")
-    words.add_argument("--library", action="store_true", help="the Python package `vantulig` in its place; PROGRAM judges the logs")
+    words.add_argument("--library", action="store_true",
+                       help="the Python package `vantulig` in its place; PROGRAM judges the logs")
     words.add_argument("--scheduler", metavar="ADDRESS", help="a scheduler of Dask, as tcp://host:8786")
     words.add_argument("--workers", type=whole_from(1, 999), default=2, metavar="N", help="processes of this machine, 2")
     words.add_argument("--to", type=Path, default=Path("study.csv"), metavar="CSV", help="study.csv; the plot is CSV with .svg")

@@ -106,7 +106,8 @@ class Driver(unittest.TestCase):
 
     def test_faults_and_refusals_are_counted(self):
         made = self.light()
-        for record in ("1|S1|RR|-|K1:Intergreen:K2|-\n", "2|S1|RR|-|-|ZeroDivisor@3\n", "3|S1|RR|-|-|ZeroDivisor@3\n", "4|S1|RR|-|-|-\n"):
+        for record in ("1|S1|RR|-|K1:Intergreen:K2|-\n", "2|S1|RR|-|-|ZeroDivisor@3\n", "3|S1|RR|-|-|ZeroDivisor@3\n",
+                       "4|S1|RR|-|-|-\n"):
             made.show(record)
         self.assertEqual((made.seconds, made.refused, made.faults, made.first_fault), (4, 1, 2, "ZeroDivisor@3 in second 2"))
 
@@ -167,7 +168,8 @@ class Scenario(unittest.TestCase):
         return SimpleNamespace(**{"net": "n.net.xml", "begin": None, "step_length": None, "sumo_words": "", **more})
 
     def test_times(self):
-        self.assertEqual([scenario.seconds_of(text) for text in ("12.5", "7:00:00", "1:0:00:05", "later")], [12.5, 25200, 86405, None])
+        self.assertEqual([scenario.seconds_of(text) for text in ("12.5", "7:00:00", "1:0:00:05", "later")],
+                         [12.5, 25200, 86405, None])
         for step, steps in ((None, 1), (0.5, 2), (0.1, 10)):
             given = self.given(step_length=step)
             scenario.set_times(given)
@@ -228,7 +230,8 @@ class SecondJudge(unittest.TestCase):
                                (at(13, ["RR"]), "second 14: A was amber for 2 s, and has 3"),
                                (at(8, ["GG"]), "second 9: A is G and B G")):
             self.assertIn(said, self.breaches(pictures)[0])
-        self.assertEqual(self.breaches(at(13, ["AG"]), {(0, 1)})[1], ["second 14: the ways of links 0 and 1 cross, and both drive"])
+        self.assertEqual(self.breaches(at(13, ["AG"]), {(0, 1)})[1],
+                         ["second 14: the ways of links 0 and 1 cross, and both drive"])
 
     def test_lines_that_cross(self):
         self.assertTrue(judge_sumo.is_crossed([(0, 0), (10, 0)], [(5, -5), (5, 5)]))

@@ -93,8 +93,8 @@ def own_of(site, conflicts):
 
 
 def set_intergreens(site, conflicts, given):
-    """Of each pair of groups in conflict, both ways, the whole seconds: the longest of their links, at least the amber. Behind a
-    detour they are computed in any case: amber and all-red of the network's program don't reach so far."""
+    """Of each pair of groups in conflict, both ways, the whole seconds: the longest of their links, at least the amber. Behind
+    a detour they are computed in any case: amber and all-red of the network's program don't reach so far."""
     values = clearing.values_of(given)
     own = own_of(site, conflicts) if given.intergreens == "own" else {}
     for a, b, one, other in conflicts:

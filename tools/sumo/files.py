@@ -31,7 +31,8 @@ def area_of(name, stretch):
     """SUMO's text of a lane area over a stretch of lanes."""
     lanes, begin, end = stretch
     where = f"lane={quoteattr(lanes[0])}" if len(lanes) == 1 else f"lanes={quoteattr(' '.join(lanes))}"
-    return f'<laneAreaDetector id={quoteattr(name)} {where} pos="{begin:.2f}" endPos="{end:.2f}" freq="100000" file="/dev/null"/>'
+    place = f'{where} pos="{begin:.2f}" endPos="{end:.2f}"'
+    return f'<laneAreaDetector id={quoteattr(name)} {place} freq="100000" file="/dev/null"/>'
 
 
 def write_detectors(site, folder):

@@ -1,4 +1,4 @@
-"""What a network tells of one traffic light: its links with their ways over the junctions, who yields to whom, and its program."""
+"""What a network tells of one traffic light: its links with their ways over the junctions, who yields to whom, its program."""
 from dataclasses import dataclass, field
 
 from reading import Refused
@@ -28,8 +28,8 @@ class Link:
 @dataclass
 class Light:
     """A traffic light: its links in the order of their places, its program, the lanes that lead to it, and of each crossing the
-    areas in which people wait for it. A detour is a link, another one that meets it behind its own way, and its line up to there:
-    over a lane and a way that isn't under the light."""
+    areas in which people wait for it. A detour is a link, another one that meets it behind its own way, and its line up to
+    there: over a lane and a way that isn't under the light."""
     name: str
     junction: str
     program: object
@@ -55,8 +55,8 @@ def kind_of(lane):
     if allowed and allowed <= RAIL:
         if "tram" in allowed:
             return "tram"
-        raise Refused(0, f"lane {lane.get('id')} is for {', '.join(sorted(allowed))} alone, and a crossing with a railway isn't "
-                         "cleared by intergreens: take its links out of the light")
+        raise Refused(0, f"lane {lane.get('id')} is for {', '.join(sorted(allowed))} alone, and a crossing with a railway "
+                         "isn't cleared by intergreens: take its links out of the light")
     if allowed == {"bicycle"}:
         return "bicycle"
     return "foot" if allowed == {"pedestrian"} else "car"
@@ -91,8 +91,8 @@ def make_links(own, network):
             raise Refused(0, f"the crossing {connection.get('to')} has a letter for each of its directions: give it one "
                              "(linkIndex alone)")
         if id(connection) not in network.place:
-            raise Refused(0, f"the way {lane_name(connection, 'from')} to {lane_name(connection, 'to')} lies on no junction with "
-                             "a right of way: give its junction a type with one, as traffic_light")
+            raise Refused(0, f"the way {lane_name(connection, 'from')} to {lane_name(connection, 'to')} lies on no junction "
+                             "with a right of way: give its junction a type with one, as traffic_light")
         lane = lanes[lane_name(connection, "from")]
         kind = "foot" if connection.get("to").startswith(":") else kind_of(lane)
         links.append(Link(int(connection.get("linkIndex")), network.place[id(connection)], lane.get("id"),

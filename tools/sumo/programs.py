@@ -68,12 +68,14 @@ def rings_of(logic):
         ends = [k for k, name in enumerate(ring) if any(name in barrier for barrier in barriers)]
         if len(ends) != 2:
             raise Refused(0, "the rings of its NEMA program don't have two barriers each")
-        parts.append([[name for name in ring[:ends[0] + 1] if name != "0"], [name for name in ring[ends[0] + 1:] if name != "0"]])
+        halves = ring[:ends[0] + 1], ring[ends[0] + 1:]
+        parts.append([[name for name in half if name != "0"] for half in halves])
     return parts
 
 
 def nema_phases(logic, rounds_up):
-    """A stage for each two phases that may run at once, one of each ring, with the longer of their ambers and all-reds behind."""
+    """A stage for each two phases that may run at once, one of each ring, with the longer of their ambers and all-reds
+    behind."""
     by_name, phases = {phase.get("name"): phase for phase in logic.iter("phase")}, []
     first, second = rings_of(logic)
     for side in (0, 1):

@@ -146,7 +146,8 @@ def start(sumo, call, errors):
             if sumo.__name__ == "libsumo":
                 sumo.start(call)
             else:  # with a port of its own, else SUMO is started again and again where it doesn't start
-                sumo.start(call, port=importlib.import_module("sumolib.miscutils").getFreeSocketPort(), stdout=subprocess.DEVNULL)
+                port = importlib.import_module("sumolib.miscutils").getFreeSocketPort()
+                sumo.start(call, port=port, stdout=subprocess.DEVNULL)
         except (OSError, RuntimeError, sumo.TraCIException, getattr(sumo, "FatalTraCIError", OSError)) as fault:
             if isinstance(fault, FileNotFoundError):
                 raise NotStarted(f"`{call[0]}` isn't there (Debian: apt-get install sumo)") from None

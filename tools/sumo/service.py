@@ -7,9 +7,9 @@ MOST_INTERSTAGES = 256
 
 
 def served_of(site):
-    """Of each lane, by its place, the stages that serve it: of those in which most of its links are green those that show one of
-    them `G`, or `g` where the link never has `G`. So who waits in a lane for another stage, beside a right turn that is green,
-    doesn't prolong this one."""
+    """Of each lane, by its place, the stages that serve it: of those in which most of its links are green those that show one
+    of them `G`, or `g` where the link never has `G`. So who waits in a lane for another stage, beside a right turn that is
+    green, doesn't prolong this one."""
     phases, greens, served = site.light.phases, {}, {}
     for link in site.light.links:
         if link.kind == "foot":
@@ -42,7 +42,8 @@ def set_served(site):
 
 def walking_of(site):
     """The groups that are people on foot alone."""
-    return {group for group, places in enumerate(site.groups) if all(site.light.links[place].kind == "foot" for place in places)}
+    return {group for group, places in enumerate(site.groups)
+            if all(site.light.links[place].kind == "foot" for place in places)}
 
 
 def part_walking(site):

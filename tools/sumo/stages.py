@@ -29,12 +29,13 @@ def groups_of(light):
     columns = {}
     for place, link in enumerate(light.links):
         if any(link.index >= len(phase.state) for phase in light.phases):
-            raise Refused(0, f"link {link.index} has no letter in some phase: give each state as many letters as there are links")
+            raise Refused(0, f"link {link.index} has no letter in some phase: give each state as many letters as there are "
+                             "links")
         column = "".join(phase.state[link.index] for phase in light.phases)
         wrong = sorted(set(column) - set("GgYyru"))
         if wrong:
-            raise Refused(0, f"link {link.index} shows '{wrong[0]}' ({NO_ASPECT.get(wrong[0], 'unknown')}), which is no aspect: "
-                             "another program of the light, without it")
+            raise Refused(0, f"link {link.index} shows '{wrong[0]}' ({NO_ASPECT.get(wrong[0], 'unknown')}), which is no "
+                             "aspect: another program of the light, without it")
         if not set(column) & set(GREEN):
             raise Refused(0, f"link {link.index} is never green: give it a green in some phase, or take it out of the light")
         columns.setdefault(column, []).append(place)
@@ -87,8 +88,8 @@ def detectors_of(light):
     lanes = list(dict.fromkeys(link.lane for link in light.links if link.kind != "foot"))
     pushes = list(light.waits)
     if len(lanes) + len(pushes) > MOST_DETECTOR:
-        raise Refused(0, f"it has {len(lanes)} lanes and {len(pushes)} crossings, more than {MOST_DETECTOR} detectors: part the "
-                         "light")
+        raise Refused(0, f"it has {len(lanes)} lanes and {len(pushes)} crossings, more than {MOST_DETECTOR} detectors: part "
+                         "the light")
     return lanes, pushes
 
 

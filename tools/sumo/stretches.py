@@ -13,7 +13,8 @@ def length(network, lane):
 def lane_before(network, lane, seen):
     """The lane that leads straight on into this one, else any one that does: through the inner lanes of the junction between
     them. Gives the lanes to put before it, nothing where none leads there."""
-    ways = [way for way in network.into.get(lane, []) if not way.get("from").startswith(":") and lane_name(way, "from") not in seen]
+    ways = [way for way in network.into.get(lane, [])
+            if not way.get("from").startswith(":") and lane_name(way, "from") not in seen]
     if not ways:
         return []
     way = min(ways, key=lambda one: (one.get("dir") != "s", -length(network, lane_name(one, "from"))))
@@ -35,8 +36,8 @@ def stretch_of(network, lane, metres):
         lanes = more + lanes
         reached += sum(length(network, one) for one in more)
     if reached - 0.2 < LEAST:
-        raise Refused(0, f"lane {lane} is {reached:.1f} m long, which leaves no metre for a lane area, and no lane leads to it: "
-                         "join it with the one before it (netconvert --geometry.remove)")
+        raise Refused(0, f"lane {lane} is {reached:.1f} m long, which leaves no metre for a lane area, and no lane leads to "
+                         "it: join it with the one before it (netconvert --geometry.remove)")
     begin = min(max(0.1, reached - 0.1 - metres), length(network, lanes[0]) - 0.1)
     return lanes, begin, length(network, lane) - 0.1
 
