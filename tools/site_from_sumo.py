@@ -12,9 +12,9 @@ Makes the site of a traffic light of a SUMO network (NET, or the .sumocfg that n
   notes.txt          what was decided, and by which rule
 
 Groups are links whose letters are the same in all phases. A stage is a run of phases with the same greens and without amber or
-red-amber in which a group turns green, or which lasts at least LEAST seconds. Links that are foes in the junction's right of way
-are in conflict, unless a phase of the network's own program shows both green and one of them yields: such a pair is permitted
-and told. A light of which no site can be made is refused with the reason and what would make it one (status 1).
+red-amber in which a group turns green, or which lasts at least LEAST seconds. Links that are foes in the junction's right of
+way are in conflict, unless a phase of the network's own program shows both green and one of them yields: such a pair is
+permitted and told. A light of which no site can be made is refused with the reason and what would make it one (status 1).
 docs/sumo-sites.md has the rules."""
 import argparse
 from pathlib import Path
@@ -42,6 +42,10 @@ def words_of(text):
     words.add_argument("--round-up", action="store_true", help="take phases without whole seconds as the next longer ones")
     words.add_argument("--gap", type=whole_from(0, 99), default=0, metavar="S",
                        help="seconds for which the lane areas are empty before a stage ends, 0")
+    words.add_argument("--weight", type=whole_from(0, 99), default=4, metavar="W",
+                       help="a stage ends without a gap where for each vehicle on its lanes W are on others, 4; 0: never")
+    words.add_argument("--fair", type=whole_from(0, 9999), default=12, metavar="S",
+                       help="seconds that a stage has lasted before that, 12")
     words.add_argument("--begin", type=whole_from(0, 604_800), default=0, metavar="S",
                        help="the simulation's first second, from which coordinated.vap counts, 0")
     words.add_argument("--area-seconds", type=clearing.number_from(0.1), default=4.0, metavar="S",

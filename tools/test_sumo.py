@@ -13,16 +13,18 @@ os.environ.setdefault("SUMO_HOME", "/usr/share/sumo")
 import test_sumo_guarded
 import test_sumo_loop
 import test_sumo_nets
+import test_sumo_programs
 import test_sumo_sites
 import test_sumo_study
 from test_sumo_guarded import *
 from test_sumo_loop import *
 from test_sumo_nets import *
+from test_sumo_programs import *
 from test_sumo_sites import *
 from test_sumo_study import *
 
-__all__ = [name for tests in (test_sumo_guarded, test_sumo_loop, test_sumo_nets, test_sumo_sites, test_sumo_study)
-           for name in tests.__all__]
+__all__ = [name for tests in (test_sumo_guarded, test_sumo_loop, test_sumo_nets, test_sumo_programs,
+                                   test_sumo_sites, test_sumo_study) for name in tests.__all__]
 
 if __name__ == "__main__":
     unittest.main()

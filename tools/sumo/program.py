@@ -1,4 +1,4 @@
-"""The programs of a site: on demand, and coordinated by the network's own cycle and offsets. Both are made of the same parts."""
+"""The programs of a site: on demand, and coordinated by the network's own cycle and offsets, both of the same parts."""
 from sumo.plan import holds_of, interstage_of, pairs_of, reach_of
 from sumo.service import bases_of, walks_of
 
@@ -12,11 +12,11 @@ def arrays_of(lists, first, behind, names):
     return {first: begins[:-1], behind: begins[1:], names: elements or [1]}
 
 
-LOOK = """/* Of stage `at`: whether somebody asks for it, whether all its lanes have a gap{pushed_told}. */
+LOOK = """/* Of stage `at`: whether somebody asks for it, whether all its lanes have a gap{here_told}{pushed_told}. */
 SUBROUTINE look;
   is_asked := 0;
   has_gap := 1;
-{pushed_begin}  k := first[at];
+{here_begin}{pushed_begin}  k := first[at];
 next_lane:
   IF k < behind[at] THEN
     IF Detection(lane[k]) = 1 OR Occupancy(lane[k]) > 0 THEN
@@ -25,10 +25,28 @@ next_lane:
     IF Headway(lane[k]) <= gap OR Occupancy(lane[k]) > 0 THEN
       has_gap := 0
     END;
-    k := k + 1;
+{here}    k := k + 1;
     GOTO next_lane
   END;
 {pushes}PROG_ENDE: .
+"""
+
+HERE = "    here := here + Front_ends(lane[k]) - Rear_ends(lane[k]);\n"
+
+WEIGH = """/* Whether those on the stage's lanes are few: for each of them at least `weight` are on other lanes. */
+SUBROUTINE weigh;
+  waiting := 0 - here;
+  k := 1;
+next_of_all:
+  IF k <= lanes THEN
+    waiting := waiting + Front_ends(k) - Rear_ends(k);
+    k := k + 1;
+    GOTO next_of_all
+  END;
+  IF here * weight <= waiting THEN
+    is_due := 1
+  END;
+PROG_ENDE: .
 """
 
 PUSHES = """  k := pushed[at];
@@ -119,7 +137,11 @@ ALONE = """IF walk[at] = 0 THEN
 END;
 """
 
-ON_DEMAND = """{own_push}IF lasted < briefest OR NOT is_settled OR NOT has_gap AND lasted < most[stage] THEN
+ON_DEMAND = """{own_push}is_due := 0;
+IF has_gap OR lasted >= most[stage] THEN
+  is_due := 1
+END;
+{weigh_up}IF lasted < briefest OR NOT is_settled OR NOT is_due THEN
   GOTO PROG_ENDE
 END;
 {start}again:
@@ -136,6 +158,11 @@ IF NOT is_asked THEN
 END;
 {shorten}{to_walk}Interstage(stage, at);
 PROG_ENDE: .
+"""
+
+WEIGH_UP = """IF lasted >= fair AND NOT is_due THEN
+  GOSUB weigh
+END;
 """
 
 COORDINATED = """{own_push}is_due := 0;
@@ -217,24 +244,29 @@ STAY = """  IF own_push AND walk[stage] > 0 THEN
   END;
 """
 
-ON_DEMAND_TOLD = """/* Made by tools/site_from_sumo.py. Stage s has the groups group[begin[s]] to group[end_of[s] - 1], and serves the
-   detectors lane[first[s]] to lane[behind[s] - 1].{pushes_told}
-   A stage ends once its greens have lasted their minimum and its lanes have a gap, or at its most, where another one is asked
-   for; the next one that is asked for comes, and stages that nobody asks for are left out. */
+TOLD = """/* Made by tools/site_from_sumo.py. Stage s has the groups group[begin[s]] to group[end_of[s] - 1], and serves
+   the detectors lane[first[s]] to lane[behind[s] - 1].{pushes_told}
+"""
+
+ON_DEMAND_TOLD = TOLD + """\
+   A stage ends once its greens have lasted their minimum and its lanes have a gap, or at its most, where
+   another one is asked for; the next one that is asked for comes, and stages that nobody asks for are left out.{weight_told} */
 PROGRAM on_demand;
 """
 
-COORDINATED_TOLD = """/* Made by tools/site_from_sumo.py. Stage s has the groups group[begin[s]] to group[end_of[s] - 1], and serves the
-   detectors lane[first[s]] to lane[behind[s] - 1].{pushes_told}
-   The cycle is the network's, and its clock stands at `shift` in the first second, by the light's offset. Stage main_stage stands
-   until off[main_stage] in each cycle. Each other one that is asked for ends with a gap, or at off[s]; it is left out where
-   fewer than need[s] seconds are left until then. What the others leave is green of the main stage. */
+WEIGHT_TOLD = ("\n   It ends without a gap too, once it has lasted `fair` seconds and the vehicles on its lanes are few "
+               "against those on others.")
+
+COORDINATED_TOLD = TOLD + """\
+   The cycle is the network's, and its clock stands at `shift` in the first second, by the light's offset.
+   Stage main_stage stands until off[main_stage] in each cycle. Each other one that is asked for ends with a gap, or at off[s];
+   it is left out where fewer than need[s] seconds are left until then. What the others leave is green of the main stage. */
 PROGRAM coordinated;
 """
 
-PUSHED_TOLD = (" Its push buttons are push[pushed[s]] to\n   push[over[s] - 1]; where somebody waits, stage walk[s] comes in its "
-               "place, with people on foot, and gives way to s once they\n   have had their minimum. Of walker[foot[s]] to "
-               "walker[past[s] - 1] the road is clear before s ends.")
+PUSHED_TOLD = (" Its push buttons are push[pushed[s]] to\n   push[over[s] - 1]; where somebody waits, stage walk[s] comes "
+               "in its place, with people on foot, and gives way to s once they\n   have had their minimum. Of walker[foot[s]] "
+               "to walker[past[s] - 1] the road is clear before s ends.")
 
 
 def arrays_for(site):
@@ -248,9 +280,10 @@ def arrays_for(site):
     arrays.update(arrays_of([stage.greens for stage in site.stages], "begin", "end_of", "group"))
     arrays["least"] = site.least
     if len(bases) < len(site.stages):
-        ended = [[group for group in site.stages[stage.base].greens if group < 0] if stage.base is not None else
-                 [] if walks[place] is None else [group for group in site.stages[walks[place]].greens if group not in stage.greens]
-                 for place, stage in enumerate(site.stages)]
+        walked = [None if stage.base is not None or walks[place] is None else site.stages[walks[place]]
+                  for place, stage in enumerate(site.stages)]
+        ended = [[group for group in walk.greens if group not in stage.greens] if walk else []
+                 for walk, stage in zip(walked, site.stages)]
         arrays.update(arrays_of(ended, "foot", "past", "walker"))
         arrays["hold"] = holds_of(site)
         arrays["base"] = [stage.base + 1 for stage in site.stages[len(bases):]]
@@ -266,7 +299,7 @@ def parts_of(site):
     return {
         "pushes_told": PUSHED_TOLD if has_walks else " Its push buttons are push[pushed[s]] to push[over[s] - 1]." if has_pushes
         else "",
-        "pushed_told": ", and whether somebody pushed for it" if has_pushes else "",
+        "pushed_told": ",\n   and whether somebody pushed for it" if has_pushes else "",
         "pushed_begin": "  is_pushed := 0;\n" if has_pushes else "", "pushes": PUSHES if has_pushes else "",
         "cleared_told": ", and those who walked beside it have left the road" if has_walks else "",
         "cleared": CLEARED if has_walks else "", "base": BASE if has_walks else "",
@@ -280,8 +313,9 @@ def parts_of(site):
 def text_of(told, constants, arrays, parts, body, **more):
     """The lines of a program."""
     texts = [f"{name}[{len(values)}] = [{', '.join(map(str, values))}]" for name, values in arrays.items()]
-    head = told + "VAP_FREQUENCY 1;\nCONST {constants};\nARRAY {arrays};\n" + LOOK + "{answer}" + SETTLE
-    parts = {"clock": "", "arrive": "", **parts, **more, "constants": constants, "arrays": ",\n  ".join(texts)}
+    head = told + "VAP_FREQUENCY 1;\nCONST {constants};\nARRAY {arrays};\n" + LOOK + "{weigh}{answer}" + SETTLE
+    empty = dict.fromkeys(("clock", "arrive", "here_told", "here_begin", "here", "weigh", "weigh_up", "weight_told"), "")
+    parts = {**empty, **parts, **more, "constants": constants, "arrays": ",\n  ".join(texts)}
     text = (head + more.get("remain", "") + FIND + body).format(**parts)
     return text.splitlines()
 
@@ -291,6 +325,10 @@ def program_of(site, given):
     parts, bases = parts_of(site), bases_of(site)
     constants = f"stages = {len(bases)}, gap = {given.gap}, briefest = {given.least_green}"
     constants += f", reach = {reach_of(site)}" if parts["is_far"] else ""
+    if given.weight:
+        constants += f", lanes = {len(site.lanes)}, fair = {given.fair}, weight = {given.weight}"
+        parts.update({"here_told": ", how many are on them", "here_begin": "  here := 0;\n", "here": HERE, "weigh": WEIGH,
+                      "weigh_up": WEIGH_UP, "weight_told": WEIGHT_TOLD})
     return text_of(ON_DEMAND_TOLD, constants, {"most": [stage.most for stage in bases], **arrays_for(site)}, parts, ON_DEMAND)
 
 
