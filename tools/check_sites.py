@@ -43,14 +43,19 @@ def run(*words):
     return subprocess.run([str(word) for word in words], capture_output=True, text=True)
 
 
+def log_at_random(junction, site, detectors, seconds, log, program=FILES[0]):
+    """Writes the log of a site with so many detectors, of counts at random, which are the same each time."""
+    counts = counts_at_random(detectors, seconds, site.name)
+    files = [site / program, *(site / name for name in FILES[1:])]
+    made = subprocess.run([junction, "run", *map(str, files), "/dev/stdin"], input=counts, capture_output=True, text=True)
+    log.write_text(made.stdout + made.stderr, encoding="ascii")
+
+
 def log_of(given, row, folder):
     """The file with the log of a site."""
     if given.logs:
         return given.logs / f"{row['folder']}.log"
-    (folder / "counts").write_text(counts_at_random(int(row["detectors"]), given.seconds, row["folder"]), encoding="ascii")
-    site = given.sites / row["folder"]
-    made = run(given.junction, "run", *(site / name for name in FILES), folder / "counts")
-    (folder / "log").write_text(made.stdout + made.stderr, encoding="ascii")
+    log_at_random(given.junction, given.sites / row["folder"], int(row["detectors"]), given.seconds, folder / "log")
     return folder / "log"
 
 

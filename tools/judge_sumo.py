@@ -9,9 +9,10 @@ network for itself, and shares no code with them. Of each second of each light i
   network  no two links whose ways cross on the junction, and which no phase of the network's programs shows green together, are
            green, or green and amber, at once
 
-Prints a line for each breach (of a pair of links the first one alone), then how many seconds of how many lights were judged, and
-how many pairs of ways cross. Status 1 where there was one. NET may be a .net.xml or .net.xml.gz."""
+Prints a line for each breach (of a pair of links the first one alone), then how many seconds of how many lights were judged,
+and how many pairs of ways cross. Status 1 where there was one. NET may be a .net.xml or .net.xml.gz."""
 import csv
+import functools
 import gzip
 import sys
 import xml.etree.ElementTree as tree
@@ -48,8 +49,9 @@ def ways_in(root):
 
 
 def together_in(root):
-    """Of each light the pairs of letters that some phase of one of its programs shows green at once. The phases of a NEMA program
-    are halves of a picture, so that a pair is green at once unless a phase of each ring has it in another group of the barrier."""
+    """Of each light the pairs of letters that some phase of one of its programs shows green at once. The phases of a NEMA
+    program are halves of a picture, so that a pair is green at once unless a phase of each ring has it in another group of the
+    barrier."""
     pairs = {}
     for logic in root.iter("tlLogic"):
         states = [phase.get("state") for phase in logic.iter("phase")]
@@ -72,7 +74,8 @@ def crossing_pairs(ways, together):
     for place, (index, lane, _, line) in enumerate(ways):
         for other, other_lane, _, other_line in ways[place + 1:]:
             pair = min(index, other), max(index, other)
-            if index != other and lane != other_lane and pair not in together and pair not in found and is_crossed(line, other_line):
+            is_known = index == other or lane == other_lane or pair in together or pair in found
+            if not is_known and is_crossed(line, other_line):
                 found.add(pair)
     return found
 
@@ -82,12 +85,22 @@ def rows_in(file):
         return list(csv.DictReader(lines))
 
 
-def breaches_of_tables(names, pictures, site):
+def pictures_in(log):
+    """The groups of a log, its seconds, and the pictures that differ from the one before, each with its second."""
+    lines, changes = log.read_text(encoding="ascii").splitlines(), []
+    for line in lines[1:]:
+        second, _, picture = line.split("|", 3)[:3]
+        if not changes or changes[-1][1] != picture:
+            changes.append((int(second), picture))
+    return lines[0].split()[2:], len(lines) - 1, changes
+
+
+def breaches_of_tables(names, changes, site):
     """Breaches of times.csv and intergreens.csv."""
     times = {row["group"]: (int(row["min_green"]), int(row["amber"])) for row in rows_in(site / "times.csv")}
     place, ended, begun, shown = {name: k for k, name in enumerate(names)}, {}, {}, ["R"] * len(names)
     pairs = [(place[row["from"]], place[row["to"]], int(row["seconds"])) for row in rows_in(site / "intergreens.csv")]
-    for second, picture in pictures:
+    for second, picture in changes:
         for k, (before, now) in enumerate(zip(shown, picture)):
             least, amber = times[names[k]]
             if before == "G" and now != "G":
@@ -106,45 +119,57 @@ def breaches_of_tables(names, pictures, site):
         shown = list(picture)
 
 
-def breaches_of_network(names, pictures, site, pairs):
+def breaches_of_network(names, changes, site, pairs):
     """Breaches of the ways' crossing; of each pair of links the first one."""
-    links = {}
+    links, first = {}, {}
     for row in rows_in(site / "links.csv"):
         links.setdefault(int(row["index"]), set()).add(names.index(row["group"]))
+    for second, picture in changes:
+        first.setdefault(picture, second)
     for a, b in sorted(pairs):
-        for second, picture in pictures:
+        for picture, second in first.items():
             one, other = ({picture[k] for k in links.get(index, ())} for index in (a, b))
             if "G" in one and other & set("GA") or "G" in other and one & set("GA"):
                 yield f"second {second}: the ways of links {a} and {b} cross, and both drive"
                 break
 
 
+@functools.lru_cache(2)
+def network_in(net):
+    """The ways of each light of a network, and the pairs of letters that its programs show green at once."""
+    with (gzip.open(net) if str(net).endswith(".gz") else open(net, "rb")) as file:
+        root = tree.parse(file).getroot()
+    return ways_in(root), together_in(root)
+
+
+def judge(net, sites, logs):
+    """The breaches in the logs of these lights, given with their folders, as lines; and how many lights, seconds and pairs of
+    ways that cross were judged."""
+    ways, together = network_in(net)
+    breaches, lights, seconds, crossed = [], 0, 0, 0
+    for light, site in sites:
+        log = logs / f"{site.name}.log"
+        if not log.exists():
+            breaches.append(f"{light}: there is no log {log}")
+            continue
+        names, made, changes = pictures_in(log)
+        pairs = crossing_pairs(ways[light], together[light])
+        found = (*breaches_of_tables(names, changes, site), *breaches_of_network(names, changes, site, pairs))
+        breaches += [f"{light}: {breach}" for breach in found]
+        lights, seconds, crossed = lights + 1, seconds + made, crossed + len(pairs)
+    return breaches, (lights, seconds, crossed)
+
+
 def main():
     if len(sys.argv) != 4 or sys.argv[1].startswith("-"):
         print(__doc__)
         return 0 if sys.argv[1:] in (["-h"], ["--help"]) else 2
-    net, sites, logs = sys.argv[1], Path(sys.argv[2]), Path(sys.argv[3])
-    with (gzip.open(net) if net.endswith(".gz") else open(net, "rb")) as file:
-        root = tree.parse(file).getroot()
-    ways, together, count, seconds, crossed, lights = ways_in(root), together_in(root), 0, 0, 0, 0
-    for row in rows_in(sites / "sites.csv"):
-        if not row["folder"]:
-            continue
-        site, log = sites / row["folder"], logs / f"{row['folder']}.log"
-        if not log.exists():
-            print(f"{row['light']}: there is no log {log}")
-            count += 1
-            continue
-        lines = log.read_text(encoding="ascii").splitlines()
-        names = lines[0].split()[2:]
-        pictures = [(int(line.split("|")[0]), line.split("|")[2]) for line in lines[1:]]
-        pairs = crossing_pairs(ways[row["light"]], together[row["light"]])
-        for breach in (*breaches_of_tables(names, pictures, site), *breaches_of_network(names, pictures, site, pairs)):
-            count += 1
-            print(f"{row['light']}: {breach}")
-        seconds, crossed, lights = seconds + len(pictures), crossed + len(pairs), lights + 1
-    print(f"{lights} lights, {seconds} seconds, {crossed} pairs of ways that cross: {count} breaches")
-    return 1 if count else 0
+    sites = Path(sys.argv[2])
+    made = [(row["light"], sites / row["folder"]) for row in rows_in(sites / "sites.csv") if row["folder"]]
+    breaches, (lights, seconds, crossed) = judge(sys.argv[1], made, Path(sys.argv[3]))
+    print(*breaches, f"{lights} lights, {seconds} seconds, {crossed} pairs of ways that cross: {len(breaches)} breaches",
+          sep="\n")
+    return 1 if breaches else 0
 
 
 if __name__ == "__main__":

@@ -3,33 +3,33 @@
 
 Makes two tables over the networks of SUMO's packages and some of netgenerate's, in FOLDER/networks.md, and prints them:
 
-  coverage   of each network its lights, those of one stage alone, the sites that are made, and why each other light has none
-  time loss  of the driven networks SEEDS runs under SUMO's `actuated`, under the made program with computed intergreens, and with
-             those of the network's own program: mean time loss with its 95 % interval, and the difference from `actuated` seed
-             by seed; then seconds with a refused turn or a fault, logs that `junction audit` doesn't judge SAFE, and what
-             judge_sumo.py finds in the logs of the first seed's runs
+  coverage   of each network its lights, those of one stage alone, the sites that are made, and why each other light has none;
+             of ten minutes of counts at random for each site and program the logs that `junction audit` doesn't judge SAFE,
+             and the breaches that judge_sumo.py finds in them
+  time loss  of the driven networks SEEDS runs under SUMO's `actuated`, under the made program with computed intergreens, and
+             with those of the network's own program: mean time loss with its 95 % interval, and the difference from `actuated`
+             seed by seed; then seconds with a refused turn or a fault, and what both judges find in all logs
 
 Runs that are there already are kept by checksums of all that they come from (study_sumo.py). FOLDER/networks.progress tells how
 far it is. Status 1 where a run failed, a log isn't safe, or a judge found something. `--only NAME` takes one network alone."""
 import argparse
-import contextlib
-import importlib.util
-import io
 import os
+import shutil
 import subprocess
 import sys
 import tempfile
 from pathlib import Path
 from types import SimpleNamespace
 
-import judge_sumo
+from check_sites import log_at_random
 from reading import table_of, text_of, told, whole_from
 from sumo.networks import EXAMPLES, MADE, SHARE, TOWNS
-from sumo.study import controls_of, run_all, tasks_of
+from sumo.study import NOT_JUDGED, controls_of, judged, run_all, tasks_of
 from sumo.tables import cell_of, difference_of, total_of
 
 HERE = Path(__file__).resolve().parent
 NAMES = ("actuated", "vap", "vap-own")
+AT_RANDOM = 600  # seconds of counts at random for each site
 
 
 def call(script, *words):
@@ -48,57 +48,46 @@ def sites_for(net, file, folder):
     return table_of(text_of(table), "light", "folder", "stages", "refused")
 
 
-def coverage_of(net, rows, folder):
+def judged_at_random(net, file, folder, given):
+    """What both judges find in logs of counts at random, of each site and each of its programs."""
+    program, sums = shutil.which(given.junction), [0, 0]
+    if not program:
+        return [NOT_JUDGED, NOT_JUDGED]
+    for sites in (folder / "sites" / net.name, folder / "sites" / f"{net.name}-own"):
+        rows = [row for row in table_of(text_of(sites / "sites.csv"), "light", "folder", "detectors") if row["folder"]]
+        for name in ("on_demand.vap", "coordinated.vap"):
+            made = [row for row in rows if (sites / row["folder"] / name).exists()]
+            with tempfile.TemporaryDirectory() as logs:
+                for row in made:
+                    log = Path(logs) / f"{row['folder']}.log"
+                    log_at_random(program, sites / row["folder"], int(row["detectors"]), AT_RANDOM, log, name)
+                words = [f"{row['light']}={sites / row['folder']}" for row in made]
+                found = judged({"sites": words, "net": str(file), "junction": program, "seconds": AT_RANDOM}, Path(logs))
+            sums = [sums[0] + found["unsafe"], sums[1] + found["breaches"]]
+    return sums
+
+
+def coverage_of(net, rows, found, folder):
     """A row of the table of coverage."""
     made = [row for row in rows if row["folder"]]
     alone = sum(1 for row in made if "all red, for which nobody asks" in text_of(
         folder / "sites" / net.name / row["folder"] / "notes.txt"))
     why = "; ".join(f"{row['light']}: {row['refused']}" for row in rows if not row["folder"])
-    return [net.name, len(rows), alone, len(made), why]
+    return [net.name, len(rows), alone, len(made), *found, why]
 
 
 def study_of(net, file, folder, given):
     """The rows of the runs of a network, and how many failed."""
     site = folder / "sites" / net.name
     one = SimpleNamespace(
-        junction=given.junction, library=given.library, additional=[SHARE / name for name in net.additional], seconds=given.seconds,
-        begin=None, sumo_words="", net=file, routes=SHARE / net.routes if net.routes else None, period=net.period,
-        walkers=net.walkers, seeds=given.seeds, to=folder / f"{net.name}.csv", workers=given.workers)
+        junction=given.junction, library=given.library, additional=[SHARE / name for name in net.additional],
+        seconds=given.seconds, begin=None, sumo_words="", net=file, routes=SHARE / net.routes if net.routes else None,
+        period=net.period, walkers=net.walkers, seeds=given.seeds, to=folder / f"{net.name}.csv", workers=given.workers)
     controls = controls_of([f"actuated=actuated:{site}", f"vap=vap:{site}", f"vap-own=vap:{site}-own"])
     return run_all(one, tasks_of(one, controls))
 
 
-def judged(net, file, folder, given):
-    """What the second judge finds in the logs of a run of its own of a quarter of an hour; the number of breaches."""
-    site, count = folder / "sites" / net.name, 0
-    for sites in (site, Path(f"{site}-own")):
-        with tempfile.TemporaryDirectory() as name:
-            trips, logs = Path(name) / "trips.xml", Path(name) / "logs"
-            routes = SHARE / net.routes if net.routes else trips
-            if not net.routes:
-                subprocess.run([sys.executable, str(SHARE / "tools/randomTrips.py"), "-n", str(file), "-o", str(trips), "-e", "900",
-                                "-p", str(net.period)], check=True, capture_output=True, cwd=name)
-            more = [word for each in net.additional for word in ("--additional", SHARE / each)]
-            asked = ["--library"] if given.library else ["--junction", given.junction]
-            asked += ["--libsumo"] if importlib.util.find_spec("libsumo") else []
-            status, said = call("drive_sumo.py", *asked, "--seconds", min(900, given.seconds), "--logs", logs, *more, file, routes,
-                                sites)
-            if status != 0:
-                print(f"{net.name}: {said.strip()}", file=sys.stderr)
-                count += 1
-                continue
-            out, before = io.StringIO(), sys.argv
-            with contextlib.redirect_stdout(out):
-                sys.argv = ["judge_sumo.py", str(file), str(sites), str(logs)]
-                judge_sumo.main()
-            sys.argv = before
-            lines = out.getvalue().splitlines()
-            count += len(lines) - 1
-            print("".join(f"{net.name}: {line}\n" for line in lines[:-1]), end="", file=sys.stderr)
-    return count
-
-
-def loss_row(net, rows, breaches):
+def loss_row(net, rows):
     """A row of the table of time loss."""
     cells, own = [net.name], {name: [row for row in rows if row["name"] == name] for name in NAMES}
     for name in NAMES:
@@ -106,8 +95,8 @@ def loss_row(net, rows, breaches):
         if name != NAMES[0]:
             cells.append(difference_of(rows, name, NAMES[0]) if own[name] else "")
     driven = [row for row in rows if row["name"] != NAMES[0]]
-    cells += [total_of(driven, key) for key in ("refused", "faults", "unsafe")]
-    return [*cells, breaches, " / ".join(str(sum(int(row["collisions"]) for row in own[name])) for name in NAMES)]
+    cells += [total_of(driven, key) for key in ("refused", "faults", "unsafe", "breaches")]
+    return [*cells, " / ".join(str(sum(int(row["collisions"]) for row in own[name])) for name in NAMES)]
 
 
 def table(head, rows):
@@ -117,10 +106,11 @@ def table(head, rows):
 
 def coverage_lines(groups):
     """The tables of coverage, each with its sums."""
-    lines = []
+    lines, head = [], ["network", "lights", "of one stage", "sites", "logs not SAFE", "breaches", "without a site"]
     for title, rows in groups:
-        sums = ["all", *(sum(row[k] for row in rows) for k in (1, 2, 3)), ""]
-        lines += [f"### {title}", "", *table(["network", "lights", "of one stage", "sites", "without a site"], [*rows, sums]), ""]
+        columns = [[row[k] for row in rows] for k in range(1, 6)]
+        sums = ["all", *(NOT_JUDGED if NOT_JUDGED in column else sum(column) for column in columns), ""]
+        lines += [f"### {title}", "", *table(head, [*rows, sums]), ""]
     return lines
 
 
@@ -137,35 +127,44 @@ def read_words():
     return words.parse_args()
 
 
+def drive(net, file, folder, given):
+    """The row of a driven network, how many of its runs failed, and what the judges found."""
+    with told(net.name):
+        made, failed = study_of(net, file, folder, given)
+    row = loss_row(net, made)
+    print("| " + " | ".join(map(str, row)) + " |", file=sys.stderr, flush=True)
+    return row, failed, sum(int(row[key] or 0) for row in made for key in ("unsafe", "breaches"))
+
+
 def main():
     os.environ.setdefault("SUMO_HOME", str(SHARE))
     given = read_words()
-    given.folder.mkdir(parents=True, exist_ok=True)
+    folder = given.folder
+    folder.mkdir(parents=True, exist_ok=True)
     groups, losses, failed, wrong = [], [], 0, 0
     for title, nets in (("SUMO's towns", TOWNS), ("SUMO's examples", EXAMPLES), ("Made by netgenerate", MADE)):
         rows = []
         for net in nets:
             if given.only and net.name not in given.only:
                 continue
-            file = net.make(given.folder)
+            (folder / "networks.progress").write_text(f"{net.name}; {len(losses)} networks driven\n", encoding="utf-8")
+            file = net.make(folder)
             if file is None:
                 print(f"{net.name}: SUMO has no {net.file} here", file=sys.stderr)
                 continue
             with told(net.name):
-                rows.append(coverage_of(net, sites_for(net, file, given.folder), given.folder))
+                made = sites_for(net, file, folder)
+                found = judged_at_random(net, file, folder, given)
+            rows.append(coverage_of(net, made, found, folder))
+            wrong += sum(found) if NOT_JUDGED not in found else 0
             if net.is_driven and not given.coverage:
-                (given.folder / "networks.progress").write_text(f"{net.name}; {len(losses)} networks driven\n", encoding="utf-8")
-                with told(net.name):
-                    made, lost = study_of(net, file, given.folder, given)
-                breaches = judged(net, file, given.folder, given)
-                failed, wrong = failed + lost, wrong + breaches + sum(int(row["unsafe"] or 0) for row in made)
-                losses.append(loss_row(net, made, breaches))
-                print("| " + " | ".join(map(str, losses[-1])) + " |", file=sys.stderr, flush=True)
+                row, lost, found = drive(net, file, folder, given)
+                losses, failed, wrong = [*losses, row], failed + lost, wrong + found
         groups.append((title, rows))
     head = ["network", "actuated", "vap", "against actuated", "vap-own", "against actuated", "refused s", "faults s",
-            "logs not SAFE", "second judge", "collisions"]
+            "logs not SAFE", "breaches", "collisions"]
     lines = coverage_lines(groups) + (["### Time loss of a vehicle, s", "", *table(head, losses)] if losses else [])
-    (given.folder / "networks.md").write_text("\n".join(lines) + "\n", encoding="utf-8")
+    (folder / "networks.md").write_text("\n".join(lines) + "\n", encoding="utf-8")
     print(*lines, sep="\n")
     if failed:
         print(f"{failed} runs failed", file=sys.stderr)

@@ -13,6 +13,7 @@ import unittest
 import xml.etree.ElementTree as tree
 from pathlib import Path
 
+import check_sites
 import reading
 from test_sumo_loop import HAS_LIBRARY
 
@@ -20,7 +21,8 @@ __all__ = ["Networks", "Calls", "ManyLights"]
 
 HERE = Path(__file__).resolve().parent
 JUNCTION, CHECK = os.environ.get("JUNCTION"), os.environ.get("JUNCTION_CHECK")
-PAIR = "--grid --grid.x-number=2 --grid.y-number=1 --grid.length=150 --grid.attach-length=150 -j traffic_light --no-turnarounds true"
+PAIR = ("--grid --grid.x-number=2 --grid.y-number=1 --grid.length=150 --grid.attach-length=150 -j traffic_light "
+        "--no-turnarounds true")
 HAS_SUMO = bool(shutil.which("netgenerate") and shutil.which("sumo"))
 
 
@@ -30,8 +32,8 @@ class InFolder(unittest.TestCase):
     words = PAIR + " --crossings.guess --sidewalks.guess"
 
     def call(self, script, *words, status=0):
-        done = subprocess.run([sys.executable, "-B", str(HERE / script), *map(str, words)], cwd=self.folder, capture_output=True,
-                              text=True)
+        done = subprocess.run([sys.executable, "-B", str(HERE / script), *map(str, words)], cwd=self.folder,
+                              capture_output=True, text=True)
         self.assertEqual(done.returncode, status, done.stdout + done.stderr)
         self.assertNotIn("Traceback", done.stderr)
         return done.stdout if status == 0 else done.stdout + done.stderr
@@ -84,14 +86,17 @@ class Networks(InFolder):
             self.judged("sites", "logs", 2, 60)
 
     def judged(self, sites, logs, lights, seconds, net="n.net.xml"):
-        self.assertRegex(self.call("judge_sumo.py", net, sites, logs), rf"{lights} lights, {lights * seconds} seconds, .* 0 breaches")
+        self.assertRegex(self.call("judge_sumo.py", net, sites, logs),
+                         rf"{lights} lights, {lights * seconds} seconds, .* 0 breaches")
         if CHECK:
             told = self.call("check_sites.py", "--logs", logs, JUNCTION, CHECK, sites)
-            self.assertIn(f"{lights} sites, {lights * seconds} seconds; 0 with findings of junction_check, 0 not SAFE, 0 inter", told)
+            self.assertIn(f"{lights} sites, {lights * seconds} seconds; 0 with findings of junction_check, 0 not SAFE, 0 inter",
+                          told)
 
     @unittest.skipUnless(JUNCTION, "JUNCTION doesn't name a built program")
     def test_kinds_of_networks(self):
-        for name, more in (("bike", "--bikelanes.guess true --sidewalks.guess --crossings.guess"), ("nema", "--tls.default-type NEMA"),
+        for name, more in (("bike", "--bikelanes.guess true --sidewalks.guess --crossings.guess"),
+                           ("nema", "--tls.default-type NEMA"),
                            ("wide", "--default.lanenumber=3 --turn-lanes 1"), ("left", "--lefthand --default.lanenumber=2"),
                            ("incoming", "--tls.layout incoming --default.lanenumber=2")):
             with self.subTest(name):
@@ -102,25 +107,46 @@ class Networks(InFolder):
                 self.logs_at_random(name)
                 self.judged(name, f"{name}_logs", lights, 200, net)
 
-    def logs_at_random(self, sites):
+    def logs_at_random(self, sites, program="on_demand.vap"):
         """Logs of counts at random in the place of a run."""
-        import check_sites
-        (self.folder / f"{sites}_logs").mkdir()
+        folder = self.folder / f"{sites}_logs"
+        folder.mkdir(exist_ok=True)
         for row in reading.table_of((self.folder / sites / "sites.csv").read_text(), "folder", "detectors"):
-            counts = check_sites.counts_at_random(int(row["detectors"]), 200, row["folder"])
-            words = [self.folder / sites / row["folder"] / file for file in check_sites.FILES]
-            done = subprocess.run([JUNCTION, "run", *words, "/dev/stdin"], input=counts, capture_output=True, text=True)
-            (self.folder / f"{sites}_logs" / f"{row['folder']}.log").write_text(done.stdout)
+            log = folder / f"{row['folder']}.log"
+            check_sites.log_at_random(JUNCTION, self.folder / sites / row["folder"], int(row["detectors"]), 200, log, program)
 
     def test_several_programs_and_offsets(self):
         text = (self.folder / "n.net.xml").read_text()
         logic = re.search(r"<tlLogic.*?</tlLogic>", text, re.DOTALL)[0]
-        text = text.replace(logic, logic + "\n" + logic.replace('programID="0"', 'programID="night"').replace('offset="0"', 'offset="9"'))
+        night = logic.replace('programID="0"', 'programID="night"').replace('offset="0"', 'offset="9"')
+        text = text.replace(logic, logic + "\n" + night)
         (self.folder / "two.net.xml").write_text(text)
         said = self.call("sites_from_sumo.py", "--each-program", "two.net.xml", "two")
         self.assertIn("program night: two/1.night", said)
         self.assertTrue((self.folder / "two/1/coordinated.vap").exists())
         self.assertIn("the last one, night, was taken", (self.folder / "two/1/notes.txt").read_text())
+        if JUNCTION:
+            self.logs_at_random("two", "coordinated.vap")
+            self.judged("two", "two_logs", 2, 200, "two.net.xml")
+
+    def test_a_light_over_two_junctions(self):
+        """Both lights of the pair become one: its links lie on two junctions, whose ways don't meet."""
+        net = self.net(PAIR, "joined.net.xml")
+        text = (self.folder / net).read_text()
+        (one, first), (other, second) = re.findall(r'<tlLogic id="(\w+)".*?(<phase.*?)\s*</tlLogic>', text, re.DOTALL)
+        states = [re.findall(r'state="(\w+)"', phases) for phases in (first, second)]
+        count = len(states[0][0])
+        for before, after in zip(*states):
+            first = first.replace(f'"{before}"', f'"{before}{after}"', 1)
+        text = re.sub(r"\s*<tlLogic.*</tlLogic>", f'<tlLogic id="{one}" type="static" programID="0" offset="0">{first}</tlLogic>',
+                      text, flags=re.DOTALL)
+        text = re.sub(rf'tl="{other}" linkIndex="(\d+)"', lambda found: f'tl="{one}" linkIndex="{int(found[1]) + count}"', text)
+        (self.folder / net).write_text(text)
+        self.assertIn("1 lights, 1 sites", self.call("sites_from_sumo.py", net, "joined"))
+        self.assertIn("its links lie on 2 junctions", (self.folder / "joined/1/notes.txt").read_text())
+        if JUNCTION:
+            self.logs_at_random("joined")
+            self.judged("joined", "joined_logs", 1, 200, net)
 
 
 @unittest.skipUnless(HAS_SUMO, "SUMO isn't there")
@@ -138,25 +164,29 @@ class Calls(InFolder):
             '<configuration><input><net-file value="n.net.xml"/><route-files value="seven.xml"/></input>'
             '<time><begin value="7:00:00"/><step-length value="0.5"/></time></configuration>')
         self.assertIn("2 sites", self.call("sites_from_sumo.py", "c.sumocfg", "of_c"))
-        self.assertRegex(self.call("drive_sumo.py", *self.static, "--keep", "kept", "c.sumocfg", "sites"), r"\n[1-9]\d* vehicles, ")
-        self.assertEqual({file.name for file in (self.folder / "kept").iterdir()}, {"tripinfo.xml", "summary.xml", "statistics.xml"})
+        said = self.call("drive_sumo.py", *self.static, "--keep", "kept", "c.sumocfg", "sites")
+        self.assertRegex(said, r"\n[1-9]\d* vehicles, ")
+        self.assertEqual({file.name for file in (self.folder / "kept").iterdir()},
+                         {"tripinfo.xml", "summary.xml", "statistics.xml"})
 
     def test_nobody_departed(self):
         self.trips("seven.xml", 25200)
         said = self.call("drive_sumo.py", *self.static, "n.net.xml", "seven.xml", "sites", status=1)
-        self.assertEqual(said, "no vehicle departed from second 0 to 60; the first one departs in second 25200 (--begin 25200)\n")
+        self.assertEqual(said, "no vehicle departed from second 0 to 60; the first one departs in second 25200 "
+                         "(--begin 25200)\n")
 
     def test_sumo_that_does_not_start_is_a_sentence(self):
         (self.folder / "bad.xml").write_text('<routes><trip id="1" depart="0" from="nowhere" to="there"/></routes>')
-        said = self.call("drive_sumo.py", *self.static, "--sumo-words=--ignore-route-errors=false", "n.net.xml", "bad.xml", "sites",
-                         status=1)
+        said = self.call("drive_sumo.py", *self.static, "--sumo-words=--ignore-route-errors=false", "n.net.xml", "bad.xml",
+                         "sites", status=1)
         self.assertRegex(said, r"^SUMO (doesn't start|ended or refused a call): .*nowhere.*\n$")
-        said = self.call("drive_sumo.py", *self.static, "--sumo-words=--no-such-word", "n.net.xml", "trips.xml", "sites", status=1)
+        said = self.call("drive_sumo.py", *self.static, "--sumo-words=--no-such-word", "n.net.xml", "trips.xml", "sites",
+                         status=1)
         self.assertRegex(said, "^SUMO doesn't start: .*no-such-word.*\n$")
 
     def test_ctrl_c_ends_with_what_was_driven(self):
-        words = [sys.executable, "-B", str(HERE / "drive_sumo.py"), "--control", "static", "--seconds", "604800", "--keep", "kept",
-                 "n.net.xml", "trips.xml", "sites"]
+        words = [sys.executable, "-B", str(HERE / "drive_sumo.py"), "--control", "static", "--seconds", "604800", "--keep",
+                 "kept", "n.net.xml", "trips.xml", "sites"]
         run = subprocess.Popen(words, cwd=self.folder, stdout=subprocess.PIPE, stderr=subprocess.PIPE, text=True)
         for _ in range(600):  # until SUMO writes what it drives
             time.sleep(0.1)
@@ -169,17 +199,37 @@ class Calls(InFolder):
         self.assertRegex(out, r"^static: 2 lights, \d+ seconds, seed 1\n")
 
     @unittest.skipUnless(JUNCTION, "JUNCTION doesn't name a built program")
+    def test_ctrl_c_leaves_whole_logs(self):
+        words = [sys.executable, "-B", str(HERE / "drive_sumo.py"), "--junction", JUNCTION, "--seconds", "604800", "--logs", "logs",
+                 "n.net.xml", "trips.xml", "sites"]
+        run = subprocess.Popen(words, cwd=self.folder, stdout=subprocess.PIPE, stderr=subprocess.PIPE, text=True)
+        for _ in range(600):  # until the first part of a log is written
+            time.sleep(0.1)
+            if (self.folder / "logs/1.log").exists() and (self.folder / "logs/1.log").stat().st_size > 0:
+                break
+        run.send_signal(signal.SIGINT)
+        out, errors = run.communicate(timeout=120)
+        self.assertEqual(run.returncode, 130, out + errors)
+        seconds = int(re.match(r"ended by Ctrl-C after (\d+) seconds\n", errors)[1])
+        for number in ("1", "2"):
+            site = self.folder / "sites" / number
+            audit = check_sites.run(JUNCTION, "audit", self.folder / f"logs/{number}.log", *(site / name for name in check_sites.FILES[1:]))
+            self.assertEqual(audit.stdout.splitlines()[0], f"SAFE {seconds}")
+
+    @unittest.skipUnless(JUNCTION, "JUNCTION doesn't name a built program")
     def test_a_program_with_faults_is_told(self):
         program = self.folder / "sites/1/on_demand.vap"
         program.write_text(program.read_text().replace("GOSUB settle;", "aa := 1 / bb;\nGOSUB settle;"))
-        done = self.call("drive_sumo.py", "--junction", JUNCTION, "--seconds", "60", "n.net.xml", "trips.xml", "sites", status=3)
+        done = self.call("drive_sumo.py", "--junction", JUNCTION, "--seconds", "60", "n.net.xml", "trips.xml", "sites",
+                         status=3)
         self.assertRegex(done, r"faults in 60 seconds of 1 light, first \w+: ZeroDivisor@\d+ in second 1\n")
 
     @unittest.skipUnless(JUNCTION and importlib.util.find_spec("libsumo"), "JUNCTION or libsumo isn't there")
     def test_a_study_without_footways_says_so(self):
         self.net(PAIR, "plain.net.xml")
         self.call("sites_from_sumo.py", "plain.net.xml", "plain")
-        words = ["--junction", JUNCTION, "--period", "3", "--walkers", "5", "--seconds", "60", "plain.net.xml", "1", "vap=vap:plain"]
+        words = ["--junction", JUNCTION, "--period", "3", "--walkers", "5", "--seconds", "60", "plain.net.xml", "1",
+                 "vap=vap:plain"]
         self.assertIn("Nobody walked: the network has no footways.", self.call("study_sumo.py", *words))
 
 
@@ -191,7 +241,8 @@ class ManyLights(unittest.TestCase):
         with tempfile.TemporaryDirectory() as folder:
             for number in (5, 10):
                 net = f"{folder}/{number}.net.xml"
-                words = f"--grid --grid.number={number} --grid.length=100 --grid.attach-length=50 -j traffic_light --no-turnarounds true"
+                words = (f"--grid --grid.number={number} --grid.length=100 --grid.attach-length=50 -j traffic_light "
+                         "--no-turnarounds true")
                 subprocess.run(["netgenerate", *words.split(), "-o", net], check=True, capture_output=True)
                 before = os.times()
                 subprocess.run([sys.executable, "-B", str(HERE / "sites_from_sumo.py"), net, f"{folder}/{number}"], check=True,

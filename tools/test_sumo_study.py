@@ -28,11 +28,12 @@ class Tables(unittest.TestCase):
     def test_table(self):
         runs = (("a", "1", "10", "0", "0"), ("a", "2", "12", "1", "0"), ("b", "1", "15", "0", "7"), ("b", "2", "16", "0", ""))
         rows = [{"name": name, "seed": seed, "vehicles": "10", "walkers": "0", "loss": loss, "stops": "1", "queue": "2",
-                 "teleports": "0", "collisions": collisions, "emergency_stops": "0", "refused": "2", "faults": "3", "unsafe": unsafe}
+                 "teleports": "0", "collisions": collisions, "emergency_stops": "0", "refused": "2", "faults": "3",
+                 "unsafe": unsafe, "breaches": "0"}
                 for name, seed, loss, collisions, unsafe in runs]
         self.assertEqual(tables.table_lines(rows, ["a", "b"])[2:], [
-            "| a | 2 | 20 | 11.0 ± 12.7 |  | 1.00 ± 0.00 | 2.0 ± 0.0 | 0 | 1 | 0 | 4 | 6 | 0 |",
-            "| b | 2 | 20 | 15.5 ± 6.4 | +4.5 ± 6.4 | 1.00 ± 0.00 | 2.0 ± 0.0 | 0 | 0 | 0 | 4 | 6 | not judged |"])
+            "| a | 2 | 20 | 11.0 ± 12.7 |  | 1.00 ± 0.00 | 2.0 ± 0.0 | 0 | 1 | 0 | 4 | 6 | 0 | 0 |",
+            "| b | 2 | 20 | 15.5 ± 6.4 | +4.5 ± 6.4 | 1.00 ± 0.00 | 2.0 ± 0.0 | 0 | 0 | 0 | 4 | 6 | not judged | 0 |"])
 
 
 class Kept(unittest.TestCase):
@@ -61,8 +62,9 @@ class Kept(unittest.TestCase):
 
     def study(self, seeds=1, controls=("vap=vap:sites",), failing=(), **more):
         """Makes a study; the runs that were made, the rows and the failed ones."""
-        given = SimpleNamespace(**{"net": self.folder / "n.net.xml", "routes": self.folder / "r.rou.xml", "period": None, "walkers": None,
-                                   "additional": [self.folder / "more.add.xml"], "seconds": 60, "begin": None, "sumo_words": "",
+        given = SimpleNamespace(**{"net": self.folder / "n.net.xml", "routes": self.folder / "r.rou.xml", "period": None,
+                                   "walkers": None, "additional": [self.folder / "more.add.xml"], "seconds": 60,
+                                   "begin": None, "sumo_words": "",
                                    "junction": str(self.folder / "junction"), "library": False, "workers": 1, "seeds": seeds,
                                    "to": self.folder / "study.csv", **more})
         self.runs, self.failing = [], failing
@@ -122,14 +124,18 @@ class Kept(unittest.TestCase):
 
 class ManyNetworks(unittest.TestCase):
     def test_a_row_of_time_loss(self):
-        rows = [{"name": name, "seed": str(seed), "loss": str(loss + seed), "refused": "1", "faults": "0", "unsafe": "0", "collisions": "2"}
+        rows = [{"name": name, "seed": str(seed), "loss": str(loss + seed), "refused": "1", "faults": "0", "unsafe": "0",
+                 "breaches": "0", "collisions": "2"}
                 for name, loss in (("actuated", 20), ("vap", 22), ("vap-own", 18)) for seed in (1, 2)]
-        self.assertEqual(networks_sumo.loss_row(networks.Net("town"), rows, 0), [
-            "town", "21.5 ± 6.4", "23.5 ± 6.4", "+2.0 ± 0.0", "19.5 ± 6.4", "-2.0 ± 0.0", "4", "0", "0", 0, "4 / 4 / 4"])
+        self.assertEqual(networks_sumo.loss_row(networks.Net("town"), rows), [
+            "town", "21.5 ± 6.4", "23.5 ± 6.4", "+2.0 ± 0.0", "19.5 ± 6.4", "-2.0 ± 0.0", "4", "0", "0", "0", "4 / 4 / 4"])
 
     def test_the_sums_of_coverage(self):
-        lines = networks_sumo.coverage_lines([("Towns", [["a", 3, 1, 2, "x: why"], ["b", 4, 0, 4, ""]])])
-        self.assertEqual(lines[4:7], ["| a | 3 | 1 | 2 | x: why |", "| b | 4 | 0 | 4 |  |", "| all | 7 | 1 | 6 |  |"])
+        lines = networks_sumo.coverage_lines([("Towns", [["a", 3, 1, 2, 0, 1, "x: why"], ["b", 4, 0, 4, 0, 2, ""]])])
+        self.assertEqual(lines[4:7], ["| a | 3 | 1 | 2 | 0 | 1 | x: why |", "| b | 4 | 0 | 4 | 0 | 2 |  |",
+                                      "| all | 7 | 1 | 6 | 0 | 3 |  |"])
+        lines = networks_sumo.coverage_lines([("Towns", [["a", 3, 1, 2, "", "", ""]])])
+        self.assertEqual(lines[5], "| all | 3 | 1 | 2 |  |  |  |")
 
     def test_the_names_are_one_each_and_eight_are_driven(self):
         nets = networks.TOWNS + networks.EXAMPLES + networks.MADE

@@ -54,20 +54,23 @@ def example(number):
 TOWNS = [
     real("pasubio", is_driven=True), real("acosta", is_driven=True), real("joined"),
     Net("drt", "tools/game/DRT/osm.net.xml", period=1.2, is_driven=True), Net("kuehne", "tools/game/kuehne/kuehne.net.xml"),
-    Net("bs3d", "tools/game/bs3d/bs.net.xml"), Net("a10kw", "tools/game/A10KW/osm.net.xml"),
+    Net("bs3d", "tools/game/bs3d/bs.net.xml", routes="tools/game/bs3d/bs3d.rou.xml", is_driven=True),
+    Net("a10kw", "tools/game/A10KW/osm.net.xml"),
 ]
 EXAMPLES = [
     example(1), example(2), example(3), example(4),
     Net("corridor", f"{SCENARIOS}/BasicRiLSACorridor3/network.net.xml", period=1.6, walkers=5, is_driven=True),
     Net("net2x2", f"{SCENARIOS}/BasicRiLSANet2x2/network.net.xml"), Net("grid6", "tools/game/grid6/grid6.net.xml"),
-    Net("cross", "tools/game/cross/cross.net.xml"), Net("square", "tools/game/square/square.net.xml"),
+    Net("cross", "tools/game/cross/cross.net.xml", routes="tools/game/cross/cross.rou.xml", is_driven=True),
+    Net("square", "tools/game/square/square.net.xml"),
 ]
 MADE = [
     Net("grid", words=f"{GRID} --default.lanenumber=2", period=1.6, is_driven=True),
-    Net("foot", words=f"{GRID} --default.lanenumber=2 --sidewalks.guess --crossings.guess", period=1.6, walkers=5, is_driven=True),
+    Net("foot", words=f"{GRID} --default.lanenumber=2 --sidewalks.guess --crossings.guess", period=1.6, walkers=5,
+        is_driven=True),
     Net("bike", words=f"{GRID} --bikelanes.guess true --sidewalks.guess --crossings.guess"),
-    Net("wide", words="--grid --grid.number=3 --grid.length=300 --default.lanenumber=4 -j traffic_light --grid.attach-length=300 "
-        "--turn-lanes 1"),
+    Net("wide", words="--grid --grid.number=3 --grid.length=300 --default.lanenumber=4 -j traffic_light "
+        "--grid.attach-length=300 --turn-lanes 1"),
     Net("allred", words=f"{GRID} --default.lanenumber=2 --tls.allred.time 3"),
     Net("fast", words=f"{GRID} --default.lanenumber=2 --default.speed 22.2"),
     Net("incoming", words=f"{GRID} --default.lanenumber=2 --tls.layout incoming"),
@@ -75,7 +78,7 @@ MADE = [
     Net("spider", words="--spider -j traffic_light --spider.arm-number=6 --spider.circle-number=3 --no-turnarounds true",
         period=1.2, is_driven=True),
     Net("rand", words=f"{RANDOM} --rand.iterations=200 --seed 5"),
-    Net("randact", words=f"{RANDOM} --rand.iterations=30 --seed 7 --default.lanenumber=2 --tls.default-type actuated", period=2.0,
-        is_driven=True),
+    Net("randact", words=f"{RANDOM} --rand.iterations=30 --seed 7 --default.lanenumber=2 --tls.default-type actuated",
+        period=2.0, is_driven=True),
     Net("randleft", words=f"{RANDOM} --rand.iterations=150 --seed 9 --default.lanenumber=2 --lefthand"),
 ]

@@ -11,13 +11,14 @@ import time
 from concurrent.futures import ThreadPoolExecutor, as_completed
 from pathlib import Path
 
+import judge_sumo
 from reading import Refused
-from sumo.drive import sites_of
+from sumo.drive import TABLES, sites_of
 from sumo.sums import files_of_sites, run_sum
 
 DRIVE = str(Path(__file__).resolve().parent.parent / "drive_sumo.py")
 MEANS = ["loss", "stops", "queue", "walkers_loss"]
-COUNTS = ["teleports", "collisions", "emergency_stops", "refused", "faults", "unsafe"]
+COUNTS = ["teleports", "collisions", "emergency_stops", "refused", "faults", "unsafe", "breaches"]
 FIELDS = ["net", "demand", "seconds", "name", "seed", "inputs", "vehicles", "people", "walkers", *MEANS, "outside",
           "waiting_outside", *COUNTS, "lights", "clock", "steps", "detectors", "controllers", "signals"]
 NOT_JUDGED = ""  # in the column of logs that aren't safe, where no program is there to judge them
@@ -62,9 +63,10 @@ def tasks_of(given, controls):
             is_own = one["control"] in OWN_CONTROLS
             files = [demand["net"], *([demand["routes"]] if demand["routes"] else []), *additional,
                      *files_of_sites(one["control"], one["program"], one["sites"]),
-                     *([] if is_own or not program else [program])]
+                     *([] if is_own or not program else [program, judge_sumo.__file__])]
             lights = [light for light, _ in sites_of(one["sites"])]
-            said = [one["control"], one["program"], lights, words, seed, demand["period"], demand["walkers"], given.library]
+            said = [one["control"], one["program"], lights, words, seed, demand["period"], demand["walkers"],
+                    given.library and not is_own]
             tasks.append({**demand, "name": name, "seed": seed, "sites": one["sites"], "inputs": run_sum(files, said),
                           "junction": str(Path(program).resolve()) if program and not is_own else "", "is_own": is_own,
                           "words": [*asked, "--control", one["control"], "--program", one["program"], *words,
@@ -91,22 +93,22 @@ def trips_of(task, folder):
                                ("walkers", task["walkers"], ["--pedestrians", "--prefix", "w"])):
         if period:
             files.append(f"{folder}/{kind}.xml")
-            words = ["-n", task["net"], "-o", files[-1], "-b", task["begin"], "-e", task["begin"] + task["seconds"], "-p", period,
-                     "--seed", task["seed"], *more]
-            made = subprocess.run([sys.executable, *map(str, [random_trips, *words])], capture_output=True, text=True, cwd=folder)
+            words = [random_trips, "-n", task["net"], "-o", files[-1], "-b", task["begin"],
+                     "-e", task["begin"] + task["seconds"], "-p", period, "--seed", task["seed"], *more]
+            made = subprocess.run([sys.executable, *map(str, words)], capture_output=True, text=True, cwd=folder)
             if made.returncode != 0:
                 raise RuntimeError(f"randomTrips.py: {(made.stderr.strip() or 'no word').splitlines()[-1]}")
     return ",".join(files)
 
 
-def unsafe_of(task, logs):
-    """How many logs of a run `junction audit` doesn't judge SAFE."""
-    unsafe = 0
-    for _, site in [(light, folder) for light, folder in sites_of(task["sites"])]:
-        files = [str(site / name) for name in ("junction.pua", "times.csv", "intergreens.csv")]
-        said = subprocess.run([task["junction"], "audit", str(logs / f"{site.name}.log"), *files], capture_output=True, text=True)
+def judged(task, logs):
+    """How many logs of a run `junction audit` doesn't judge SAFE, and what the second judge finds in them."""
+    sites, unsafe = sites_of(task["sites"]), 0
+    for _, site in sites:
+        words = [task["junction"], "audit", logs / f"{site.name}.log", *(site / name for name in TABLES)]
+        said = subprocess.run([*map(str, words)], capture_output=True, text=True)
         unsafe += not said.stdout.startswith(f"SAFE {task['seconds']}\n")
-    return unsafe
+    return {"unsafe": unsafe, "breaches": len(judge_sumo.judge(task["net"], sites, logs)[0])}
 
 
 def run_one(task):
@@ -122,8 +124,9 @@ def run_one(task):
         if run.returncode not in (0, 3):
             raise RuntimeError((run.stderr.strip() or f"drive_sumo.py ended with status {run.returncode}").splitlines()[-1])
         told_of = json.loads(run.stdout.splitlines()[-1])
-        unsafe = unsafe_of(task, folder / "logs") if task["junction"] else 0 if task["is_own"] else NOT_JUDGED
-        return {"faults": 0, "refused": 0, **told_of, "unsafe": unsafe}
+        found = judged(task, folder / "logs") if task["junction"] else dict.fromkeys(
+            ("unsafe", "breaches"), 0 if task["is_own"] else NOT_JUDGED)
+        return {"faults": 0, "refused": 0, **told_of, **found}
 
 
 class Progress:
