@@ -196,6 +196,19 @@ class Scenario(unittest.TestCase):
         with self.assertRaisesRegex(reading.Refused, "'1.2' of --sumo-words stands behind no option"):
             scenario.words_for(self.given(sumo_words="1.2"))
 
+    def test_what_the_user_says_reaches_sumo(self):
+        given = self.given(gui=True, sites=["C=/s"], control="static", additional=["more.add.xml"], states=None,
+                           collisions="hits.xml", routes="r.xml", seed=7, begin=25200, step_length=0.5, sumo_words="--time-to-teleport -1")
+        call = scenario.call_of(given, Path("/out"))
+        said = dict(zip(call[1::2], call[2::2]))
+        self.assertEqual(call[0], "sumo-gui")
+        self.assertEqual({name: said[name] for name in (
+            "-n", "-r", "-a", "--begin", "--step-length", "--seed", "--start", "--time-to-teleport", "--collision-output",
+            "--tripinfo-output")}, {
+            "-n": "n.net.xml", "-r": "r.xml", "-a": "more.add.xml", "--begin": "25200", "--step-length": "0.5", "--seed": "7",
+            "--start": "true", "--time-to-teleport": "-1", "--collision-output": "hits.xml",
+            "--tripinfo-output": "/out/tripinfo.xml"})
+
     def test_sumos_own_first_error_is_told(self):
         with tempfile.TemporaryFile("w+") as errors:
             errors.write("Loading\nError: The edge 'x' is not known.\nError: Quitting.\n")

@@ -138,8 +138,8 @@ class Networks(InFolder):
         count = len(states[0][0])
         for before, after in zip(*states):
             first = first.replace(f'"{before}"', f'"{before}{after}"', 1)
-        text = re.sub(r"\s*<tlLogic.*</tlLogic>", f'<tlLogic id="{one}" type="static" programID="0" offset="0">{first}</tlLogic>',
-                      text, flags=re.DOTALL)
+        logic = f'<tlLogic id="{one}" type="static" programID="0" offset="0">{first}</tlLogic>'
+        text = re.sub(r"\s*<tlLogic.*</tlLogic>", logic, text, flags=re.DOTALL)
         text = re.sub(rf'tl="{other}" linkIndex="(\d+)"', lambda found: f'tl="{one}" linkIndex="{int(found[1]) + count}"', text)
         (self.folder / net).write_text(text)
         self.assertIn("1 lights, 1 sites", self.call("sites_from_sumo.py", net, "joined"))
@@ -200,8 +200,8 @@ class Calls(InFolder):
 
     @unittest.skipUnless(JUNCTION, "JUNCTION doesn't name a built program")
     def test_ctrl_c_leaves_whole_logs(self):
-        words = [sys.executable, "-B", str(HERE / "drive_sumo.py"), "--junction", JUNCTION, "--seconds", "604800", "--logs", "logs",
-                 "n.net.xml", "trips.xml", "sites"]
+        words = [sys.executable, "-B", str(HERE / "drive_sumo.py"), "--junction", JUNCTION, "--seconds", "604800", "--logs",
+                 "logs", "n.net.xml", "trips.xml", "sites"]
         run = subprocess.Popen(words, cwd=self.folder, stdout=subprocess.PIPE, stderr=subprocess.PIPE, text=True)
         for _ in range(600):  # until the first part of a log is written
             time.sleep(0.1)
@@ -212,8 +212,8 @@ class Calls(InFolder):
         self.assertEqual(run.returncode, 130, out + errors)
         seconds = int(re.match(r"ended by Ctrl-C after (\d+) seconds\n", errors)[1])
         for number in ("1", "2"):
-            site = self.folder / "sites" / number
-            audit = check_sites.run(JUNCTION, "audit", self.folder / f"logs/{number}.log", *(site / name for name in check_sites.FILES[1:]))
+            files = [self.folder / "sites" / number / name for name in check_sites.FILES[1:]]
+            audit = check_sites.run(JUNCTION, "audit", self.folder / f"logs/{number}.log", *files)
             self.assertEqual(audit.stdout.splitlines()[0], f"SAFE {seconds}")
 
     @unittest.skipUnless(JUNCTION, "JUNCTION doesn't name a built program")

@@ -11,6 +11,7 @@ from unittest import mock
 
 import networks_sumo
 import reading
+import study_sumo
 from sumo import networks, study, tables
 
 __all__ = ["Tables", "Kept", "ManyNetworks"]
@@ -105,6 +106,17 @@ class Kept(unittest.TestCase):
         self.assertIn("vap, seed 2: SUMO doesn't start", self.said)
         self.assertIn("2 of 2 runs, 1 failed", (self.folder / "study.progress").read_text())
         self.assertEqual(self.study(seeds=2), ([("vap", 2)], 2, 0))
+
+    def test_a_study_of_failed_runs_alone_has_status_1_and_no_table(self):
+        self.runs, self.failing = [], (1,)
+        words = ["study_sumo.py", "--routes", self.folder / "r.rou.xml", "--junction", self.folder / "junction", "--to",
+                 self.folder / "study.csv", self.folder / "n.net.xml", "1", f"vap=vap:{self.folder}/sites"]
+        out, errors = io.StringIO(), io.StringIO()
+        with mock.patch.object(study, "run_one", self.run_one), mock.patch("sys.argv", [*map(str, words)]), \
+                contextlib.redirect_stdout(out), contextlib.redirect_stderr(errors):
+            self.assertEqual(study_sumo.main(), 1)
+        self.assertEqual((out.getvalue(), errors.getvalue()),
+                         ("", "vap, seed 1: SUMO doesn't start\n1 runs failed, and there is nothing to tell\n"))
 
     def test_rows_of_another_form_are_put_aside(self):
         (self.folder / "study.csv").write_text("net,demand,seconds,name,seed\nn.net.xml,r.rou.xml,60,vap,1\n")
