@@ -198,7 +198,8 @@ class Scenario(unittest.TestCase):
 
     def test_what_the_user_says_reaches_sumo(self):
         given = self.given(gui=True, sites=["C=/s"], control="static", additional=["more.add.xml"], states=None,
-                           collisions="hits.xml", routes="r.xml", seed=7, begin=25200, step_length=0.5, sumo_words="--time-to-teleport -1")
+                           collisions="hits.xml", routes="r.xml", seed=7, begin=25200, step_length=0.5,
+                           sumo_words="--time-to-teleport -1")
         call = scenario.call_of(given, Path("/out"))
         said = dict(zip(call[1::2], call[2::2]))
         self.assertEqual(call[0], "sumo-gui")

@@ -53,9 +53,10 @@ def example(number):
 
 TOWNS = [
     real("pasubio", is_driven=True), real("acosta", is_driven=True), real("joined"),
-    Net("drt", "tools/game/DRT/osm.net.xml", period=1.2, is_driven=True), Net("kuehne", "tools/game/kuehne/kuehne.net.xml"),
+    Net("drt", "tools/game/DRT/osm.net.xml", period=1.2),
+    Net("kuehne", "tools/game/kuehne/kuehne.net.xml", routes="tools/game/kuehne/kuehne.rou.xml", is_driven=True),
     Net("bs3d", "tools/game/bs3d/bs.net.xml", routes="tools/game/bs3d/bs3d.rou.xml", is_driven=True),
-    Net("a10kw", "tools/game/A10KW/osm.net.xml"),
+    Net("a10kw", "tools/game/A10KW/osm.net.xml", routes="tools/game/A10KW/osm.passenger.rou.xml", is_driven=True),
 ]
 EXAMPLES = [
     example(1), example(2), example(3), example(4),
