@@ -160,7 +160,8 @@ def main():
             if net.is_driven and not given.coverage:
                 row, lost, found = drive(net, file, folder, given)
                 losses, failed, wrong = [*losses, row], failed + lost, wrong + found
-        groups.append((title, rows))
+        if rows:
+            groups.append((title, rows))
     head = ["network", "actuated", "vap", "against actuated", "vap-own", "against actuated", "refused s", "faults s",
             "logs not SAFE", "breaches", "collisions"]
     lines = coverage_lines(groups) + (["### Time loss of a vehicle, s", "", *table(head, losses)] if losses else [])
