@@ -17,6 +17,7 @@ import sys
 from pathlib import Path
 
 from reading import told, whole_from
+from sumo.network import read_root
 from sumo.study import controls_of, demand_of, run_all, tasks_of
 from sumo.tables import plot, table_lines
 
@@ -59,6 +60,17 @@ def read_words():
     return given
 
 
+def on_foot_told(given, rows):
+    """What the table doesn't say of people on foot: that nobody walked, or that no light knows of them."""
+    if not given.walkers:
+        return []
+    if not any(int(row["people"]) for row in rows):
+        return ["", "Nobody walked: the network has no footways."]
+    if any(edge.get("function") == "crossing" for edge in read_root(given.net).iter("edge")):
+        return []
+    return ["", "The network has no crossings: people walk on the roadway, and no light knows of them."]
+
+
 def main():
     given = read_words()
     with told("controls"):
@@ -71,9 +83,7 @@ def main():
     if failed:
         print(f"{failed} runs failed" + ("" if rows else ", and there is nothing to tell"), file=sys.stderr)
     if rows:
-        nobody = ["", "Nobody walked: the network has no footways."] if given.walkers and not any(
-            int(row["people"]) for row in rows) else []
-        print(title, "", *table_lines(rows, list(controls)), *nobody, sep="\n")
+        print(title, "", *table_lines(rows, list(controls)), *on_foot_told(given, rows), sep="\n")
         plot(rows, list(controls), title, given.to.with_suffix(".svg"))
     return 1 if failed else 0
 

@@ -225,12 +225,13 @@ class Calls(InFolder):
         self.assertRegex(done, r"faults in 60 seconds of 1 light, first \w+: ZeroDivisor@\d+ in second 1\n")
 
     @unittest.skipUnless(JUNCTION and importlib.util.find_spec("libsumo"), "JUNCTION or libsumo isn't there")
-    def test_a_study_without_footways_says_so(self):
+    def test_a_study_without_crossings_says_so(self):
         self.net(PAIR, "plain.net.xml")
         self.call("sites_from_sumo.py", "plain.net.xml", "plain")
         words = ["--junction", JUNCTION, "--period", "3", "--walkers", "5", "--seconds", "60", "plain.net.xml", "1",
                  "vap=vap:plain"]
-        self.assertIn("Nobody walked: the network has no footways.", self.call("study_sumo.py", *words))
+        self.assertIn("The network has no crossings: people walk on the roadway, and no light knows of them.",
+                      self.call("study_sumo.py", *words))
 
 
 @unittest.skipUnless(HAS_SUMO, "SUMO isn't there")
