@@ -14,8 +14,9 @@ control:
 Each of SITES is a folder of sites_from_sumo.py, or TLS=FOLDER for the site of one light. Lights without a site keep the
 network's program. Prints what came of it: vehicles, time loss, stops, the queue, people on foot, teleports, collisions,
 emergency stops, faults, and where the clock's time went. Ctrl-C ends the run, and tells what was driven (status 130). Status 3
-where a program had faults, 1 where nothing was driven or nobody departed. Needs SUMO (Debian: sumo, sumo-tools); --libsumo, SUMO
-within this process, needs Debian's own /usr/bin/python3. SUMO_HOME says where SUMO is, /usr/share/sumo where it isn't set."""
+where a program had faults or a mask was wrong, 1 where nothing was driven or nobody departed. Needs SUMO (Debian: sumo,
+sumo-tools); --libsumo, SUMO within this process, needs Debian's own /usr/bin/python3. SUMO_HOME says where SUMO is,
+/usr/share/sumo where it isn't set."""
 import argparse
 import json
 import sys
@@ -128,6 +129,7 @@ def read_words():
     words.add_argument("--sumo-words", default="", metavar="WORDS", help="further words for SUMO, as '--scale 1.2'")
     words.add_argument("--keep", type=Path, metavar="FOLDER", help="keep tripinfo.xml, summary.xml and statistics.xml there")
     words.add_argument("--logs", type=Path, metavar="FOLDER", help="keep the log of each light, named as its site's folder")
+    words.add_argument("--masks", action="store_true", help="guarded: compare each second with the mask before it")
     words.add_argument("--states", type=Path, metavar="FILE", help="keep SUMO's record of signal states, for log_from_sumo.py")
     words.add_argument("--collisions", type=Path, metavar="FILE", help="keep SUMO's list of collisions")
     words.add_argument("--additional", action="append", default=[], metavar="FILE", help="a further file of SUMO's, and again")
@@ -161,7 +163,9 @@ def main():
     if told_of["is_stopped"]:
         print(f"ended by Ctrl-C after {told_of['seconds']} seconds", file=sys.stderr)
         return STOPPED
-    return FAULTS if told_of.get("faults") else 0
+    if told_of.get("first_wrong_mask"):
+        print(f"a mask was wrong: {told_of['first_wrong_mask']}", file=sys.stderr)
+    return FAULTS if told_of.get("faults") or told_of.get("masks_wrong") else 0
 
 
 if __name__ == "__main__":

@@ -7,8 +7,9 @@ from types import SimpleNamespace
 
 import controllers
 from sumo import guarded
+from sumo.masks import Masks
 
-__all__ = ["GuardedControls", "GuardedWishes", "Guards"]
+__all__ = ["GuardedControls", "GuardedMasks", "GuardedWishes", "Guards"]
 
 
 class GuardedControls(unittest.TestCase):
@@ -92,3 +93,55 @@ class Guards(unittest.TestCase):
         controller.ask({})
         with self.assertRaisesRegex(controllers.Lost, "in second 1: 3 wishes for 2 groups"):
             controller.answer()
+
+
+class GuardedMasks(unittest.TestCase):
+    """A site of three groups of which B and C stand against A."""
+
+    def turn(self, group, is_end=False, rule=None, other=None, wait=0):
+        return SimpleNamespace(group=group, is_end=is_end, rule=rule, other=other, wait=wait)
+
+    def compared(self, before, after, wish, aspects, *refused):
+        """What was wrong of one second between two masks."""
+        masks = iter((before, after))
+        judge = Masks(SimpleNamespace(mask=lambda: SimpleNamespace(turns=next(masks))))
+        turns = [SimpleNamespace(group=group, rule=rule, other=other) for group, rule, other in refused]
+        judge.compare(wish, SimpleNamespace(second=1, aspects=aspects, turns=turns))
+        self.assertEqual((judge.seconds, judge.first is None), (1, not judge.wrong))
+        return judge.wrong
+
+    def test_ends(self):
+        free, held = self.turn("A", True), self.turn("A", True, "MinGreen", None, 4)
+        for mask, aspects, refused, wrong in ((free, "A", (), 0), (free, "G", (("A", "MinGreen", None),), 1), (held, "A", (), 1),
+                                              (held, "G", (("A", "MinGreen", None),), 0), (held, "G", (("A", "Sequence", None),), 1),
+                                              (free, "G", (), 1)):
+            with self.subTest(mask=mask, aspects=aspects, refused=refused):
+                self.assertEqual(self.compared([mask], [self.turn("A", True, "MinGreen", None, 3)], "R", aspects, *refused), wrong)
+
+    def test_starts(self):
+        """a start that is allowed may stand against a group that turns too; one that isn't allowed comes where that group goes"""
+        start, barred = self.turn("B"), self.turn("B", False, "Conflict", "A", None)
+        on, off = self.turn("A", True), self.turn("A")
+        both = (([off, start], "GG", "GR", (("B", "Conflict", "A"),), 0), ([off, start], "RG", "RR", (("B", "Conflict", "A"),), 1),
+                ([on, barred], "GG", "GG", (), 1), ([on, barred], "GG", "GR", (("B", "Conflict", "A"),), 0),
+                ([on, barred], "RG", "AR", (("B", "Intergreen", "A"),), 0), ([on, barred], "RG", "AG", (), 0),
+                ([on, barred], "RG", "AR", (("B", "MinRed", None),), 1), ([off, self.turn("B", False, "MinRed")], "RG", "RG", (), 1))
+        for mask, wish, aspects, refused, wrong in both:
+            with self.subTest(mask=mask, wish=wish, aspects=aspects, refused=refused):
+                self.assertEqual(self.compared(mask, mask, wish, aspects, *refused), wrong)
+
+    def test_nature(self):
+        """what isn't wished to turn doesn't, and each wait is a second shorter"""
+        for before, after, aspects, wrong in ((3, 2, "R", 0), (3, 3, "R", 1), (0, 0, "R", 0), (None, None, "R", 0), (None, 5, "R", 1),
+                                              (3, 3, "G", 1)):
+            rule = "Intergreen" if before != 0 else None
+            masks = ([self.turn("C", False, rule, None, wait)] for wait in (before, after))
+            with self.subTest(before=before, after=after, aspects=aspects):
+                self.assertEqual(self.compared(*masks, "R", aspects), wrong)
+
+    def test_told(self):
+        masks = SimpleNamespace(seconds=9, wrong=1, first="second 3")
+        light = SimpleNamespace(name="L", controller=SimpleNamespace(rules=guarded.collections.Counter(), late=0, masks=masks), seconds=9)
+        told = guarded.refusals_of([light])
+        self.assertEqual((told["masks"], told["masks_wrong"], told["first_wrong_mask"]), (9, 1, "L: second 3"))
+        self.assertIn("; 1 of 9 masks were wrong", guarded.line_of(told))

@@ -130,7 +130,7 @@ def opener_of(sumo, given):
     from sumo.guarded import GuardedOpener  # which stands on this module
 
     try:
-        return GuardedOpener(sumo, given.control)
+        return GuardedOpener(sumo, given.control, getattr(given, "masks", False))
     except controllers.Lost as lost:
         sys.exit(str(lost))
 

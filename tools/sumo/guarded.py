@@ -11,6 +11,7 @@ from pathlib import Path
 
 import controllers
 from sumo.drive import TABLES, Light
+from sumo.masks import Masks
 
 OWN = ("static", "actuated", "delay_based")
 PREFIX = "guarded:"
@@ -78,14 +79,16 @@ class FunctionWishes:
 
 
 class GuardedController:
-    """The guard of a site in the place of a controller with a program."""
+    """The guard of a site in the place of a controller with a program; `compares` is whether each of its seconds is compared
+    with the mask before it."""
 
-    def __init__(self, library, files, wishes):
+    def __init__(self, library, files, wishes, compares=False):
         self.counts, self.second, self.wishes, self.rules, self.late = {}, 0, wishes, collections.Counter(), 0
         try:
             self.guarded = library.Guarded.of_files(*files, keep=False)
         except (OSError, ValueError) as fault:
             raise controllers.Lost(f"the guard didn't begin: {fault}") from None
+        self.masks = Masks(self.guarded) if compares else None
 
     def greet(self):
         self.names = list(self.guarded.names)
@@ -104,6 +107,8 @@ class GuardedController:
             raise controllers.Lost(f"in second {self.second}: {refused}") from None
         self.rules.update(turn.rule for turn in record.turns)
         self.late += any(asked == "G" != shown for asked, shown in zip(wish, record.aspects))
+        if self.masks:
+            self.masks.compare(wish, record)
         return record.line()
 
     def end(self):
@@ -114,7 +119,8 @@ class GuardedController:
 class GuardedOpener:
     """Opens guards of lights, as `controllers.Controllers` opens controllers of files."""
 
-    def __init__(self, sumo, control):
+    def __init__(self, sumo, control, compares=False):
+        self.compares = compares
         try:
             self.library = controllers.load_library()
         except controllers.NoLibrary as fault:
@@ -127,7 +133,7 @@ class GuardedOpener:
 
     def open_for(self, light):
         wishes = FunctionWishes(self.function, light.name) if self.function else OwnWishes(self.sumo, light.name, light.links)
-        return GuardedController(self.library, light.files[1:], wishes)
+        return GuardedController(self.library, light.files[1:], wishes, self.compares)
 
 
 class GuardedLight(Light):
@@ -143,13 +149,21 @@ class GuardedLight(Light):
 
 
 def refusals_of(lights):
-    """What the guards refused: of each rule how many turns, and in how many seconds of lights a green came late."""
+    """What the guards refused: of each rule how many turns, in how many seconds of lights a green came late, and how many masks
+    were wrong where they were compared."""
     rules = sum((light.controller.rules for light in lights), collections.Counter())
-    return {"refused_turns": dict(rules.most_common()), "late": sum(light.controller.late for light in lights),
+    told = {"refused_turns": dict(rules.most_common()), "late": sum(light.controller.late for light in lights),
             "light_seconds": sum(light.seconds for light in lights)}
+    masks = {light.name: light.controller.masks for light in lights if light.controller.masks}
+    if masks:
+        told["masks"] = sum(mask.seconds for mask in masks.values())
+        told["masks_wrong"] = sum(mask.wrong for mask in masks.values())
+        told["first_wrong_mask"] = next((f"{name}: {mask.first}" for name, mask in masks.items() if mask.first), None)
+    return told
 
 
 def line_of(told):
     """The same in words."""
     turns = ", ".join(f"{rule} {count}" for rule, count in told["refused_turns"].items()) or "none"
-    return f"turns refused: {turns}; a green came late in {told['late']} of {told['light_seconds']} seconds of lights"
+    masks = f"; {told['masks_wrong']} of {told['masks']} masks were wrong" if "masks" in told else ""
+    return f"turns refused: {turns}; a green came late in {told['late']} of {told['light_seconds']} seconds of lights{masks}"
