@@ -48,6 +48,11 @@ ${PYTHON:-/usr/bin/python3} -m venv --system-site-packages "$build/venv"
 "$build/venv/bin/pip" install -q --no-index --no-deps "$build"/vantulig-*.whl
 export EXAMPLES="$repository/crates/junction/examples" LOGS="$logs"
 (cd "$build" && "$build/venv/bin/python3" -m unittest discover -s "$here/python/tests" 2>&1)
+if [ -x /usr/bin/mypy ]; then
+    (cd "$here/python" && /usr/bin/mypy --strict --cache-dir "$build/mypy" --python-executable /usr/bin/python3 vantulig)
+else
+    echo "mypy isn't here: not tried"
+fi
 echo 'const char *junction_version(void) { return "0.0.0"; }' | cc -shared -fPIC -x c - -o "$build/other.so"
 if VANTULIG="$build/other.so" "$build/venv/bin/python3" -c 'import vantulig; vantulig.Controller(b"", b"", b"", b"")' 2> "$build/said"; then
     echo "WRONG: a library of another version is taken"; exit 1

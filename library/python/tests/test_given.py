@@ -2,6 +2,7 @@
 and by another tell the same."""
 
 import copy
+import importlib.util
 import os
 import pathlib
 import pickle
@@ -17,6 +18,7 @@ FOUR = [EXAMPLES / "four_arms" / name for name in ("four_arms.vap", "junction.pu
 TWO = [EXAMPLES / "two_stages" / name for name in ("side_road.vap", "junction.pua", "times.csv", "intergreens.csv")]
 np = vantulig.numpy
 wants_numpy = unittest.skipUnless(np, "NumPy is wanted")
+wants_pandas = unittest.skipUnless(np and importlib.util.find_spec("pandas"), "pandas is wanted")
 
 
 def random_second(g, chance):
@@ -60,9 +62,11 @@ class Commands(unittest.TestCase):
         self.assertEqual((g.seconds, g.step().second), (1, 2))
 
     def test_both_wrong(self):
-        """the counts are looked at first, where a command that can be given names nothing"""
-        with self.assertRaises(NotTaken):
-            self.g.decide({1: (0, 1)}, order=(1, 2))
+        """of counts that are not taken and a command that names nothing the counts are told"""
+        for words in (dict(order=(1, 99)), dict(stage=-1), dict(stage=300), dict(groups={"no": "red"}), dict(order=(1, 2))):
+            with self.subTest(words), self.assertRaises(NotTaken) as at:
+                self.g.decide({1: (0, 1)}, **words)
+            self.assertEqual((at.exception.detector, at.exception.reason), (1, "RearsAhead"))
         self.assertEqual(self.g.seconds, 0)
 
     def test_groups_by_name_and_place(self):
@@ -334,6 +338,28 @@ class Logs(unittest.TestCase):
         self.assertGreater(refused, 0)
         self.assertEqual(sum(log.counts()["fronts"]), sum(f for record in records for _, f, _ in record.counts))
         self.assertEqual(log.faults()["second"], [])
+
+    @wants_pandas
+    def test_tables(self):
+        """each table of a log is one of pandas, and so are the columns of a run"""
+        import pandas
+
+        chance = np.random.default_rng(4)
+        counts = np.zeros((400, 2, 64), np.uint32)
+        counts[:, :, :12] = chance.random((400, 1, 12)) < 0.1
+        with Guarded(*FOUR) as g:
+            run = g.drive(counts, stages=chance.integers(0, g.stages + 1, 400))
+            log = read_log(g.header() + "".join(run.lines()))
+            seconds, columns = pandas.DataFrame(log.seconds()), pandas.DataFrame(run.columns())
+            self.assertEqual(seconds.shape, (400, 4 + len(g.names)))
+            for name in ("second", "place", *g.names):
+                self.assertEqual(seconds[name].tolist(), columns[name].tolist())
+        self.assertEqual(seconds.refused.tolist(), (columns.stages_refused + columns.turns_refused).tolist())
+        refusals = pandas.DataFrame(log.refusals())
+        self.assertEqual(refusals.groupby("second").size().sum(), seconds.refused.sum())
+        seen = pandas.DataFrame(log.counts())
+        self.assertEqual(seen.groupby("detector").fronts.sum().tolist(), counts[:, 0, :12].sum(axis=0).tolist())
+        self.assertEqual(len(pandas.DataFrame(log.faults())), 0)
 
     def test_wrong(self):
         head, line = "VAPLOG 1 K1 K2\n", "1|S1|RG|-|-|-\n"

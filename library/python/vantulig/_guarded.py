@@ -12,6 +12,8 @@ from ._records import Mask, NoCommand, NotTaken, Record, mask_of
 
 # a program that commands nothing: its passes leave the active stage as it is
 NO_PROGRAM = b"PROGRAM none;\nVAP_FREQUENCY 1;\nPROG_ENDE: .\n"
+# a number of a stage that names none in any plan
+NO_STAGE = 255
 _Self = TypeVar("_Self", bound="Guarded")
 
 
@@ -68,19 +70,23 @@ class Guarded(Controller):
     ) -> Record:
         """Makes a second by what is wished and commanded, and tells its record. `order` is a stage command; `stage` the stage
         that is wished: where another one is active in this second, the command from that one to this; `groups` has for names
-        or places of groups 'green' or 'red', over what the stage wishes. A NoCommand where one of them names nothing, and
-        then nothing has changed."""
-        commands = self._commands
+        or places of groups 'green' or 'red', over what the stage wishes. A NoCommand where the counts are taken and one of
+        them names nothing; then nothing has changed."""
+        commands, names_nothing = self._commands, None
         commands[:] = NO_COMMANDS
-        if order is not None:
-            from_stage, to = given.order_of(order)
-            commands[0] = given.number_below("stage", from_stage, self.stages + 1)
-            commands[1] = given.number_below("stage", to, self.stages + 1)
-        if stage is not None:
-            commands[2] = given.number_below("stage", stage, self.stages + 1)
-        if groups:
-            given.put_groups(groups, self.names, commands)
-        return self._decide(counts)
+        try:
+            if order is not None:
+                from_stage, to = given.order_of(order)
+                commands[0] = given.number_below("stage", from_stage, self.stages + 1)
+                commands[1] = given.number_below("stage", to, self.stages + 1)
+            if stage is not None:
+                commands[2] = given.number_below("stage", stage, self.stages + 1)
+            if groups:
+                given.put_groups(groups, self.names, commands)
+        except NoCommand as why:
+            # the library looks at the counts first, and refuses this stage where it takes them
+            commands[2], names_nothing = NO_STAGE, why
+        return self._decide(counts, names_nothing)
 
     def wish(self, wishes: str, counts: Any = None) -> Record:
         """Makes a second by one letter for each group: G or R; a dot leaves a group to its stage."""
@@ -88,18 +94,18 @@ class Guarded(Controller):
         given.put_letters(wishes, self.names, self._commands)
         return self._decide(counts)
 
-    def _decide(self, counts: Any) -> Record:
-        seen = self._make_given(counts)
+    def _decide(self, counts: Any, names_nothing: Optional[NoCommand] = None) -> Record:
+        seen = self._make_given(counts, names_nothing)
         return self._record(seen)
 
-    def _make_given(self, counts: Any) -> Seen:
+    def _make_given(self, counts: Any, names_nothing: Optional[NoCommand] = None) -> Seen:
         self._counts[:] = given.NO_COUNTS
         seen = given.put_counts(counts, self._numbers) if counts is not None else []
         status = self._give(self._handle, self._given, self._commanded, self._out)
         if status == lib.NOT_TAKEN:
             raise self._not_taken(seen)
         if status == lib.NO_COMMAND:
-            raise NoCommand("a command names no stage or group of the plan")
+            raise names_nothing or NoCommand("a command names no stage or group of the plan")
         if status:
             raise self._gone()
         if self._tape is not None:
