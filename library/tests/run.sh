@@ -1,7 +1,8 @@
 #!/bin/sh
 # run.sh REPOSITORY JUNCTION BUILD: the tests of the library that `make test` built, in C under the address, undefined behaviour
 # and thread sanitizers and under valgrind, in C and C++ from the shared library, in Python from the wheel, and as units of FMI
-# 3.0, against the logs and notes of the built program JUNCTION, and where VECTORS names folders of vectors, against these.
+# 3.0, against the logs and notes of the built program JUNCTION, and where VECTORS names folders of vectors, against these; where
+# DRIVEN names a folder of cases of seconds by commands, they are played in C, in Python and by JUNCTION.
 set -e
 here=$(cd "$(dirname "$0")/.." && pwd); repository=$1; junction=$2; build=$3; bin=$build/bin; logs=$build/logs
 if [ ! -x "$junction" ]; then
@@ -65,6 +66,12 @@ python3 "$here/tests/page.py" "$repository/docs/own-control.md" "$two" "$build" 
     { cat "$build/said"; exit 1; }
 grep '^SAFE 3600$' "$build/said" > /dev/null || { cat "$build/said"; exit 1; }
 if [ -n "$VECTORS" ]; then "$build/venv/bin/python3" "$here/tests/vectors.py" $VECTORS; fi
+if [ -n "$DRIVEN" ]; then
+    cc -std=gnu11 -O1 -g -fsanitize=address,undefined -fno-sanitize-recover=undefined -I"$here/include" "$DRIVEN/play.c" \
+        "$here/src/junction.c" "$build/lib/libjunction.a" -lm -o "$bin/play"
+    "$bin/play" "$DRIVEN"/given/[0-9]*
+    "$build/venv/bin/python3" "$here/tests/driven.py" "$DRIVEN" "$junction"
+fi
 for words in "$logs"/*.words; do
     set -- $(cat "$words"); name=$(basename "$words" .words); printf '%s: ' "$name"
     python3 "$here/fmi/make_fmu.py" "$build/$name.fmu" "$build" "$1" "$2" "$3" "$4"
