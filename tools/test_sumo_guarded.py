@@ -1,15 +1,20 @@
 """Tests of lights under the guard, by stand-ins of SUMO and of the library; tools/test_sumo.py runs them."""
 import argparse
+import contextlib
+import io
+import json
 import tempfile
 import unittest
 from pathlib import Path
 from types import SimpleNamespace
+from unittest import mock
 
 import controllers
+import guarded_sumo
 from sumo import guarded
 from sumo.masks import Masks
 
-__all__ = ["GuardedControls", "GuardedMasks", "GuardedWishes", "Guards"]
+__all__ = ["GuardedControls", "GuardedMasks", "GuardedNets", "GuardedWishes", "Guards"]
 
 
 class GuardedControls(unittest.TestCase):
@@ -112,28 +117,30 @@ class GuardedMasks(unittest.TestCase):
 
     def test_ends(self):
         free, held = self.turn("A", True), self.turn("A", True, "MinGreen", None, 4)
-        for mask, aspects, refused, wrong in ((free, "A", (), 0), (free, "G", (("A", "MinGreen", None),), 1), (held, "A", (), 1),
-                                              (held, "G", (("A", "MinGreen", None),), 0), (held, "G", (("A", "Sequence", None),), 1),
-                                              (free, "G", (), 1)):
+        short, sequence = (("A", "MinGreen", None),), (("A", "Sequence", None),)
+        for mask, aspects, refused, wrong in ((free, "A", (), 0), (free, "G", short, 1), (held, "A", (), 1),
+                                              (held, "G", short, 0), (held, "G", sequence, 1), (free, "G", (), 1)):
             with self.subTest(mask=mask, aspects=aspects, refused=refused):
-                self.assertEqual(self.compared([mask], [self.turn("A", True, "MinGreen", None, 3)], "R", aspects, *refused), wrong)
+                after = [self.turn("A", True, "MinGreen", None, 3)]
+                self.assertEqual(self.compared([mask], after, "R", aspects, *refused), wrong)
 
     def test_starts(self):
-        """a start that is allowed may stand against a group that turns too; one that isn't allowed comes where that group goes"""
+        """a start that is allowed may stand against a group that turns too; one that isn't comes where that group goes"""
         start, barred = self.turn("B"), self.turn("B", False, "Conflict", "A", None)
         on, off = self.turn("A", True), self.turn("A")
-        both = (([off, start], "GG", "GR", (("B", "Conflict", "A"),), 0), ([off, start], "RG", "RR", (("B", "Conflict", "A"),), 1),
-                ([on, barred], "GG", "GG", (), 1), ([on, barred], "GG", "GR", (("B", "Conflict", "A"),), 0),
-                ([on, barred], "RG", "AR", (("B", "Intergreen", "A"),), 0), ([on, barred], "RG", "AG", (), 0),
-                ([on, barred], "RG", "AR", (("B", "MinRed", None),), 1), ([off, self.turn("B", False, "MinRed")], "RG", "RG", (), 1))
+        conflict, intergreen, red = (("B", "Conflict", "A"),), (("B", "Intergreen", "A"),), (("B", "MinRed", None),)
+        both = (([off, start], "GG", "GR", conflict, 0), ([off, start], "RG", "RR", conflict, 1),
+                ([on, barred], "GG", "GG", (), 1), ([on, barred], "GG", "GR", conflict, 0),
+                ([on, barred], "RG", "AR", intergreen, 0), ([on, barred], "RG", "AG", (), 0),
+                ([on, barred], "RG", "AR", red, 1), ([off, self.turn("B", False, "MinRed")], "RG", "RG", (), 1))
         for mask, wish, aspects, refused, wrong in both:
             with self.subTest(mask=mask, wish=wish, aspects=aspects, refused=refused):
                 self.assertEqual(self.compared(mask, mask, wish, aspects, *refused), wrong)
 
     def test_nature(self):
         """what isn't wished to turn doesn't, and each wait is a second shorter"""
-        for before, after, aspects, wrong in ((3, 2, "R", 0), (3, 3, "R", 1), (0, 0, "R", 0), (None, None, "R", 0), (None, 5, "R", 1),
-                                              (3, 3, "G", 1)):
+        for before, after, aspects, wrong in ((3, 2, "R", 0), (3, 3, "R", 1), (0, 0, "R", 0), (None, None, "R", 0),
+                                              (None, 5, "R", 1), (3, 3, "G", 1)):
             rule = "Intergreen" if before != 0 else None
             masks = ([self.turn("C", False, rule, None, wait)] for wait in (before, after))
             with self.subTest(before=before, after=after, aspects=aspects):
@@ -141,7 +148,39 @@ class GuardedMasks(unittest.TestCase):
 
     def test_told(self):
         masks = SimpleNamespace(seconds=9, wrong=1, first="second 3")
-        light = SimpleNamespace(name="L", controller=SimpleNamespace(rules=guarded.collections.Counter(), late=0, masks=masks), seconds=9)
+        controller = SimpleNamespace(rules=guarded.collections.Counter(), late=0, masks=masks)
+        light = SimpleNamespace(name="L", controller=controller, seconds=9)
         told = guarded.refusals_of([light])
         self.assertEqual((told["masks"], told["masks_wrong"], told["first_wrong_mask"]), (9, 1, "L: second 3"))
         self.assertIn("; 1 of 9 masks were wrong", guarded.line_of(told))
+
+
+class GuardedNets(unittest.TestCase):
+    def judged(self, verdict, status=0, wrong=0):
+        """What is told of a network of two lights whose logs have this verdict, by stand-ins of all programs."""
+        told = {"seconds": 9, "vehicles": 4, "refused_turns": {"MinGreen": 3}, "late": 1, "light_seconds": 18, "masks": 18,
+                "masks_wrong": wrong, "first_wrong_mask": "L: second 2" if wrong else None}
+
+        def call(*words):
+            if "audit" in words:
+                return SimpleNamespace(returncode=0, stdout=f"{verdict}\n", stderr="")
+            return SimpleNamespace(returncode=status, stdout="" if status == 1 else json.dumps(told), stderr="it fell")
+
+        net = SimpleNamespace(name="town", routes="town.rou.xml", additional=())
+        given = SimpleNamespace(control="guarded:actuated", seconds=9, libsumo=False, junction="junction", test_mask=None)
+        out, err = io.StringIO(), io.StringIO()
+        with mock.patch.object(guarded_sumo, "call", call), contextlib.redirect_stdout(out), contextlib.redirect_stderr(err):
+            found = guarded_sumo.judged(net, Path("town.net.xml"), {"A": Path("a"), "B": Path("b")}, Path("to"), given)
+        return found, out.getvalue(), err.getvalue()
+
+    def test_a_network(self):
+        found, out, _ = self.judged("SAFE 9")
+        self.assertEqual(found, (2, []))
+        self.assertEqual(out, "town: 2 lights, 9 seconds, 4 vehicles; 3 turns refused, a green late in 1 of 18 seconds; 0 of 18 "
+                              "masks wrong; 0 wrong\n")
+
+    def test_what_is_wrong(self):
+        self.assertEqual(self.judged("UNSAFE 3 Conflict")[0], (2, ["a: UNSAFE 3 Conflict", "b: UNSAFE 3 Conflict"]))
+        self.assertEqual(self.judged("SAFE 9", 3, 1)[0], (2, ["L: second 2"]))
+        found, _, err = self.judged("SAFE 9", 1)
+        self.assertEqual((found, err), ((0, ["town: it wasn't driven"]), "town: status 1: it fell\n"))

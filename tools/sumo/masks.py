@@ -1,9 +1,9 @@
 """Whether a guard shows in each second what its mask told before it, whatever the wishes of that second are.
 
-Of a turn that is wished alone the mask tells all. Of several at once it tells this: an end comes, or is refused, as the mask has
-it. A start that the mask allows comes, or stands against a group that turned in this second too. One that it refuses is refused,
-but that the group in its way may have gone. All else goes on by nature, and where nothing turned by a wish each wait is a second
-shorter."""
+Of a turn that is wished alone the mask tells all. Of several at once it tells this: an end comes, or is refused, as the mask
+has it. A start that the mask allows comes, or stands against a group that turned in this second too. One that it refuses is
+refused, but that the group in its way may have gone. All else goes on by nature, and where nothing turned by a wish each wait is
+a second shorter."""
 
 AGAINST_OTHERS = ("Conflict", "Intergreen")
 
