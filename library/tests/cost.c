@@ -3,8 +3,8 @@
  * nothing   by commands, of which there are none
  * stages    by commands: in each second the stage is wished to which the program went in that second
  * wishes    by commands: in each second each group is wished what it showed under the program
- * The same vehicles come in all of them, each on its detector. The ways take turns, and of each the shortest of many runs counts,
- * which other work on the machine hardly disturbs. */
+ * The same vehicles come in all of them, each on its detector. The ways take turns, and of each the shortest of many runs
+ * counts, which other work on the machine hardly disturbs. */
 #include "texts.h"
 #include <time.h>
 
@@ -39,7 +39,10 @@ static void prepare(const struct junction_texts *texts) {
         }
         if (junction_second(junction, &counts[s], &told)) exit(1);
         commands[2][s].stage = told.to;
-        for (int g = 0; g < told.groups; g++) commands[3][s].groups[g] = told.aspects[g] == 'G' || told.aspects[g] == 'U' ? 1 : 2;
+        for (int g = 0; g < told.groups; g++) {
+            int is_on = told.aspects[g] == 'G' || told.aspects[g] == 'U';
+            commands[3][s].groups[g] = is_on ? 1 : 2;
+        }
     }
     junction_close(junction);
 }
@@ -49,9 +52,10 @@ static double run(const struct junction_texts *texts, int way) {
     struct junction *junction = opened(texts);
     struct junction_told told;
     double begun = now();
-    for (int s = 0; s < SECONDS; s++)
-        if (way ? junction_given_second(junction, &counts[s], &commands[way][s], &told) : junction_second(junction, &counts[s], &told))
-            exit(1);
+    for (int s = 0; s < SECONDS; s++) {
+        if (!way && junction_second(junction, &counts[s], &told)) exit(1);
+        if (way && junction_given_second(junction, &counts[s], &commands[way][s], &told)) exit(1);
+    }
     begun = now() - begun;
     junction_close(junction);
     return begun / SECONDS;
