@@ -26,6 +26,8 @@ from test_acceptance import *
 from test_build import *
 from test_charts import *
 from test_closed_loop import *
+from test_completion import *
+from test_fresh import *
 from test_install import *
 from test_made_files import *
 from test_proofs import *

@@ -6,6 +6,7 @@ Runs every test of the repository without a proof, in some minutes, and tells ho
   tests     the #[test] functions of all crates, in one crate that is made of them, by one `rt try --test`; --only: of these crates
   cases     the cases of test_told, whose output has to be that of its file `stdout`; --cases: these files of cases alone, or those
             whose names begin with NAME by a word =NAME, and what they tell is written
+  programs  the same cases by the four programs, in some seconds, where they are built and as new as their sources
   scripts   tools/test.py: the scripts, the pages' links and rows, and the page in the browser, where its tools are there
   style     tools/style.py: what sources should not have
   pages     tools/check_pages.py: what the pages show, where the four programs are built and as new as their sources
@@ -36,7 +37,7 @@ CRATES = TOP / "crates"
 # A test may take so many seconds of the clock, on a busy machine too.
 SECONDS = "900"
 
-PARTS = ["tests", "cases", "scripts", "style", "pages", "library"]
+PARTS = ["tests", "cases", "programs", "scripts", "style", "pages", "library"]
 
 # What `rt try` writes of itself below what the program wrote.
 TOLD_BY_RT = re.compile(r"^(rt: |checked: |run=|interpreter: |races: |leaks: )")
@@ -217,6 +218,20 @@ def built_programs(work):
     return None, lacking[0]
 
 
+def run_programs(progress, calls, _work, options):
+    """The cases by built programs. Where they were asked for by name and can't be run, that is a failure."""
+    folder, lacking = options.programs
+    if not folder and "programs" in options.what:
+        raise Failed(f"{lacking}: tools/build.py builds them")
+    if not folder:
+        raise Skipped(lacking)
+    progress.say("programs", "the cases are run by built programs")
+    status, said, faults = calls.run([sys.executable, "-B", TOP / "tools" / "try_cases.py", folder])
+    if status != 0:
+        raise Failed(said[-4000:] + faults[-2000:])
+    return said.strip()
+
+
 def run_scripts(progress, calls, _work, options):
     """The tests of the scripts and of the pages, with the programs where they are built."""
     folder, _ = options.programs
@@ -266,7 +281,10 @@ def run_library(progress, calls, _work, _options):
     return "passed"
 
 
-RUNS = {"tests": run_tests, "cases": run_cases, "scripts": run_scripts, "style": run_style, "pages": run_pages, "library": run_library}
+RUNS = {
+    "tests": run_tests, "cases": run_cases, "programs": run_programs, "scripts": run_scripts, "style": run_style, "pages": run_pages,
+    "library": run_library,
+}
 
 
 def run_part(part, progress, calls, work, options):

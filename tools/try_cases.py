@@ -70,6 +70,17 @@ def unescaped(line):
     return text if line.endswith(b"\\") else text + b"\n"
 
 
+def lines_told(line):
+    """The bytes of a line of an escaped part: `\\*N LINE` stands for so many lines, with `\\#` for the number of each."""
+    many = re.match(rb"\\\*(\d+) ", line)
+    if not many:
+        return unescaped(line)
+    line, count = line[many.end() :], int(many[1])
+    if b"\\#" not in line:
+        return unescaped(line) * count
+    return b"".join(unescaped(line.replace(b"\\#", str(number).encode())) for number in range(count))
+
+
 def files_in(folder):
     """The files of cases in a folder, in the order of the file `args` there or above it."""
     order = next((place / ORDER for place in (folder, folder.parent) if (place / ORDER).is_file()), None)
@@ -92,7 +103,7 @@ def read_cases(files):
                 cases[-1].parts.append([line[4:], b""])
             elif len(cases) > count and cases[-1].parts:
                 part = cases[-1].parts[-1]
-                part[1] += unescaped(line) if part[0].startswith(b"\\") else line + b"\n"
+                part[1] += lines_told(line) if part[0].startswith(b"\\") else line + b"\n"
     for case in cases:
         case.parts = [(title[1:] if title.startswith(b"\\") else title, text) for title, text in case.parts]
     return cases

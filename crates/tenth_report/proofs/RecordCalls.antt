@@ -3,9 +3,9 @@ use Rattle.std.proofs.Common.{◌≡◌, ◌∙◌, ℕ, Bool, List, Option, Non
 use Rattle.std.specs.Str.Lines.{lines}
 use Rattle.sig_io.specs.Outside.{Contents}
 use Rattle.sig_types.specs.Rules.{Rules}
-use Rattle.log_site.specs.declared.stop.SiteStop.{SiteStop}
-use Rattle.log_site.specs.declared.stop.SiteStop.TheVariants as unsited
-use Rattle.log_site.specs.Stop as stop
+use Rattle.site_load.specs.declared.stop.SiteStop.{SiteStop}
+use Rattle.site_load.specs.declared.stop.SiteStop.TheVariants as unsited
+use Rattle.site_load.specs.Stop as stop
 use Rattle.report_words.specs.declared.stop.JudgeStop.TheVariants.{Words, Memory, Site, ReadFault, RefusedLine, WriteFault}
 use Rattle.tenth_records.specs.declared.entry.Entry.{Entry}
 use Rattle.tenth_records.specs.declared.entry.TenthStop.{TenthStop}

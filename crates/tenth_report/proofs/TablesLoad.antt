@@ -5,10 +5,10 @@ use Rattle.pua_model.specs.Plan.{PlanOf}
 use Rattle.sig_tables.specs.declared.times.TimesRow.{TimesRow}
 use Rattle.sig_tables.specs.Pairs.{Pairs, between}
 use Rattle.sig_tables.specs.SiteRules.{rules_by, rules_of}
-use Rattle.log_site.specs.declared.stop.SiteStop.{SiteStop}
-use Rattle.log_site.specs.Loading.{◌>>=◌}
-use Rattle.log_site.specs.Stop.{IsLoadStop}
-use Rattle.log_site.proofs.Loads.{goes_on, stop_along, stops_at}
+use Rattle.site_load.specs.declared.stop.SiteStop.{SiteStop}
+use Rattle.site_load.specs.Loading.{◌>>=◌}
+use Rattle.site_load.specs.Stop.{IsLoadStop}
+use Rattle.site_load.proofs.Loads.{goes_on, stop_along, stops_at}
 use Rattle.tenth_report.specs.Tables.{ReachedInTables, intergreens_at, rules_at, times_at}
 
 module _ (file : Contents) (times intergreens : List ℕ) (plan : PlanOf) where

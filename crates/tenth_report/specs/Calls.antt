@@ -7,8 +7,8 @@ use Rattle.sig_io.specs.Draft.{IsCut}
 use Rattle.sig_io.specs.Outside.{Contents, Rose}
 use Rattle.sig_io.specs.Seen.{Seen}
 use Rattle.sig_types.specs.Rules.{Rules}
-use Rattle.log_site.specs.declared.stop.SiteStop.{SiteStop}
-use Rattle.log_site.specs.Stop.{IsLoadStop}
+use Rattle.site_load.specs.declared.stop.SiteStop.{SiteStop}
+use Rattle.site_load.specs.Stop.{IsLoadStop}
 use Rattle.report_words.specs.declared.status.Status.{Status}
 use Rattle.report_words.specs.declared.status.Status.TheVariants.{Done, Broken}
 use Rattle.report_words.specs.declared.stop.JudgeStop.TheVariants.{Words, Memory, Site, ReadFault, RefusedLine, WriteFault}

@@ -1,6 +1,6 @@
 -- Why a call stopped, and how it ended.
 use Rattle.std.specs.Prelude.{◌≡◌, ℕ, List, ◌++◌, codes, Some, Result, Ok, Err}
-use Rattle.log_site.specs.declared.stop.SiteStop.TheVariants as site
+use Rattle.site_load.specs.declared.stop.SiteStop.TheVariants as site
 use Rattle.report_words.specs.declared.status.Status.{Status}
 use Rattle.report_words.specs.declared.status.Status.TheVariants.{Refused}
 use Rattle.report_words.specs.declared.stop.JudgeStop.TheVariants.{Words, Memory, Site, ReadFault, RefusedLine, WriteFault}

@@ -5,7 +5,7 @@ use Rattle.sig_types.specs.Rules.{Rules}
 use Rattle.pua_model.specs.Plan.{PlanOf}
 use Rattle.sig_tables.specs.declared.times.TimesRow.{TimesRow}
 use Rattle.sig_tables.specs.SiteRules.{rules_by, rules_of}
-use Rattle.log_site.specs.Loading.{Unloaded, judged, table_refusal, ◌>>=◌}
+use Rattle.site_load.specs.Loading.{Unloaded, judged, table_refusal, ◌>>=◌}
 use Rattle.tenth_report.specs.declared.tables.RecordTables.{RecordTables}
 use Rattle.tenth_tables.specs.Times.{times_refusal, times_of}
 use Rattle.tenth_tables.specs.Intergreens.{intergreens_refusal, intergreen_of}

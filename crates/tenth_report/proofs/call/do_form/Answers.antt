@@ -1,5 +1,5 @@
 use Rattle.std.proofs.Common.{◌≡◌, ◌∙◌, Bool, Ok, Err, refl, sym, ap, subst}
-use Rattle.log_site.specs.Stop.{IsLoadStop}
+use Rattle.site_load.specs.Stop.{IsLoadStop}
 use Rattle.pua_model.specs.Plan.{PlanOf}
 use Rattle.tenth_records.specs.Answers.{record_told}
 use Rattle.tenth_records.specs.Names.{plan_of_names}

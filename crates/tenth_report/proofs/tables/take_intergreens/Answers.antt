@@ -1,7 +1,7 @@
 use Rattle.std.proofs.Common.{◌≤◌, ◌∙◌, ℕ, List, length, sym, subst}
 use Rattle.sig_tables.specs.Pairs.{between}
-use Rattle.log_site.specs.Loading.{table_refusal}
-use Rattle.log_site.proofs.Loads.{judged_so, judged_unread, seconds_are}
+use Rattle.site_load.specs.Loading.{table_refusal}
+use Rattle.site_load.proofs.Loads.{judged_so, judged_unread, seconds_are}
 use Rattle.tenth_tables.specs.Intergreens.{intergreens_refusal, intergreen_of}
 use Rattle.tenth_report.proofs.tables.take_intergreens.Goals as goal
 

@@ -1,5 +1,5 @@
 use Rattle.std.proofs.Common.{◌≡◌, ◌∙◌, subst}
-use Rattle.log_site.specs.Stop.{IsLoadStop}
+use Rattle.site_load.specs.Stop.{IsLoadStop}
 use Rattle.tenth_report.specs.Tables.{intergreens_at}
 use Rattle.tenth_report.proofs.TablesLoad.{no_intergreens, no_times}
 use Rattle.tenth_report.proofs.tables.take_tables.Goals as goal

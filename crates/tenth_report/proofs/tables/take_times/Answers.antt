@@ -1,6 +1,6 @@
 use Rattle.std.proofs.Common.{◌≤◌, ◌∙◌, ℕ, List, length, sym, subst}
-use Rattle.log_site.specs.Loading.{table_refusal}
-use Rattle.log_site.proofs.Loads.{judged_so, judged_unread}
+use Rattle.site_load.specs.Loading.{table_refusal}
+use Rattle.site_load.proofs.Loads.{judged_so, judged_unread}
 use Rattle.tenth_tables.specs.Times.{times_refusal, times_of}
 use Rattle.tenth_report.proofs.tables.take_times.Goals as goal
 
