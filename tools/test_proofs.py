@@ -9,6 +9,7 @@ from pathlib import Path
 
 import test_all
 from shorten_checks import dear_functions
+from wrong_bodies import figures_of, how_refused, read_table
 from wrong_edits import Edit, functions_of
 from wrong_runs import REFUSED, SURVIVED, UNCLEAR, Crate, Run
 from wrong_tries import without
@@ -66,7 +67,7 @@ class WrongBodies(unittest.TestCase):
 
     def test_functions_of_a_source(self):
         found = functions_of("src/b.rt", SOURCE)
-        self.assertEqual([it.full() for it in found], ["b::twice", "b::Count::on", "b::Display::fmt", "b::even"])
+        self.assertEqual([it.full() for it in found], ["b::twice", "b::Count::on", "b::CountDisplay::fmt", "b::even"])
         self.assertEqual([it.in_trait for it in found], [False, False, True, False])
         self.assertTrue(SOURCE[found[0].start :].startswith("/// Doubles"))
         self.assertEqual(SOURCE[found[0].body : found[0].end], "{\n    n + n\n}")
@@ -121,6 +122,18 @@ fn a::b::even: proved
             for name in names:
                 self.assertIn(name, {edit for _, edit in found}, crates)
             self.assertEqual({crate for crate, name in found if name in names}, set(crates), names)
+
+    def test_the_page_has_the_figures_of_the_table(self):
+        edits = [(file.parents[1].name, file.stem) for part in ("edits", "must-fail") for file in test_all.CRATES.glob(f"*/{part}/*.edit")]
+        self.assertEqual(len(edits), len(set(edits)))
+        rows = read_table(test_all.TOP / "docs" / "wrong_bodies.csv")
+        self.assertEqual(set(rows) - set(edits), set(), "rows of edits that are gone")
+        page = (test_all.TOP / "docs" / "wrong-bodies.md").read_text(encoding="utf-8")
+        self.assertTrue(figures_of(rows, edits) in " ".join(page.split()), "tools/wrong_bodies.py --figures")
+
+    def test_how_an_edit_was_refused(self):
+        how = [how_refused({"goal": it}) for it in ("a (open) b (false)", "a (open) b (open)", "a b", "a (open); left out: b")]
+        self.assertEqual(how, ["false", "open", "answer", "open"])
 
     def test_answers_are_left_out(self):
         text = "use A.{b}\n\npub one : goal.one\none c =\n    b c\n\npub two : goal.two\ntwo c = c"

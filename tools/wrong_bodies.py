@@ -1,5 +1,5 @@
 #!/usr/bin/env python3
-"""tools/wrong_bodies.py [CRATE..] [--minutes N] [--only PATTERN] [--list] ..: tries wrong bodies, many in one run of the prover.
+"""tools/wrong_bodies.py [CRATE..] [--minutes N] [--only PATTERN] [--list | --figures] ..: tries wrong bodies, many in a run of the prover.
 
 A wrong body is an edit that the prover must refuse. It lies in crates/NAME/must-fail/*.edit (the gate tries these too) or
 crates/NAME/edits/*.edit (this script alone does), in the form that `rt help` gives. Where the crate is still proved with one, its
@@ -67,6 +67,35 @@ def commit_of(root):
         return subprocess.run(["git", "-C", root, *words], capture_output=True, text=True).stdout.strip()
 
     return git("rev-parse", "--short", "HEAD") + ("+" if git("status", "--porcelain", "--untracked-files=no", "--", "crates") else "")
+
+
+def how_refused(row):
+    """How a row of the table says that an edit was refused: by values, by an answer or by what is left open."""
+    goals = row["goal"].split("; left out:")[0]
+    if "(false)" in goals:
+        return "false"
+    return "open" if len(goals.split()) == 2 * goals.count("(open)") else "answer"
+
+
+def figures_of(rows, edits):
+    """Says what the table has of these edits, pairs of crate and name, in one sentence; docs/wrong-bodies.md has it."""
+    here = [rows[it] for it in edits if it in rows]
+    came = [row["verdict"] for row in here]
+    how = [how_refused(row) for row in here if row["verdict"] == REFUSED]
+    tried = sum(came.count(it) for it in (REFUSED, WEAK, SURVIVED))
+    by = f"{how.count('answer')} by an answer, {how.count('false')} by values, {how.count('open')} by an open goal"
+    rest = f"{came.count(WEAK)} weakly, {came.count(SURVIVED)} survived"
+    return f"Of {len(edits)} edits {tried} were tried: {len(how)} refused ({by}), {rest}; {len(edits) - tried} were not."
+
+
+def tell_figures(edits_of, kit, crates, rows):
+    """Says what the table has, and how much of it rests on other sources than stand here."""
+    print(figures_of(rows, [(crate.name, edit.name) for crate, edits in edits_of for edit in edits]))
+    old = 0
+    for crate, edits in edits_of:
+        sums = sums_of(crate, edits, kit, crates)
+        old += sum(1 for it in edits if (crate.name, it.name) in rows and rows[crate.name, it.name]["sum"] != sums[it.name])
+    print(f"{old} of these rows rest on other sources than stand here")
 
 
 def how_tried(edit):
@@ -149,16 +178,22 @@ def words_of():
     add("--one-by-one", action="store_true", help="try each edit alone in its place, as rt must-fail does")
     add("--only", default="", metavar="PATTERN", help="the edits in whose crate/name this regular expression is found")
     add("--list", action="store_true", help="try nothing: say which edits apply, and how each would be tried")
+    add("--figures", action="store_true", help="try nothing: count what the table has")
     add("--verbose", action="store_true")
     return words.parse_args()
+
+
+def sums_of(crate, edits, kit, crates):
+    """The sums by which rows of a crate's edits hold: of the edit, the crate, those below it and the kit."""
+    total = crate.sum(kit, crates)
+    return {it.name: hashlib.sha256((total + it.text).encode()).hexdigest()[:16] for it in edits}
 
 
 def tasks_of(edits_of, kit, table, crates, options):
     """The crates with edits to be tried, those tried longest ago first."""
     tasks = []
     for crate, edits in edits_of:
-        total = crate.sum(kit, crates)
-        sums = {it.name: hashlib.sha256((total + it.text).encode()).hexdigest()[:16] for it in edits}
+        sums = sums_of(crate, edits, kit, crates)
         todo = table.left(crate, edits, sums, options.anew)
         lacks = kit.words(crate)[1]
         if todo and lacks:
@@ -183,6 +218,9 @@ def main():
     edits_of = [(crate, edits) for crate, edits in edits_of if edits]
     if options.list:
         list_edits(edits_of)
+        return 0
+    if options.figures:
+        tell_figures(edits_of, kit, crates, read_table(options.table))
         return 0
     table = Table(options.table, kit, root)
     tasks = tasks_of(edits_of, kit, table, crates, options)

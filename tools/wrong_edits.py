@@ -61,10 +61,16 @@ def blocks_of(text):
     blocks = []
     for it in BLOCK.finditer(text):
         of = re.sub(r"\bwhere\b.*", "", it[2], flags=re.S)
-        is_trait = it[1] == "trait" or bool(re.search(r"\bfor\b", of))
-        name = re.match(r"\s*(?:<[^{]*?>\s+)?([A-Za-z_]\w*(?:::\w+)*)", of)
-        blocks.append((it.start(), closed(text, it.end() - 1), is_trait, name[1].split("::")[-1] if name else "?"))
+        first, of_trait, last = re.sub(r"\A\s*<[^{]*?>\s+", "", of).partition(" for ")
+        is_trait = it[1] == "trait" or bool(of_trait)
+        blocks.append((it.start(), closed(text, it.end() - 1), is_trait, word_of(last) + word_of(first)))
     return blocks
+
+
+def word_of(path):
+    """Returns the last word of the path that a text begins with. The prover names an impl by the type's and then the trait's."""
+    name = re.match(r"\s*(?:&\s*(?:mut\s+)?)?([A-Za-z_]\w*(?:::\w+)*)", path)
+    return name[1].split("::")[-1] if name else ""
 
 
 def is_clause(head):

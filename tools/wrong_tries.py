@@ -50,6 +50,7 @@ class Tries:
         self.crate, self.kit, self.options = crate, kit, options
         self.room = os.path.join(options.work, crate.name)
         self.kept = os.path.join(self.room, "kept")
+        self.words, _ = kit.words(crate)
         self.results, self.seconds, self.runs = {}, 0.0, 0
 
     def copy_with(self, texts):
@@ -71,8 +72,7 @@ class Tries:
     def check(self, texts, kept, flags=()):
         """Checks a copy of the crate with these texts in place of its own, over kept work."""
         copy = self.copy_with(texts)
-        words, _ = self.kit.words(self.crate)
-        words = [*words, *(["--incremental", kept] if kept else []), *flags]
+        words = [*self.words, *(["--incremental", kept] if kept else []), *flags]
         with open(f"{self.room}/said", "w+", encoding="utf-8", errors="replace") as out:
             how = {"stdin": subprocess.DEVNULL, "stdout": out, "stderr": subprocess.STDOUT}
             ran = subprocess.Popen(["nice", "-n", str(self.options.nice), *words], cwd=copy, **how)
@@ -186,8 +186,8 @@ class Tries:
                 alone.append(edit)
         return again
 
-    def in_place(self, edit):
-        """Tries one edit alone, in its place."""
+    def in_place(self, edit, only=()):
+        """Tries one edit alone, in its place: as it is in the whole crate, or of these functions, where a refusal of its own counts."""
         over = os.path.join(self.room, "over")
         shutil.rmtree(over, ignore_errors=True)
         if os.path.isdir(self.kept):
@@ -195,10 +195,22 @@ class Tries:
         texts = dict(edit.texts)
         if edit.dropped:
             texts.update(self.proofs(edit.function, edit.function.name, edit.dropped))
-        ran = self.check(texts, over, ["--jobs", "1"])
+        ran = self.check(texts, over, ["--jobs", "1", *(word for name in only for word in ("--only", name))])
         shutil.rmtree(over, ignore_errors=True)
         verdict, full, goal = self.judged_in_place(edit, ran)
-        self.told(edit, verdict, full, goal, "alone", ran.seconds)
+        if not only or verdict in (REFUSED, WEAK, BAD):
+            self.told(edit, verdict, full, goal, "alone", ran.seconds)
+
+    def alone_in_functions(self, edits):
+        """Tries edits in their places, each with its function alone where that is proved as it stands. Returns the others."""
+        functions = sorted({it.function.full() for it in edits if it.function})
+        if functions:
+            ran = self.check({}, self.kept, ["--jobs", "1", *(word for name in functions for word in ("--only", name))])
+            for edit in edits:
+                full = edit.function.full() if edit.function else ""
+                if full and ran.judged(self.crate.name, full)[0] == SURVIVED:
+                    self.in_place(edit, [full])
+        return [it for it in edits if it.name not in self.results]
 
     def judged_in_place(self, edit, ran):
         """Returns what a run with an edit in its place came to: a verdict, the function, and the goals or the reason."""
@@ -250,6 +262,8 @@ class Tries:
         for begin in range(0, len(together), self.options.most):
             if time.monotonic() < until:
                 alone += self.beside(together[begin : begin + self.options.most])
+        if alone and time.monotonic() < until:
+            alone = self.alone_in_functions(alone)
         if len(alone) > 1 and time.monotonic() < until:
             # (what is proved of the whole crate once need not be proved for each)
             if not self.check({}, self.kept, ["--jobs", str(self.options.prover_jobs)]).is_proved():
