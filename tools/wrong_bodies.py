@@ -8,6 +8,7 @@ contract is too weak.
 How it tries many at a time. Of a function with edits the crate gets copies beside it, with the same contract and the same proof
 files, under names of their own: one as it is (the control) and one for each edit. The crate's own functions stay as they are, so
 each copy is judged alone: it calls what is proved, and nothing calls it. One run of the prover judges all copies of a crate.
+There is no control where the crate's own proved library lies there too, and the function has no proof files to be renamed.
 
 What a copy comes to:
   refused    the control is proved, and of the copy an answer is refused or a goal is left open: `(false)` where the prover knows

@@ -103,6 +103,8 @@ class Tries:
                 out.append(text[at : function.end])
                 at = function.end
                 for number, edit in enumerate([None, *edits]):
+                    if not edit and not self.wants_control(function):
+                        continue
                     name = f"{function.name}_wrong{number}" if number else f"{function.name}_as_is"
                     body = edit.body if edit else text[function.start : function.end]
                     body = re.sub(rf"\bfn {function.name}\b", f"fn {name}", body, count=1)
@@ -113,6 +115,18 @@ class Tries:
                     texts.update(self.proofs(function, name, edit.dropped if edit else ()))
             texts[path] = "".join(out) + text[at:]
         return texts, names, lines
+
+    def wants_control(self, function):
+        """Whether a copy as it is says more than that the crate is proved: where proof files are renamed, or a cycle of calls is left."""
+        path = function.full().replace("::", "/")
+        has_files = any(os.path.isdir(f"{self.crate.folder}/proofs/{it}") for it in (path, f"{os.path.dirname(path)}/fn/{function.name}"))
+        text = self.crate.text(function.path)[function.start : function.end]
+        return has_files or "#[cycle" in text or not self.kit.library(self.crate, self.crate.name)
+
+    def is_as_proved(self, ran, function, names):
+        """Whether the copy as it is was proved; where none is wanted the crate's own proof has said so."""
+        control = names.get((function.path, function.start))
+        return control is None or ran.judged(self.crate.name, control)[0] == SURVIVED
 
     def proofs(self, function, name, dropped):
         """Returns the copies of the function's proof files under another name, without these answers."""
@@ -170,9 +184,8 @@ class Tries:
         share, again = ran.seconds / len(left), []
         for edit in left:
             full, gone = edit.function.full(), self.gone(ran, names[edit.name]) - edit.dropped
-            control, _ = ran.judged(self.crate.name, names[edit.function.path, edit.function.start])
             verdict, goal = ran.judged(self.crate.name, names[edit.name], lines[edit.name])
-            if control != SURVIVED:
+            if not self.is_as_proved(ran, edit.function, names):
                 alone.append(edit)
             elif gone:
                 edit.dropped |= gone
@@ -204,12 +217,14 @@ class Tries:
     def alone_in_functions(self, edits):
         """Tries edits in their places, each with its function alone where that is proved as it stands. Returns the others."""
         functions = sorted({it.function.full() for it in edits if it.function})
-        if functions:
+        proved = functions if self.kit.library(self.crate, self.crate.name) else []
+        if len(functions) > len(proved) or len(edits) > 1 and functions:
+            # (what they call is proved once, and kept)
             ran = self.check({}, self.kept, ["--jobs", "1", *(word for name in functions for word in ("--only", name))])
-            for edit in edits:
-                full = edit.function.full() if edit.function else ""
-                if full and ran.judged(self.crate.name, full)[0] == SURVIVED:
-                    self.in_place(edit, [full])
+            proved = [it for it in functions if ran.judged(self.crate.name, it)[0] == SURVIVED]
+        for edit in edits:
+            if edit.function and edit.function.full() in proved:
+                self.in_place(edit, [edit.function.full()])
         return [it for it in edits if it.name not in self.results]
 
     def judged_in_place(self, edit, ran):
