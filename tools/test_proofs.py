@@ -6,13 +6,15 @@ import sys
 import tempfile
 import unittest
 from pathlib import Path
+from types import SimpleNamespace
+from unittest import mock
 
 import test_all
 from shorten_checks import dear_functions
 from wrong_bodies import figures_of, how_refused, read_table
 from wrong_edits import Edit, functions_of
-from wrong_runs import REFUSED, SURVIVED, UNCLEAR, Crate, Run
-from wrong_tries import without
+from wrong_runs import REFUSED, SURVIVED, UNCLEAR, Crate, Kit, Run
+from wrong_tries import Tries, without
 
 SOURCE = """// A source.
 use a::B;
@@ -139,6 +141,55 @@ fn a::b::even: proved
         text = "use A.{b}\n\npub one : goal.one\none c =\n    b c\n\npub two : goal.two\ntwo c = c"
         self.assertEqual(without(text, {"one"}), "use A.{b}\n\npub two : goal.two\ntwo c = c")
         self.assertEqual(without(text, {"one", "two"}), "")
+
+
+# In the prover's place: it proves what has none of these words in it, of a function or of the whole crate.
+PROVER = """#!/usr/bin/env python3
+import sys
+text = open("src/b.rt", encoding="utf-8").read()
+only = [sys.argv[i + 1] for i, word in enumerate(sys.argv) if word == "--only"]
+with open(sys.argv[0] + ".asked", "a", encoding="utf-8") as it:
+    it.write(" ".join(only) + "\\n")
+wrong = [it for it in only if "n + 1" in text.partition(f"fn {it.split('::')[-1]}(")[2][:120] or "a brace" in text and it.endswith("fmt")]
+for it in only:
+    print(f"fn a::{it}: " + ("no proof: `search` did not prove `returns`" if it in wrong else "proved"))
+print(f"only={len(only)} proved={len(only) - len(wrong)}" if only else "logic=proved functions=4")
+sys.exit(1 if wrong else 0)
+"""
+
+
+class Tried(unittest.TestCase):
+    """What is asked of the prover for an edit, and what its answers come to."""
+
+    def tried(self, old, new, is_built):
+        top = Path(tempfile.mkdtemp(prefix="test_tried_"))
+        files = {"crates/a/src/b.rt": SOURCE, "kit/KIT-ID": "a kit\n", "kit/bin/rattle": PROVER, "kit/rlibs/std.rlib/format": ""}
+        if is_built:
+            files["crates/a/out/rlib/a.rlib/format"] = ""
+        for path, text in files.items():
+            (top / path).parent.mkdir(parents=True, exist_ok=True)
+            (top / path).write_text(text, encoding="utf-8")
+        (top / "kit/bin/rattle").chmod(0o755)
+        (top / "one.edit").write_text(f"file: src/b.rt\nold: {old}\nnew: {new}\n", encoding="utf-8")
+        crate = Crate(str(top), "a", [], False)
+        options = SimpleNamespace(work=str(top / "work"), nice=0, prover_jobs=1, most=60, one_by_one=False, verbose=False)
+        with mock.patch.dict(os.environ, {"RATTLE_KIT": str(top / "kit")}):
+            tries = Tries(crate, Kit({"a": crate}, [], False), options)
+        verdict = tries.all([Edit(crate, str(top / "one.edit"))], 10**9)["one"]
+        return verdict[:4:3], (top / "kit/bin/rattle.asked").read_text(encoding="utf-8").split("\n")[:-1]
+
+    def test_a_copy_beside_its_function(self):
+        self.assertEqual(self.tried("    n + n", "    n + 1", True), ((REFUSED, "beside"), ["b::twice_wrong1"]))
+        self.assertEqual(self.tried("    n + n", "    n + 1", False), ((REFUSED, "beside"), ["b::twice_as_is b::twice_wrong1"]))
+
+    def test_what_survives_is_tried_in_its_place_and_in_the_whole_crate(self):
+        asked = ["b::twice_wrong1", "b::twice", ""]
+        self.assertEqual(self.tried("    n + n", "    2 * n", True), ((SURVIVED, "alone"), asked))
+
+    def test_a_method_of_a_trait_is_tried_with_its_function_alone(self):
+        self.assertEqual(self.tried("no brace", "a brace", True), ((REFUSED, "alone"), ["b::CountDisplay::fmt"]))
+        asked = ["b::CountDisplay::fmt", "b::CountDisplay::fmt"]
+        self.assertEqual(self.tried("no brace", "a brace", False), ((REFUSED, "alone"), asked))
 
 
 class AllTests(unittest.TestCase):
