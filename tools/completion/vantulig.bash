@@ -129,7 +129,7 @@ _vantulig_log_report()
                 breaches:*) _vantulig_options --amber-tolerance --csv ;;
                 protocol:* | refusals:*) _vantulig_options --csv ;;
                 compare:*) _vantulig_files log ;;
-                sums:*) _vantulig_options --each --serves+ --csv ;;
+                sums:*) _vantulig_options --each --serves+ --lost --csv ;;
                 diagram:[34]) ;;
                 diagram:*)
                     case --site in

@@ -19,7 +19,7 @@ report_form word =
 abbrev pub report_line : ReportForm → List ℕ
 report_line form.Diagram = codes "log_report diagram LOG FROM TO [--site PUA TIMES INTERGREENS] [--strip N] [--title TEXT] [--begin HH:MM:SS]"
 report_line form.Text = codes "log_report text LOG FROM TO"
-report_line form.Sums = codes "log_report sums LOG [FROM TO] [--each SECONDS] [--serves DETECTORS:GROUP] [--csv]"
+report_line form.Sums = codes "log_report sums LOG [FROM TO] ([--each SECONDS] [--serves DETECTORS:GROUP] | --lost) [--csv]"
 report_line form.Compare = codes "log_report compare LOG LOG"
 report_line form.Breaches = codes "log_report breaches LOG PUA TIMES INTERGREENS [--amber-tolerance N] [--csv]"
 report_line form.Protocol = codes "log_report protocol LOG PUA TIMES INTERGREENS [--csv]"
@@ -39,7 +39,7 @@ report_more form.Text =
 report_more form.Sums =
     codes "  what groups, stages, refusals, faults and detectors of the log, or of these seconds, add up to\n"
     ++ codes "  --each SECONDS            for each part of so many seconds, from 60 to 604801\n"
-    ++ codes "  --serves DETECTORS:GROUP  what these detectors tell of the waits for the group\n"
+    ++ codes "  --serves DETECTORS:GROUP  what these detectors tell of the waits for the group\n  --lost                    each start that was asked for, refused, and then asked for no more, in their place\n"
     ++ codes "  --csv                     as a table\n"
 report_more form.Compare =
     codes "  where two logs differ first, and what both add up to\n"

@@ -53,7 +53,7 @@ pub fn report_line(form: ReportForm) -> &'static [u8]
             b"log_report diagram LOG FROM TO [--site PUA TIMES INTERGREENS] [--strip N] [--title TEXT] [--begin HH:MM:SS]",
         ReportForm::Text => b"log_report text LOG FROM TO",
         ReportForm::Sums =>
-            b"log_report sums LOG [FROM TO] [--each SECONDS] [--serves DETECTORS:GROUP] [--csv]",
+            b"log_report sums LOG [FROM TO] ([--each SECONDS] [--serves DETECTORS:GROUP] | --lost) [--csv]",
         ReportForm::Compare => b"log_report compare LOG LOG",
         ReportForm::Breaches =>
             b"log_report breaches LOG PUA TIMES INTERGREENS [--amber-tolerance N] [--csv]",
@@ -81,6 +81,7 @@ pub fn report_more(form: ReportForm) -> &'static [u8]
             b"  what groups, stages, refusals, faults and detectors of the log, or of these seconds, add up to
   --each SECONDS            for each part of so many seconds, from 60 to 604801
   --serves DETECTORS:GROUP  what these detectors tell of the waits for the group
+  --lost                    each start that was asked for, refused, and then asked for no more, in their place
   --csv                     as a table
 ",
         ReportForm::Compare => b"  where two logs differ first, and what both add up to

@@ -1,5 +1,6 @@
 //! Draws, sums, compares and judges logs: `diagram LOG FROM TO` writes an SVG signal timing diagram of these seconds, `text LOG FROM TO` the
-//! same as characters, `sums LOG [FROM TO]` what groups, stages, refusals, faults and detectors add up to, `compare LOG LOG` where
+//! same as characters, `sums LOG [FROM TO]` what groups, stages, refusals, faults and detectors add up to, and with `--lost` which starts
+//! were asked for and lost, `compare LOG LOG` where
 //! two logs differ first and the sums of both, `breaches LOG PUA TIMES INTERGREENS` what the log of any controller breaks of the rules of a junction,
 //! `breaches RECORD TIMES INTERGREENS` what a record in tenths of a second breaks,
 //! `protocol LOG PUA TIMES INTERGREENS` what came in it, and `refusals LOG PUA TIMES INTERGREENS` why commands and turns were
@@ -8,7 +9,10 @@
 
 use form_help::{ReportForm, help_asked, report_form, report_line, report_more};
 use report_judged::{has_site, report_breaches, report_protocol, report_refusals, report_site};
-use report_seen::{Status, Stop, exit_status, report, report_compare, report_sums, write_stop};
+use report_seen::{
+    Status, Stop, exit_status, lost_form, report, report_compare, report_lost, report_sums,
+    write_stop,
+};
 use sig_io::{DiskFiles, ErrSink, Files, OutSink, Sink, put_each, words_of};
 use std::alloc::Global;
 use std::env;
@@ -48,6 +52,9 @@ fn answer<F: Files, O: Sink, N: Sink>(
         return status;
     }
     match words.first() {
+        Some(_) if lost_form(words).is_some() => {
+            exit_status(report_lost(alloc, words, files, out, notes))
+        }
         Some(word) if word.as_str() == "sums" => {
             exit_status(report_sums(alloc, words, files, out, notes))
         }

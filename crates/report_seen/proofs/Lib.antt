@@ -23,3 +23,6 @@ pub mod SumsAsking
 pub mod LogsAlike
 pub mod CompareCalls
 pub mod CompareTexts
+pub mod Losing
+pub mod LostReading
+pub mod LostCalls

@@ -1,6 +1,6 @@
 -- The words behind the seconds of a diagram.
 use Rattle.std.proofs.Common.{◌≡◌, ℕ, suc, ◌+◌, ◌<◌, ◌≤◌, List, [], ◌∷◌, None, Err, length, map, refl, ap, arith}
-use Rattle.std.specs.Prelude.{Bool, ◌&&◌}
+use Rattle.std.specs.Prelude.{◌&&◌}
 use Rattle.report_seen.specs.declared.stop.Stop.TheVariants.{Words}
 use Rattle.report_seen.specs.DiagramForm.{form_of}
 use Rattle.report_seen.specs.Look.{fine_to, is_fine, look_of, with_begin, with_title}

@@ -18,3 +18,7 @@ pub mod Loaded
 pub mod Told
 pub mod CompareCall
 pub mod CompareLaws
+pub mod Lost
+pub mod LostCall
+pub mod LostForm
+pub mod LostText

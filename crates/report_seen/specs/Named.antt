@@ -8,7 +8,7 @@ use Rattle.report_seen.specs.declared.named.FormName.TheVariants.{Diagram, Text,
 abbrev pub form_words : FormName → List ℕ
 form_words Diagram = codes "log_report diagram LOG FROM TO [--site PUA TIMES INTERGREENS] [--strip N] [--title TEXT] [--begin HH:MM:SS]"
 form_words Text = codes "log_report text LOG FROM TO"
-form_words Sums = codes "log_report sums LOG [FROM TO] [--each SECONDS] [--serves DETECTORS:GROUP] [--csv]"
+form_words Sums = codes "log_report sums LOG [FROM TO] ([--each SECONDS] [--serves DETECTORS:GROUP] | --lost) [--csv]"
 
 -- what its words may be, as the note on words that are no form tells it
 abbrev pub form_limits : FormName → List ℕ

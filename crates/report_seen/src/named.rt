@@ -22,7 +22,7 @@ pub fn form_words(form: FormName) -> &'static [u8]
             b"log_report diagram LOG FROM TO [--site PUA TIMES INTERGREENS] [--strip N] [--title TEXT] [--begin HH:MM:SS]",
         FormName::Text => b"log_report text LOG FROM TO",
         FormName::Sums =>
-            b"log_report sums LOG [FROM TO] [--each SECONDS] [--serves DETECTORS:GROUP] [--csv]",
+            b"log_report sums LOG [FROM TO] ([--each SECONDS] [--serves DETECTORS:GROUP] | --lost) [--csv]",
     }
 }
 

@@ -1,7 +1,7 @@
 // The programs whose calls the cases make. Nothing else here knows them.
 use junction_run::{Status, junction};
 use report_judged::{has_site, report_breaches, report_protocol, report_refusals, report_site};
-use report_seen::{report, report_compare, report_sums};
+use report_seen::{lost_form, report, report_compare, report_lost, report_sums};
 use sig_io::{Files, Sink};
 use site_check::{check_junction, check_status};
 use std::alloc::Global;
@@ -18,6 +18,9 @@ fn report_log<F: Files, O: Sink, N: Sink>(
     notes: &mut N,
 ) -> u8 {
     match words.first() {
+        Some(_) if lost_form(words).is_some() => {
+            report_seen::exit_status(report_lost(alloc, words, files, out, notes))
+        }
         Some(word) if word.as_str() == "sums" => {
             report_seen::exit_status(report_sums(alloc, words, files, out, notes))
         }
