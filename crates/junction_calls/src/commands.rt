@@ -42,7 +42,8 @@ impl Model for Commands {
 }
 
 impl Commands {
-    fn none() -> Commands
+    /// No command.
+    pub(crate) fn none() -> Commands
         ensures { result ≡ [] }
     {
         Commands {
@@ -90,6 +91,24 @@ fn is_wish(plan: &Plan, place: u8, wish: u8) -> bool
     wish == 0 || (place < plan.groups() && wish <= 2)
 }
 
+// The greatest of the numbers of groups.
+fn most_of(groups: &[u8; 64]) -> u8
+    ensures { (p : ℕ) → p < 64 → slice_index_or groups.now p 0 ≤ result }
+{
+    let mut most = 0;
+    for place in 0usize..64 {
+        most = most.max(groups[place]);
+    }
+    most
+}
+
+// Whether nothing is wished of any group. In most seconds it isn't, and then no group is looked at alone.
+fn is_silent(groups: &[u8; 64]) -> bool
+    ensures { result ≡ true → (p : ℕ) → p < 64 → slice_index_or groups.now p 0 ≡ 0 }
+{
+    most_of(groups) == 0
+}
+
 // Whether all numbers of groups are so.
 fn are_wishes(plan: &Plan, groups: &[u8; 64]) -> bool
     ensures { result ≡ are_wishes plan.now groups.now 64 }
@@ -101,6 +120,17 @@ fn are_wishes(plan: &Plan, groups: &[u8; 64]) -> bool
     all
 }
 
+// Whether all numbers of groups are so, where some are maybe not 0.
+#[tactic(auto, using(crate::proofs::Silent::silent_wishes))]
+fn can_be_wished(plan: &Plan, groups: &[u8; 64]) -> bool
+    ensures { result ≡ are_wishes plan.now groups.now 64 }
+{
+    if is_silent(groups) {
+        return true;
+    }
+    are_wishes(plan, groups)
+}
+
 /// Whether each number names a stage or a group of the plan, or is 0, and wishes are 0, 1 or 2.
 pub(crate) fn is_named(plan: &Plan, given: &GivenCommands) -> bool
     ensures named { result ≡ is_named plan.now given.now }
@@ -109,7 +139,7 @@ pub(crate) fn is_named(plan: &Plan, given: &GivenCommands) -> bool
     let _groups = plan.groups();
     are_stages(plan, given.from, given.to)
         && is_stage_or_none(plan, given.stage)
-        && are_wishes(plan, &given.groups)
+        && can_be_wished(plan, &given.groups)
 }
 
 // Gives the command of an interstage, where there is one.
@@ -165,7 +195,7 @@ fn put_group(plan: &Plan, place: u8, wish: u8, commands: &mut Commands)
 }
 
 // Gives the wishes of the groups.
-fn put_groups(plan: &Plan, groups: &[u8; 64], commands: &mut Commands)
+fn put_each(plan: &Plan, groups: &[u8; 64], commands: &mut Commands)
     requires wishes { (place : ℕ) → place < 64 → is_wish plan.now place (slice_index_or groups.now place 0) ≡ true }
     requires named { All (IsCommand plan.now) commands.old }
     requires few { length commands.old ≤ 2 }
@@ -177,16 +207,35 @@ fn put_groups(plan: &Plan, groups: &[u8; 64], commands: &mut Commands)
     }
 }
 
-/// The commands in order, whose numbers all name what there is.
-pub(crate) fn commands_of(plan: &Plan, place: StagePlace, given: &GivenCommands) -> Commands
+// Gives the wishes of the groups, if there are any.
+#[tactic(auto, using(crate::proofs::Silent::silent_adds))]
+fn put_groups(plan: &Plan, groups: &[u8; 64], commands: &mut Commands)
+    requires wishes { (place : ℕ) → place < 64 → is_wish plan.now place (slice_index_or groups.now place 0) ≡ true }
+    requires named { All (IsCommand plan.now) commands.old }
+    requires few { length commands.old ≤ 2 }
+    ensures given { commands.new ≡ commands.old ++ groups_given groups.now 64 }
+    ensures named { All (IsCommand plan.now) commands.new }
+{
+    if is_silent(groups) {
+        return;
+    }
+    put_each(plan, groups, commands);
+}
+
+/// Gives the commands in order, whose numbers all name what there is.
+pub(crate) fn put_commands(
+    plan: &Plan,
+    place: StagePlace,
+    given: &GivenCommands,
+    commands: &mut Commands,
+)
     requires numbers { is_named plan.now given.now ≡ true }
     requires active { HasActive plan.now place }
-    ensures given { result ≡ commands_given place given.now }
-    ensures named { All (IsCommand plan.now) result }
+    requires none { commands.old ≡ [] }
+    ensures given { commands.new ≡ commands_given place given.now }
+    ensures named { All (IsCommand plan.now) commands.new }
 {
-    let mut commands = Commands::none();
-    put_order(plan, given.from, given.to, &mut commands);
-    put_wish(plan, place, given.stage, &mut commands);
-    put_groups(plan, &given.groups, &mut commands);
-    commands
+    put_order(plan, given.from, given.to, commands);
+    put_wish(plan, place, given.stage, commands);
+    put_groups(plan, &given.groups, commands);
 }

@@ -5,7 +5,7 @@ ghost use Rattle.junction_calls.specs.Given.{IsGivenSecond};
 ghost use Rattle.junction_calls.specs.Drives.{IsGivenMade};
 ghost use Rattle.junction_calls.specs.Numbers.{IsPlaying};
 
-use crate::commands::{GivenCommands, commands_of, is_named};
+use crate::commands::{Commands, GivenCommands, is_named, put_commands};
 use crate::counts::{DetectorCounts, frame_of};
 use crate::handle::{Junction, keep, take};
 use crate::told::{Told, told_of};
@@ -35,7 +35,8 @@ fn step(
     if !is_named(controller.plan(), given) {
         return 9;
     }
-    let commands = commands_of(controller.plan(), place, given);
+    let mut commands = Commands::none();
+    put_commands(controller.plan(), place, given, &mut commands);
     controller.given_second(&frame, commands.as_slice());
     *told = told_of(controller.last());
     0

@@ -1,7 +1,7 @@
 use Rattle.std.proofs.Common.{◌≡◌, ◌+◌, ◌≤◌, ◌++◌, All, length}
 use Rattle.controller.specs.Commanded.{IsCommand}
 use Rattle.junction_calls.specs.Given.{groups_given}
-use Rattle.junction_calls.proofs.commands.put_groups.Given as goal
+use Rattle.junction_calls.proofs.commands.put_each.Given as goal
 
 abbrev pub invariant-loop-place : goal.invariant-loop-place
 invariant-loop-place l = record {

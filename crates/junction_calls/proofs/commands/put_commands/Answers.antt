@@ -1,5 +1,5 @@
 use Rattle.junction_calls.proofs.NamedStages.{stage_of_named, wishes_of_named}
-use Rattle.junction_calls.proofs.commands.commands_of.Goals as goal
+use Rattle.junction_calls.proofs.commands.put_commands.Goals as goal
 
 -- src/commands.rt:191:5
 pub put_wish-requires-clause-wished : goal.put_wish-requires-clause-wished
