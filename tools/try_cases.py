@@ -23,7 +23,7 @@ OWN = HERE / "cases"
 PROGRAMS = {b"check": "junction_check", b"report": "log_report", b"trace": "junction_trace"}
 WISHES = ("out", "begin", "end", "part", "same")
 # no program can be made to do these from outside
-INNER = {b"calls"}
+INNER = {b"calls", b"driven"}
 FAILING = "must_fail.txt"
 ORDER = "args"
 SECONDS = 120

@@ -43,7 +43,8 @@ pub fn source_of(is_code: bool) -> Source<'static>
     }
 }
 
-fn rule_name(rule: u8) -> &'static str {
+/// The name of a rule by its number.
+pub fn rule_name(rule: u8) -> &'static str {
     match rule {
         1 => "Sequence",
         2 => "MinGreen",
@@ -287,8 +288,8 @@ pub fn told_log<F: Files>(
     log
 }
 
-// The bytes of a file, none where it can't be read.
-fn text_of<F: Files>(alloc: Global, files: &mut F, name: &str) -> Vec<u8> {
+/// The bytes of a file, none where it can't be read.
+pub fn text_of<F: Files>(alloc: Global, files: &mut F, name: &str) -> Vec<u8> {
     match read_whole(alloc, files, name, 1 << 20) {
         Ok(bytes) => bytes,
         Err(_) => Vec::new(alloc),

@@ -6,7 +6,8 @@
 //
 //   words WORDS   the words of the call, further ones on the lines below, one a line: `check` and those of `junction_check`, `report` and
 //                 those of `log_report`, `trace` and those of `junction_trace`, `calls`, the files of a run and a log that the calls of
-//                 the library have to add up to, or those of `junction`
+//                 the library have to add up to, `driven`, a program, the files of its site and a line for each second that a caller
+//                 decides (`second`, `list`), of which the log is written and the masks that are asked for, or those of `junction`
 //   out STATUS    the exit status, and the whole text that has to be written
 //   begin STATUS, end STATUS, part STATUS
 //                 the exit status, and a text with which what is written has to begin or to end, or that has to stand in it, where

@@ -7,9 +7,14 @@
 
 mod call;
 mod case;
+mod driven;
 mod faults;
+mod foretold;
 mod judge;
+mod list;
+mod masks;
 mod programs;
+mod second;
 mod texts;
 
 use case::{Case, read_cases};

@@ -1,8 +1,9 @@
 // The programs whose calls the cases make. Nothing else here knows them.
+use crate::driven::tell_driven;
 use junction_run::{Status, junction};
 use report_judged::{has_site, report_breaches, report_protocol, report_refusals, report_site};
-use report_seen::{lost_form, report, report_compare, report_lost, report_sums};
-use sig_io::{Files, Sink};
+use report_seen::{report, report_compare, report_sums};
+use sig_io::{Files, GrowSink, Sink, put_all};
 use site_check::{check_junction, check_status};
 use std::alloc::Global;
 use tenth_report::{is_record_call, report_record};
@@ -54,6 +55,22 @@ fn compare_calls<F: Files>(alloc: Global, names: &[String], files: &mut F) -> u8
     })
 }
 
+// The exit status of seconds that a caller decides, whose log and masks are written.
+fn drive_calls<F: Files, O: Sink>(
+    alloc: Global,
+    names: &[String],
+    files: &mut F,
+    out: &mut O,
+) -> u8 {
+    let mut told = GrowSink::new(alloc);
+    let status = match tell_driven(alloc, names, files, &mut told) {
+        Ok(true) => Status::Done,
+        Ok(false) | Err(_) => Status::RefusedFile,
+    };
+    let _put = put_all(out, told.bytes());
+    junction_run::exit_status(status)
+}
+
 /// The exit status of a call with these words.
 pub fn call<F: Files, O: Sink, N: Sink>(
     alloc: Global,
@@ -73,6 +90,7 @@ pub fn call<F: Files, O: Sink, N: Sink>(
             junction_run::exit_status(trace(alloc, asked, files, out, notes))
         }
         [first, names @ ..] if first.as_str() == "calls" => compare_calls(alloc, names, files),
+        [first, names @ ..] if first.as_str() == "driven" => drive_calls(alloc, names, files, out),
         _ => junction_run::exit_status(junction(alloc, words, files, out, notes)),
     }
 }

@@ -1,0 +1,6 @@
+use Rattle.std.proofs.Common.{All}
+use Rattle.controller.specs.Commanded.{IsCommand}
+use Rattle.test_told.proofs.list.add_letters.Given as goal
+
+abbrev pub invariant-loop : goal.invariant-loop
+invariant-loop g l = All (IsCommand l.plan) l.commands.items
