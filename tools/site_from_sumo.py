@@ -42,10 +42,8 @@ def words_of(text):
     words.add_argument("--round-up", action="store_true", help="take phases without whole seconds as the next longer ones")
     words.add_argument("--gap", type=whole_from(0, 99), default=0, metavar="S",
                        help="seconds for which the lane areas are empty before a stage ends, 0")
-    words.add_argument("--weight", type=whole_from(0, 99), default=4, metavar="W",
-                       help="a stage ends without a gap where for each vehicle on its lanes W are on others, 4; 0: never")
-    words.add_argument("--fair", type=whole_from(0, 9999), default=12, metavar="S",
-                       help="seconds that a stage has lasted before that, 12")
+    words.add_argument("--stuck", type=whole_from(0, 9999), default=8, metavar="S",
+                       help="a stage ends without a gap where nobody has left its lanes for S seconds, 8; 0: never")
     words.add_argument("--begin", type=whole_from(0, 604_800), default=0, metavar="S",
                        help="the simulation's first second, from which coordinated.vap counts, 0")
     words.add_argument("--area-seconds", type=clearing.number_from(0.1), default=4.0, metavar="S",

@@ -13,16 +13,16 @@ __all__ = ["OnDemand", "Walking", "ManyStages"]
 
 class OnDemand(unittest.TestCase):
     @unittest.skipUnless(JUNCTION, "JUNCTION doesn't name a built program")
-    def test_few_vehicles_do_not_hold_a_stage_against_many(self):
-        """One vehicle stays on the lane of the first stage, and some wait on the other one's."""
-        for waiting, weight, is_early in ((4, 4, True), (3, 4, False), (9, 0, False)):
-            with tempfile.TemporaryDirectory() as name, self.subTest(waiting=waiting, weight=weight):
-                folder, given = Path(name), given_by("--weight", str(weight))
-                files.write_site(site_of("--weight", str(weight)), folder, given)
-                (folder / "counts").write_text(f"1:1:0 2:{waiting}:0\n" + "\n" * 60)
+    def test_a_stage_that_nobody_leaves_ends(self):
+        """Vehicles stay on the lanes of both stages, and each third second one leaves those of the first, or nobody."""
+        for leaves, stuck, end in (("", 8, 8), ("1:1:1", 8, 49), ("", 0, 49), ("", 20, 20)):
+            with tempfile.TemporaryDirectory() as name, self.subTest(leaves=leaves, stuck=stuck):
+                folder, given = Path(name), given_by("--stuck", str(stuck))
+                files.write_site(site_of("--stuck", str(stuck)), folder, given)
+                (folder / "counts").write_text("1:3:0 2:4:0\n" + f"\n\n{leaves}\n" * 20)
                 done = check_sites.run(JUNCTION, "run", *(folder / file for file in check_sites.FILES), folder / "counts")
                 places = [line.split("|")[1].split("+")[0] for line in done.stdout.splitlines()[1:]]
-                self.assertEqual(places.index("I1-2"), 11 if is_early else 49)
+                self.assertEqual(places.index("I1-2"), end)
 
 
 class Walking(unittest.TestCase):
@@ -64,7 +64,7 @@ class Walking(unittest.TestCase):
             files.write_lines(folder / "on_demand.vap", program.program_of(site, given_by()))
             site.light.links = []
             files.write_tables(site, folder)
-            (folder / "counts").write_text("\n" * 20 + "3:1:1\n" + "\n" * 30 + "2:1:0 4:1:1\n" + "\n" * 40 + "1:1:0\n"
+            (folder / "counts").write_text("\n" * 20 + "3:1:1\n" + "\n" * 30 + "2:1:0 4:1:1\n" + "\n" * 40 + "1:1:0 2:0:1\n"
                                            + "\n" * 30)
             words = [folder / name for name in check_sites.FILES]
             log = check_sites.run(JUNCTION, "run", *words, folder / "counts").stdout
@@ -90,7 +90,7 @@ class ManyStages(unittest.TestCase):
             self.assertLessEqual(count * plan.reach_of(self.site(count)), 256)
 
     def test_the_way_to_a_far_stage(self):
-        lines = program.program_of(self.site(20), given_by("--weight", "0"))
+        lines = program.program_of(self.site(20), given_by("--stuck", "0"))
         self.assertIn("CONST stages = 20, gap = 0, briefest = 5, reach = 12;", lines)
         self.assertNotIn("steps", "\n".join(program.program_of(self.site(16), given_by())))
 

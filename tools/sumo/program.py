@@ -12,11 +12,11 @@ def arrays_of(lists, first, behind, names):
     return {first: begins[:-1], behind: begins[1:], names: elements or [1]}
 
 
-LOOK = """/* Of stage `at`: whether somebody asks for it, whether all its lanes have a gap{here_told}{pushed_told}. */
+LOOK = """/* Of stage `at`: whether somebody asks for it, whether all its lanes have a gap{gone_told}{pushed_told}. */
 SUBROUTINE look;
   is_asked := 0;
   has_gap := 1;
-{here_begin}{pushed_begin}  k := first[at];
+{gone_begin}{pushed_begin}  k := first[at];
 next_lane:
   IF k < behind[at] THEN
     IF Detection(lane[k]) = 1 OR Occupancy(lane[k]) > 0 THEN
@@ -25,29 +25,13 @@ next_lane:
     IF Headway(lane[k]) <= gap OR Occupancy(lane[k]) > 0 THEN
       has_gap := 0
     END;
-{here}    k := k + 1;
+{gone}    k := k + 1;
     GOTO next_lane
   END;
 {pushes}PROG_ENDE: .
 """
 
-HERE = "    here := here + Front_ends(lane[k]) - Rear_ends(lane[k]);\n"
-
-WEIGH = """/* Whether those on the stage's lanes are few: for each of them at least `weight` are on other lanes. */
-SUBROUTINE weigh;
-  waiting := 0 - here;
-  k := 1;
-next_of_all:
-  IF k <= lanes THEN
-    waiting := waiting + Front_ends(k) - Rear_ends(k);
-    k := k + 1;
-    GOTO next_of_all
-  END;
-  IF here * weight <= waiting THEN
-    is_due := 1
-  END;
-PROG_ENDE: .
-"""
+GONE = "    gone := gone + Rear_ends(lane[k]);\n"
 
 PUSHES = """  k := pushed[at];
 next_push:
@@ -141,7 +125,7 @@ ON_DEMAND = """{own_push}is_due := 0;
 IF has_gap OR lasted >= most[stage] THEN
   is_due := 1
 END;
-{weigh_up}IF lasted < briefest OR NOT is_settled OR NOT is_due THEN
+{stand}IF lasted < briefest OR NOT is_settled OR NOT is_due THEN
   GOTO PROG_ENDE
 END;
 {start}again:
@@ -160,8 +144,13 @@ END;
 PROG_ENDE: .
 """
 
-WEIGH_UP = """IF lasted >= fair AND NOT is_due THEN
-  GOSUB weigh
+STAND = """IF gone <> gone_before OR lasted = 1 THEN
+  gone_before := gone;
+  stood := 0
+END;
+stood := stood + 1;
+IF stood > stuck THEN
+  is_due := 1
 END;
 """
 
@@ -250,12 +239,11 @@ TOLD = """/* Made by tools/site_from_sumo.py. Stage s has the groups group[begin
 
 ON_DEMAND_TOLD = TOLD + """\
    A stage ends once its greens have lasted their minimum and its lanes have a gap, or at its most, where
-   another one is asked for; the next one that is asked for comes, and stages that nobody asks for are left out.{weight_told} */
+   another one is asked for; the next one that is asked for comes, and stages that nobody asks for are left out.{stuck_told} */
 PROGRAM on_demand;
 """
 
-WEIGHT_TOLD = ("\n   It ends without a gap too, once it has lasted `fair` seconds and the vehicles on its lanes are few "
-               "against those on others.")
+STUCK_TOLD = "\n   It ends without a gap too where nobody has left its lanes for `stuck` seconds: they have no way on."
 
 COORDINATED_TOLD = TOLD + """\
    The cycle is the network's, and its clock stands at `shift` in the first second, by the light's offset.
@@ -313,8 +301,8 @@ def parts_of(site):
 def text_of(told, constants, arrays, parts, body, **more):
     """The lines of a program."""
     texts = [f"{name}[{len(values)}] = [{', '.join(map(str, values))}]" for name, values in arrays.items()]
-    head = told + "VAP_FREQUENCY 1;\nCONST {constants};\nARRAY {arrays};\n" + LOOK + "{weigh}{answer}" + SETTLE
-    empty = dict.fromkeys(("clock", "arrive", "here_told", "here_begin", "here", "weigh", "weigh_up", "weight_told"), "")
+    head = told + "VAP_FREQUENCY 1;\nCONST {constants};\nARRAY {arrays};\n" + LOOK + "{answer}" + SETTLE
+    empty = dict.fromkeys(("clock", "arrive", "gone_told", "gone_begin", "gone", "stand", "stuck_told"), "")
     parts = {**empty, **parts, **more, "constants": constants, "arrays": ",\n  ".join(texts)}
     text = (head + more.get("remain", "") + FIND + body).format(**parts)
     return text.splitlines()
@@ -325,10 +313,10 @@ def program_of(site, given):
     parts, bases = parts_of(site), bases_of(site)
     constants = f"stages = {len(bases)}, gap = {given.gap}, briefest = {given.least_green}"
     constants += f", reach = {reach_of(site)}" if parts["is_far"] else ""
-    if given.weight:
-        constants += f", lanes = {len(site.lanes)}, fair = {given.fair}, weight = {given.weight}"
-        parts.update({"here_told": ", how many are on them", "here_begin": "  here := 0;\n", "here": HERE, "weigh": WEIGH,
-                      "weigh_up": WEIGH_UP, "weight_told": WEIGHT_TOLD})
+    if given.stuck:
+        constants += f", stuck = {given.stuck}"
+        parts.update({"gone_told": ", how many have left them", "gone_begin": "  gone := 0;\n", "gone": GONE, "stand": STAND,
+                      "stuck_told": STUCK_TOLD})
     return text_of(ON_DEMAND_TOLD, constants, {"most": [stage.most for stage in bases], **arrays_for(site)}, parts, ON_DEMAND)
 
 
