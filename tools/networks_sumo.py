@@ -96,7 +96,8 @@ def loss_row(net, rows):
             cells.append(difference_of(rows, name, NAMES[0]) if own[name] else "")
     driven = [row for row in rows if row["name"] != NAMES[0]]
     cells += [total_of(driven, key) for key in ("refused", "faults", "unsafe", "breaches")]
-    return [*cells, " / ".join(str(sum(int(row["collisions"]) for row in own[name])) for name in NAMES)]
+    sums = [[sum(int(row[key]) for row in own[name]) for name in NAMES] for key in ("collisions", "waiting_outside")]
+    return [*cells, *(" / ".join(map(str, of_each)) for of_each in sums)]
 
 
 def table(head, rows):
@@ -163,7 +164,7 @@ def main():
         if rows:
             groups.append((title, rows))
     head = ["network", "actuated", "vap", "against actuated", "vap-own", "against actuated", "refused s", "faults s",
-            "logs not SAFE", "breaches", "collisions"]
+            "logs not SAFE", "breaches", "collisions", "not departed"]
     lines = coverage_lines(groups) + (["### Time loss of a vehicle, s", "", *table(head, losses)] if losses else [])
     (folder / "networks.md").write_text("\n".join(lines) + "\n", encoding="utf-8")
     print(*lines, sep="\n")

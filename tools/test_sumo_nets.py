@@ -1,6 +1,7 @@
 """Tests over small networks that netgenerate makes, from their sites to a run; tools/test_sumo.py runs them where SUMO is
 installed."""
 import importlib.util
+import json
 import os
 import re
 import shutil
@@ -174,6 +175,15 @@ class Calls(InFolder):
         said = self.call("drive_sumo.py", *self.static, "n.net.xml", "seven.xml", "sites", status=1)
         self.assertEqual(said, "no vehicle departed from second 0 to 60; the first one departs in second 25200 "
                          "(--begin 25200)\n")
+
+    @unittest.skipUnless(all(map(shutil.which, ("sumo-gui", "xvfb-run", "xauth"))), "sumo-gui or xvfb isn't there")
+    def test_sumo_gui_drives_the_same(self):
+        words = ["drive_sumo.py", "--json", *self.static, "n.net.xml", "trips.xml", "sites"]
+        script = [sys.executable, "-B", str(HERE / words[0]), "--gui", *words[1:]]
+        shown = subprocess.run(["xvfb-run", "-a", *script], cwd=self.folder, capture_output=True, text=True, timeout=120)
+        self.assertEqual(shown.returncode, 0, shown.stdout + shown.stderr)
+        both = [json.loads(text.splitlines()[-1]) for text in (shown.stdout, self.call(*words))]
+        self.assertEqual(*[[told_of[key] for key in ("vehicles", "loss", "stops", "queue")] for told_of in both])
 
     def test_sumo_that_does_not_start_is_a_sentence(self):
         (self.folder / "bad.xml").write_text('<routes><trip id="1" depart="0" from="nowhere" to="there"/></routes>')

@@ -137,10 +137,11 @@ class Kept(unittest.TestCase):
 class ManyNetworks(unittest.TestCase):
     def test_a_row_of_time_loss(self):
         rows = [{"name": name, "seed": str(seed), "loss": str(loss + seed), "refused": "1", "faults": "0", "unsafe": "0",
-                 "breaches": "0", "collisions": "2"}
+                 "breaches": "0", "collisions": "2", "waiting_outside": str(seed)}
                 for name, loss in (("actuated", 20), ("vap", 22), ("vap-own", 18)) for seed in (1, 2)]
         self.assertEqual(networks_sumo.loss_row(networks.Net("town"), rows), [
-            "town", "21.5 ± 6.4", "23.5 ± 6.4", "+2.0 ± 0.0", "19.5 ± 6.4", "-2.0 ± 0.0", "4", "0", "0", "0", "4 / 4 / 4"])
+            "town", "21.5 ± 6.4", "23.5 ± 6.4", "+2.0 ± 0.0", "19.5 ± 6.4", "-2.0 ± 0.0", "4", "0", "0", "0", "4 / 4 / 4",
+            "3 / 3 / 3"])
 
     def test_the_sums_of_coverage(self):
         lines = networks_sumo.coverage_lines([("Towns", [["a", 3, 1, 2, 0, 1, "x: why"], ["b", 4, 0, 4, 0, 2, ""]])])
