@@ -109,9 +109,21 @@ def conflict_of(clearing, entering):
         if best:
             return best[1], gone + best[0] * math.dist(a, b)
         gone += math.dist(a, b)
-    pairs = ((math.dist(p, q), s, e) for s, p in points_of(clearing) for e, q in points_of(entering))
-    _, clear, enter = min(pairs)
-    return clear, enter
+    return nearest_of(points_of(clearing), points_of(entering))
+
+
+def nearest_of(clearing, entering):
+    """The distances from the stop lines of the two points that are nearest to each other; of equal pairs the first one. It
+    begins at the ends, where ways mostly meet: points lie at most STEP apart, so of those around a far one none is nearer."""
+    best = (math.inf, 0.0, 0.0)
+    for gone, point in reversed(clearing):
+        k = len(entering) - 1
+        while k >= 0:
+            far, other = entering[k]
+            apart = math.dist(point, other)
+            best = min(best, (apart, gone, far))
+            k -= max(1, int((apart - best[0]) / STEP))
+    return best[1:]
 
 
 def clearing_of(link, values):
