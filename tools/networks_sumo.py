@@ -78,10 +78,10 @@ def coverage_of(net, rows, found, folder):
 
 def study_of(net, file, folder, given):
     """The rows of the runs of a network, and how many failed."""
-    site = folder / "sites" / net.name
+    site, words = folder / "sites" / net.name, f"--scale {net.share:g}" if net.share != 1 else ""
     one = SimpleNamespace(
         junction=given.junction, library=given.library, additional=[SHARE / name for name in net.additional],
-        seconds=given.seconds, begin=None, sumo_words="", net=file, routes=SHARE / net.routes if net.routes else None,
+        seconds=given.seconds, begin=None, sumo_words=words, net=file, routes=SHARE / net.routes if net.routes else None,
         period=net.period, walkers=net.walkers, seeds=given.seeds, to=folder / f"{net.name}.csv", workers=given.workers)
     controls = controls_of([f"actuated=actuated:{site}", f"vap=vap:{site}", f"vap-own=vap:{site}-own"])
     return run_all(one, tasks_of(one, controls))

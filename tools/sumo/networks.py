@@ -12,8 +12,9 @@ RANDOM = "--rand -j traffic_light --no-turnarounds true"
 
 @dataclass
 class Net:
-    """A network: where it is in SUMO's folder, or netgenerate's words; its demand, as routes and further files or as seconds
-    from vehicle to vehicle and from person to person; and whether it is driven for the table of time loss."""
+    """A network: where it is in SUMO's folder, or netgenerate's words; its demand, as routes, their share that departs and
+    further files, or as seconds from vehicle to vehicle and from person to person; and whether it is driven for the table of
+    time loss."""
     name: str
     file: str = ""
     words: str = ""
@@ -21,6 +22,7 @@ class Net:
     additional: tuple = ()
     period: float = 0.0
     walkers: float = 0.0
+    share: float = 1.0
     is_driven: bool = False
 
     @property
@@ -52,7 +54,7 @@ def example(number):
 
 
 TOWNS = [
-    real("pasubio", is_driven=True), real("acosta", is_driven=True), real("joined"),
+    real("pasubio", share=0.6, is_driven=True), real("acosta", share=0.6, is_driven=True), real("joined"),
     Net("drt", "tools/game/DRT/osm.net.xml", period=1.2),
     Net("kuehne", "tools/game/kuehne/kuehne.net.xml", routes="tools/game/kuehne/kuehne.rou.xml", is_driven=True),
     Net("bs3d", "tools/game/bs3d/bs.net.xml", routes="tools/game/bs3d/bs3d.rou.xml", is_driven=True),
