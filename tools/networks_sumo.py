@@ -24,7 +24,7 @@ from types import SimpleNamespace
 from check_sites import log_at_random
 from reading import table_of, text_of, told, whole_from
 from sumo.networks import EXAMPLES, MADE, SHARE, TOWNS
-from sumo.study import NOT_JUDGED, controls_of, judged, run_all, tasks_of
+from sumo.study import NOT_JUDGED, controls_of, judged, rows_of, run_all, tasks_of
 from sumo.tables import cell_of, difference_of, total_of
 
 HERE = Path(__file__).resolve().parent
@@ -83,13 +83,14 @@ def study_of(net, file, folder, given):
         junction=given.junction, library=given.library, additional=[SHARE / name for name in net.additional],
         seconds=given.seconds, begin=None, sumo_words=words, net=file, routes=SHARE / net.routes if net.routes else None,
         period=net.period, walkers=net.walkers, seeds=given.seeds, to=folder / f"{net.name}.csv", workers=given.workers)
-    controls = controls_of([f"actuated=actuated:{site}", f"vap=vap:{site}", f"vap-own=vap:{site}-own"])
-    return run_all(one, tasks_of(one, controls))
+    tasks = tasks_of(one, controls_of([f"actuated=actuated:{site}", f"vap=vap:{site}", f"vap-own=vap:{site}-own"]))
+    return (list(rows_of(one.to, tasks).values()), 0) if given.kept else run_all(one, tasks)
 
 
 def loss_row(net, rows):
     """A row of the table of time loss."""
-    cells, own = [net.name], {name: [row for row in rows if row["name"] == name] for name in NAMES}
+    own = {name: [row for row in rows if row["name"] == name] for name in NAMES}
+    cells = [net.name, " / ".join(map(str, sorted({len(of_name) for of_name in own.values()})))]
     for name in NAMES:
         cells.append(cell_of([float(row["loss"]) for row in own[name]], 1) if own[name] else "")
         if name != NAMES[0]:
@@ -123,9 +124,18 @@ def read_words():
     words.add_argument("--seeds", type=whole_from(1, 100), default=5, metavar="N", help="5")
     words.add_argument("--workers", type=whole_from(1, 99), default=2, metavar="N", help="processes of this machine, 2")
     words.add_argument("--coverage", action="store_true", help="the table of coverage alone")
+    words.add_argument("--kept", action="store_true", help="the table of time loss of the rows that are there, without a run")
     words.add_argument("--only", action="append", default=[], metavar="NAME", help="this network alone, and again")
     words.add_argument("folder", metavar="FOLDER", type=Path)
     return words.parse_args()
+
+
+def cover(net, file, folder, given):
+    """The row of a network in the table of coverage, and what the judges found in logs of counts at random."""
+    with told(net.name):
+        made = sites_for(net, file, folder)
+        found = judged_at_random(net, file, folder, given)
+    return coverage_of(net, made, found, folder), sum(found) if NOT_JUDGED not in found else 0
 
 
 def drive(net, file, folder, given):
@@ -149,24 +159,25 @@ def main():
             if given.only and net.name not in given.only:
                 continue
             (folder / "networks.progress").write_text(f"{net.name}; {len(losses)} networks driven\n", encoding="utf-8")
+            if given.kept and not (folder / f"{net.name}.csv").exists():
+                continue
             file = net.make(folder)
             if file is None:
                 print(f"{net.name}: SUMO has no {net.file} here", file=sys.stderr)
                 continue
-            with told(net.name):
-                made = sites_for(net, file, folder)
-                found = judged_at_random(net, file, folder, given)
-            rows.append(coverage_of(net, made, found, folder))
-            wrong += sum(found) if NOT_JUDGED not in found else 0
+            if not given.kept:
+                row, found = cover(net, file, folder, given)
+                rows, wrong = [*rows, row], wrong + found
             if net.is_driven and not given.coverage:
                 row, lost, found = drive(net, file, folder, given)
                 losses, failed, wrong = [*losses, row], failed + lost, wrong + found
         if rows:
             groups.append((title, rows))
-    head = ["network", "actuated", "vap", "against actuated", "vap-own", "against actuated", "refused s", "faults s",
+    head = ["network", "seeds", "actuated", "vap", "against actuated", "vap-own", "against actuated", "refused s", "faults s",
             "logs not SAFE", "breaches", "collisions", "not departed"]
     lines = coverage_lines(groups) + (["### Time loss of a vehicle, s", "", *table(head, losses)] if losses else [])
-    (folder / "networks.md").write_text("\n".join(lines) + "\n", encoding="utf-8")
+    if not given.kept:
+        (folder / "networks.md").write_text("\n".join(lines) + "\n", encoding="utf-8")
     print(*lines, sep="\n")
     if failed:
         print(f"{failed} runs failed", file=sys.stderr)

@@ -140,7 +140,7 @@ class ManyNetworks(unittest.TestCase):
                  "breaches": "0", "collisions": "2", "waiting_outside": str(seed)}
                 for name, loss in (("actuated", 20), ("vap", 22), ("vap-own", 18)) for seed in (1, 2)]
         self.assertEqual(networks_sumo.loss_row(networks.Net("town"), rows), [
-            "town", "21.5 ± 6.4", "23.5 ± 6.4", "+2.0 ± 0.0", "19.5 ± 6.4", "-2.0 ± 0.0", "4", "0", "0", "0", "4 / 4 / 4",
+            "town", "2", "21.5 ± 6.4", "23.5 ± 6.4", "+2.0 ± 0.0", "19.5 ± 6.4", "-2.0 ± 0.0", "4", "0", "0", "0", "4 / 4 / 4",
             "3 / 3 / 3"])
 
     def test_the_sums_of_coverage(self):
