@@ -157,3 +157,4 @@ class ManyNetworks(unittest.TestCase):
         self.assertGreaterEqual(len(driven), 8)
         self.assertGreaterEqual(sum(1 for net in driven if net.is_real), 4)
         self.assertTrue(all(net.routes or net.period for net in driven))
+        self.assertTrue(all(0 < net.share <= 1 for net in nets))
