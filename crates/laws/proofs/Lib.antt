@@ -37,3 +37,13 @@ pub mod StagesShown
 pub mod SteeringOrders
 pub mod OneProgram
 pub mod OneText
+mod OneAnswer
+mod NetAndLive
+mod OneTrace
+mod OneJudgement
+mod OneProtocol
+mod GuardedOutputs
+mod AuditAndBreaches
+mod WorstCases
+mod LongestRuns
+mod NeighbouringParts

@@ -31,7 +31,7 @@ abbrev pub OneList : Type 0
 OneList = (text : List ℕ) (ts us : List Token) → HasTokens text ts → HasTokens text us → ts ≡ us
 
 -- detector files of which all seconds were made give one run each
-made_once : (names : List (List ℕ)) (file : Contents) (xs ys : List (List Counts)) → AreMade names file xs → AreMade names file ys → xs ≡ ys
+pub made_once : (names : List (List ℕ)) (file : Contents) (xs ys : List (List Counts)) → AreMade names file xs → AreMade names file ys → xs ≡ ys
 made_once [] file [] [] a b = refl
 made_once [] file [] (y ∷ ys) a b = absurd b
 made_once [] file (x ∷ xs) ys a b = absurd a

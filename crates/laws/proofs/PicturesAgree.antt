@@ -1,6 +1,5 @@
 -- The readings agree on whole logs.
-use Rattle.std.proofs.Common.{◌≡◌, ◌∙◌, ℕ, zero, suc, ◌+◌, ◌-◌, ◌<◌, ◌≤◌, Bool, true, false, not, List, [], ◌∷◌, length, None, Option, Some, is_none, inl, inr, refl, sym, ap, subst, arith, get_or, nat_le}
-use Rattle.std.specs.Prelude.{if◌then◌else◌, ◌&&◌}
+use Rattle.std.proofs.Common.{◌≡◌, ◌∙◌, ℕ, zero, suc, ◌+◌, ◌<◌, ◌≤◌, Bool, true, false, not, List, [], ◌∷◌, length, None, Option, Some, is_none, inl, inr, sym, ap, subst, arith, get_or}
 use Rattle.std.specs.Option.{option_and_then}
 use Rattle.std.proofs.lemmas.Bool.{cases_lt, le-leb, lt-leb}
 use Rattle.std.proofs.lemmas.List.{get_or-map, length-map}
@@ -10,12 +9,10 @@ use Rattle.sig_types.specs.Text.{cut_at, number_of, within}
 use Rattle.sig_types.specs.Turns.{Picture}
 use Rattle.log_read.specs.declared.begin.Begin.{Begin}
 use Rattle.log_read.specs.declared.begin.Begin.TheVariants.{AtOne, Anywhere}
-use Rattle.log_read.specs.declared.refusal.LogWhy.{LogWhy}
 use Rattle.log_read.specs.declared.refusal.LogWhy.TheVariants as why
 use Rattle.log_read.specs.Form.{is_header, picture_in}
-use Rattle.log_read.specs.Log.{HasEntries, LinesTell, Tells, begins, form_reason, line_at, line_reason}
+use Rattle.log_read.specs.Log.{HasEntries, Tells, begins, form_reason, line_at, line_reason}
 use Rattle.log_read.specs.Readings.{Heads, pictures_by, records_by}
-use Rattle.log_read.specs.Records.{IsEntry}
 use Rattle.log_read.specs.Seconds.{first_told, or_one}
 use Rattle.log_read.specs.Watchers.{told_lines}
 use Rattle.log_read.proofs.LogLaws.{some_lines}

@@ -53,7 +53,7 @@ frames_loggable frames are =
 
 -- ---- a run of what the files give
 
-run_count : (logic : Logic) (site : Site) (past : Past) (fs : List Counts) → length (run_from logic site past fs) ≡ length fs
+pub run_count : (logic : Logic) (site : Site) (past : Past) (fs : List Counts) → length (run_from logic site past fs) ≡ length fs
 run_count logic site past [] = refl
 run_count logic site past (f ∷ fs) = ap suc (run_count logic site (past_after_second logic site past f) fs)
 

@@ -13,3 +13,12 @@ pub mod StagesShown
 pub mod SteeringPrograms
 pub mod Ways
 pub mod OneProgram
+pub mod OneAnswer
+pub mod NetAndLive
+pub mod OneTrace
+pub mod OneJudgement
+pub mod GuardedOutputs
+pub mod AuditAndBreaches
+pub mod WorstCases
+pub mod LongestRuns
+pub mod NeighbouringParts

@@ -1,5 +1,6 @@
 //! The laws.
 ghost use Rattle.laws.specs.OneProgram.{IsWhatRunPlays, OneProgram, OneText};
+ghost use Rattle.laws.specs.OneTrace.{TraceHasOneAnswer};
 
 use junction_run::laws::answers_are_right;
 use vap_lex::one_answer;
@@ -20,4 +21,14 @@ pub fn one_text()
 {
     one_program();
     one_answer();
+}
+
+/// So they settle status, text and note of each of its calls in which nothing fails and memory is found: also of words that are no
+/// form, of a name that the program doesn't have, of a file that is refused, and of a refused line of the detector file.
+pub fn trace_has_one_answer()
+    ensures { TraceHasOneAnswer }
+{
+    one_program();
+    one_answer();
+    answers_are_right();
 }
