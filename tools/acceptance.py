@@ -26,8 +26,8 @@ from dataclasses import dataclass
 from fractions import Fraction
 from pathlib import Path
 
-from reading import Refused, decoded, moment, stamp_of, table_of, told, whole_from
-from record_picture import Mark, legend, picture, read_record, tenths_of
+from common.reading import Refused, decoded, moment, stamp_of, table_of, told, whole_from
+from records.record_picture import Mark, legend, picture, read_record, tenths_of
 
 HERE = Path(__file__).resolve().parent
 RULES = {"Sequence": "sequence", "MinGreen": "minimum green", "MinRed": "minimum red", "Conflict": "conflict", "Intergreen": "intergreen"}
@@ -234,7 +234,7 @@ class Report:
     def page(self):
         """The report as HTML."""
         import jinja2
-        loader = jinja2.FileSystemLoader(HERE)
+        loader = jinja2.FileSystemLoader(HERE / "records")
         page = jinja2.Environment(loader=loader, autoescape=True, trim_blocks=True, lstrip_blocks=True).get_template("acceptance.html")
         notes = [Path(file).read_text(encoding="utf-8", errors="replace").splitlines() for file in self.given.notes]
         found, pairs = self.conflicts()

@@ -1,10 +1,11 @@
 #!/usr/bin/env python3
 """tools/believe.py > docs/believe.md, or tools/believe.py --whole
 
-Writes the map of the definitions to believe: for each theorem of tools/theorems.py how many definitions of specs/ its statement
-rests on, found by the names that it cites, and in turn those that they cite. It follows names alone, so it may keep a word too
-many. Types declared in .rt sources and the kit's own words are not counted. A theorem whose definition isn't there any more stops
-it. With --whole it also writes the files of each theorem, each after those that it cites, and what each file holds."""
+Writes the map of the definitions to believe: for each theorem of tools/theorems.py the definitions of specs/ with which its
+statement begins, and how many lines those have on which it rests, found by the names that it cites, and in turn those that they
+cite. It follows names alone, so it may keep a word too many. Types declared in .rt sources and the kit's own words are not
+counted. A theorem whose definition isn't there any more stops it. With --whole it also writes the files of each theorem, each
+after those that it cites, and what each file holds."""
 import re
 import sys
 import textwrap
@@ -151,11 +152,15 @@ def link(file):
     return f"[{module}](../crates/{crate}/specs/{module}.antt)"
 
 
+def filled(row):
+    """An item of a list of a page, in lines that are not too long."""
+    return textwrap.fill(row, 128, subsequent_indent="  ", break_long_words=False, break_on_hyphens=False)
+
+
 def by_crate(files):
     """The files as a list of a page, a row for each crate."""
     for crate in dict.fromkeys(crate for crate, _ in files):
-        row = f"- `{crate}`: " + ", ".join(link(file) for file in files if file[0] == crate)
-        yield textwrap.fill(row, 128, subsequent_indent="  ", break_long_words=False, break_on_hyphens=False)
+        yield filled(f"- `{crate}`: " + ", ".join(link(file) for file in files if file[0] == crate))
 
 
 def roots_of(specs, roots):
@@ -180,8 +185,8 @@ def table(specs, closures):
     whole = set().union(*closures)
     yield HEAD
     for (said, call, roots), needed in zip(THEOREMS, closures):
-        words = ", ".join(f"{link((crate, module))}: " + ", ".join(f"`{name}`" for name in names) for crate, module, names in roots)
-        yield f"| {said} | {call} | {words} | {len(needed)} | {specs.lines(needed)} |"
+        words = "; ".join(f"{link((crate, module))} " + ", ".join(f"`{name}`" for name in names) for crate, module, names in roots)
+        yield filled(f"- {said} ({call}): {words}: {specs.lines(needed)} lines")
     yield END.format(len(whole), specs.lines(whole), len(everything), specs.lines(everything))
 
 
@@ -222,19 +227,16 @@ def main(words):
 
 HEAD = """# The definitions to believe
 
-A theorem says no more than its definitions do. This page, made by `tools/believe.py`, tells for each theorem with which
-definitions of `specs/` its statement begins, how many it rests on, and how many lines these have; `tools/believe.py --whole`
-tells their files as well, each after those that it cites. The prover has checked the proofs, so they need no reading. A script
-that follows names found them, so a word too many may be among them. Types declared in the sources and words of the toolchain's
-library are not counted.
-
-| what is said | by | beginning with | definitions | lines |
-|---|---|---|---|---|"""
+A theorem says no more than its definitions do. For each theorem, with the call or law that says it in brackets, this page, made
+by `tools/believe.py`, tells with which definitions of `specs/` its statement begins, and how many lines those have on which it
+rests; `tools/believe.py --whole` tells their files as well, each after those that it cites. Proofs are checked, and need no
+reading. Found by following names, a word too many may be among them; types of the sources and words of the kit's library are
+not counted.
+"""
 
 END = """
-Taken together these are {} definitions of {} lines. All definitions of the repository are {}, of {} lines. What isn't
-above are working words, in which contracts of inner functions and proofs speak of what the code keeps. For these theorems
-nothing of them has to be believed."""
+Together these are {} definitions of {} lines; all definitions of the repository are {}, of {} lines. What isn't
+above are working words of inner functions and proofs, of which nothing has to be believed."""
 
 FILES = """
 ## File by file

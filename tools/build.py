@@ -23,10 +23,10 @@ import time
 from concurrent.futures import ThreadPoolExecutor
 from pathlib import Path
 
-import archive
+from building import archive
 import install
-import lowering
-from lowering import TOP, Refused
+from building import lowering
+from building.lowering import TOP, Refused
 
 # the longest first
 PROGRAMS = ["junction", "junction_trace", "log_report", "junction_check"]
@@ -79,8 +79,8 @@ def marked_sources(top, crates, name, room):
 def key_of(top, crates, *more):
     """The sum of all that a build reads."""
     whole = hashlib.sha256(repr(more).encode())
-    names = ["build.py", "archive.py", "lowering.py", "told_checks.py", "without_checks.py", "inline_attributes.py"]
-    scripts = [Path(__file__).with_name(name) for name in names]
+    names = ["archive.py", "lowering.py", "told_checks.py", "without_checks.py", "inline_attributes.py"]
+    scripts = [Path(__file__), *(Path(__file__).with_name("building") / name for name in names)]
     files = [file for crate in crates for file in sorted((top / "crates" / crate / "src").rglob("*.rt"))]
     for file in [top / "crates.txt", *files, *scripts]:
         whole.update(hashlib.sha256(file.read_bytes()).digest())

@@ -18,8 +18,8 @@ import re
 import sys
 from pathlib import Path
 
-import chart_data as data
-from reading import Refused, log_of, moment, text_of, told, whole_from
+from drawing import chart_data as data
+from common.reading import Refused, log_of, moment, text_of, told, whole_from
 
 
 def pair(text):
@@ -123,7 +123,7 @@ def read_log(file):
 
 def drawn(given):
     """The figure of what is asked for."""
-    import chart_looks as looks
+    from drawing import chart_looks as looks
     if given.chart == "ended":
         with told(given.ends):
             ends = data.ends_of(data.table(text_of(given.ends), "second", "stage", "lasted", "line"), given.cause)

@@ -26,7 +26,7 @@ import sys
 import tempfile
 from pathlib import Path
 
-import bounded
+from common import bounded
 
 ROOT = Path(__file__).resolve().parent.parent
 JUNCTION = ROOT / "crates" / "junction"

@@ -16,7 +16,7 @@ import tempfile
 from collections import Counter
 from pathlib import Path
 
-from reading import table_of, text_of, told, whole_from
+from common.reading import table_of, text_of, told, whole_from
 
 FILES = ("on_demand.vap", "junction.pua", "times.csv", "intergreens.csv")
 APART = re.compile(r"no stage has (\w+) and (\w+) green together")

@@ -33,7 +33,7 @@ from pathlib import Path
 from types import SimpleNamespace
 
 import queues
-from reading import MOST_DETECTOR, NAME, Refused, table_of, text_of, told, whole_from
+from common.reading import MOST_DETECTOR, NAME, Refused, table_of, text_of, told, whole_from
 from sumo.tables import interval
 
 FIELDS = ["program", "seed", "stream", "vehicles", "delay", "stops", "queue", "greens", "left"]

@@ -1,5 +1,5 @@
 #!/usr/bin/env python3
-"""Makes the tables of docs/crates.md: of each crate its first sentence, its definitions, and the test crates that stand on it.
+"""Makes the lists of docs/crates.md: of each crate the beginning of its first sentence, and the test crates that stand on it.
 
 usage: tools/crates.py [--check]
 
@@ -8,12 +8,13 @@ word the page is written anew between its two marks; --check writes nothing, and
 """
 import re
 import sys
+import textwrap
 from pathlib import Path
 
 TOP = Path(__file__).resolve().parent.parent
 PAGE = TOP / "docs" / "crates.md"
-BEGIN = "<!-- the tables from here on are made by tools/crates.py -->"
-END = "<!-- the tables end here -->"
+BEGIN = "<!-- the lists from here on are made by tools/crates.py -->"
+END = "<!-- the lists end here -->"
 
 
 def layers_of(text):
@@ -49,6 +50,12 @@ def sentence_of(text):
     return re.split(r"(?<=[.:]) (?=[A-Z`])", " ".join(lines))[0].rstrip(".:")
 
 
+def short_of(sentence):
+    """A sentence of many words up to where it begins to list."""
+    front = re.split(r"[:;] | \(", sentence)[0]
+    return front if len(sentence.split()) > 20 and len(front.split()) > 3 else sentence
+
+
 def tests_of(name, layers):
     """The test crates that stand on a crate."""
     return [crate for _, crates in layers for crate, below in crates if crate.startswith("test_") and name in below]
@@ -56,30 +63,28 @@ def tests_of(name, layers):
 
 def row_of(name, layers, top=TOP):
     """The row of a crate."""
-    root = root_of(name, top)
-    specs = "[specs](../crates/%s/specs)" % name if (top / "crates" / name / "specs").is_dir() else "–"
-    tests = ", ".join("`%s`" % test for test in tests_of(name, layers)) or "–"
-    link = "[`%s`](../%s)" % (name, root.relative_to(top))
-    return "| %s | %s | %s | %s |" % (link, sentence_of(root.read_text(encoding="utf-8")), specs, tests)
+    tests = ", ".join("`%s`" % test for test in tests_of(name, layers))
+    sentence = short_of(sentence_of(root_of(name, top).read_text(encoding="utf-8")))
+    row = "- [`%s`](../crates/%s): %s%s" % (name, name, sentence, f" ({tests})" if tests else "")
+    return textwrap.fill(row, 128, subsequent_indent="  ", break_long_words=False, break_on_hyphens=False)
 
 
-def tables_of(text, top=TOP):
-    """All tables, a heading each."""
+def lists_of(text, top=TOP):
+    """All lists, a heading each."""
     layers = layers_of(text)
     # the first comment of the file is about all of it, and heads nothing
     said = []
     for heading, crates in layers:
         said.append("## %s\n" % heading)
-        said.append("| crate | what it does | definitions | tests |\n|---|---|---|---|")
         said.extend(row_of(name, layers, top) for name, _ in crates)
         said.append("")
     return "\n".join(said)
 
 
-def page_of(page, tables):
-    """The page with these tables in the place of its own."""
+def page_of(page, lists):
+    """The page with these lists in the place of its own."""
     before, rest = page.split(BEGIN)
-    return before + BEGIN + "\n\n" + tables + "\n" + END + rest.split(END)[1]
+    return before + BEGIN + "\n\n" + lists + "\n" + END + rest.split(END)[1]
 
 
 def main(words):
@@ -89,7 +94,7 @@ def main(words):
     if words not in ([], ["--check"]):
         sys.exit(__doc__.split("\n\n")[1])
     page = PAGE.read_text(encoding="utf-8")
-    made = page_of(page, tables_of((TOP / "crates.txt").read_text(encoding="utf-8")))
+    made = page_of(page, lists_of((TOP / "crates.txt").read_text(encoding="utf-8")))
     if not words:
         PAGE.write_text(made, encoding="utf-8")
     return int(page != made)

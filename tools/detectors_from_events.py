@@ -11,7 +11,7 @@ import math
 import re
 from fractions import Fraction
 
-from reading import MOST_SECONDS, Refused, text_of, time_of, told
+from common.reading import MOST_SECONDS, Refused, text_of, time_of, told
 
 STATES = {"on": True, "off": False}
 MOST_COUNT = 99

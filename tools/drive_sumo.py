@@ -25,7 +25,7 @@ import time
 from pathlib import Path
 
 import controllers
-from reading import Refused, told, whole_from
+from common.reading import Refused, told, whole_from
 from sumo.drive import Stop, drive, left_alone, let_drive, open_lights, sites_of
 from sumo.guarded import control_from, line_of, refusals_of
 from sumo.network import is_configuration

@@ -17,8 +17,8 @@ import csv
 import datetime
 import sys
 
-from event_codes import DETECTOR_OFF, DETECTOR_ON, map_of
-from reading import Refused, log_of, text_of, told
+from records.event_codes import DETECTOR_OFF, DETECTOR_ON, map_of
+from common.reading import Refused, log_of, text_of, told
 
 CODES = {"phase": {"first": [12], "G": [1], "A": [7, 8], "R": [9, 10, 11]},
          "overlap": {"first": [65], "G": [61], "A": [63], "R": [64, 65]},

@@ -16,7 +16,7 @@ import subprocess
 import sys
 from pathlib import Path
 
-from reading import table_of, text_of, told, whole_from
+from common.reading import table_of, text_of, told, whole_from
 from sumo.networks import EXAMPLES, MADE, SHARE, TOWNS
 
 HERE = Path(__file__).resolve().parent

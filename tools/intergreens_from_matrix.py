@@ -11,7 +11,7 @@ import itertools
 import re
 import sys
 
-from reading import NAME, Refused, rows_of, text_of, told
+from common.reading import NAME, Refused, rows_of, text_of, told
 
 SECONDS = re.compile(r"(0|[1-9][0-9]?)(?:[.,]([0-9]))?")
 

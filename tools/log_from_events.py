@@ -27,9 +27,9 @@ from collections import Counter
 from dataclasses import dataclass
 from fractions import Fraction
 
-from event_codes import (AMBER_ENDS, DETECTOR_OFF, DETECTOR_ON, FLASH, MOST_CODE, NOT_FLASHING, OF_CODE, POWER_FAILED,
+from records.event_codes import (AMBER_ENDS, DETECTOR_OFF, DETECTOR_ON, FLASH, MOST_CODE, NOT_FLASHING, OF_CODE, POWER_FAILED,
                          SILENT, WALK_ENDS, map_of)
-from reading import (MOST_DETECTOR, MOST_SECONDS, Refused, moment_of, number_in, rows_of, stamp_of, table_of, text_of, told,
+from common.reading import (MOST_DETECTOR, MOST_SECONDS, Refused, moment_of, number_in, rows_of, stamp_of, table_of, text_of, told,
                      whole_from)
 
 BEFORE = {"G": "R", "A": "G"}  # the aspect that must stand before

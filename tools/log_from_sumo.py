@@ -10,7 +10,7 @@ import argparse
 import xml.parsers.expat
 from pathlib import Path
 
-from reading import Refused, number_in, table_of, text_of, told, whole_from
+from common.reading import Refused, number_in, table_of, text_of, told, whole_from
 
 ASPECTS = {"r": "R", "u": "U", "G": "G", "g": "G", "y": "A", "Y": "A"}
 

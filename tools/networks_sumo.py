@@ -22,7 +22,7 @@ from pathlib import Path
 from types import SimpleNamespace
 
 from check_sites import log_at_random
-from reading import table_of, text_of, told, whole_from
+from common.reading import table_of, text_of, told, whole_from
 from sumo.networks import EXAMPLES, MADE, SHARE, TOWNS
 from sumo.study import NOT_JUDGED, controls_of, judged, rows_of, run_all, tasks_of
 from sumo.tables import cell_of, difference_of, total_of

@@ -12,9 +12,9 @@ import tempfile
 from pathlib import Path
 
 import install
-import kept_proofs
-import lowering
-from lowering import Refused
+from building import kept_proofs
+from building import lowering
+from building.lowering import Refused
 
 CRATE, LIBRARY = "junction_c", "library"
 ARCHIVE = f"lib{CRATE}.a"
@@ -23,7 +23,7 @@ KEPT = "as `rt ci` kept it on this machine after its proof"
 
 def take_kept(top, out, names):
     """Copies what `rt ci` has proved of these crates to a folder; answers whether it had all."""
-    script = Path(__file__).with_name("kept_proofs.py")
+    script = Path(__file__).with_name("building") / "kept_proofs.py"
     done = subprocess.run([sys.executable, "-B", script, lowering.kit(), top, out, *names], capture_output=True, text=True)
     if done.returncode not in (0, kept_proofs.NOT_KEPT):
         raise Refused(f"what `rt ci` has kept can't be taken\n{done.stdout}{done.stderr}".rstrip())

@@ -32,8 +32,8 @@ import argparse
 import re
 from collections import Counter
 
-from reading import STAMPS, Refused, decoded, rows_of, stamp_in, table_of, told
-from record_lines import Change, add_words, names_in, write, written
+from common.reading import STAMPS, Refused, decoded, rows_of, stamp_in, table_of, told
+from records.record_lines import Change, add_words, names_in, write, written
 
 ASPECTS = {"red": "R", "red-amber": "U", "green": "G", "amber": "A", "unknown": None}
 KNOWN = {"R": "rot red ro rt r", "U": "rotgelb redamber redyellow rg rtge u", "G": "grün gruen green gr gn g",

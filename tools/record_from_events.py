@@ -20,10 +20,10 @@ record, and are counted."""
 import argparse
 from collections import Counter
 
-from event_codes import FLASH, NOT_FLASHING, OF_CODE, POWER_FAILED, SILENT, map_of
+from records.event_codes import FLASH, NOT_FLASHING, OF_CODE, POWER_FAILED, SILENT, map_of
 from log_from_events import events_of, first_of
-from reading import Refused, text_of, told
-from record_lines import ALL, Change, add_words, names_in, write, written
+from common.reading import Refused, text_of, told
+from records.record_lines import ALL, Change, add_words, names_in, write, written
 
 
 def changes_of(events, groups):

@@ -24,10 +24,10 @@ import tarfile
 import tempfile
 from pathlib import Path
 
-import elf
+from building import elf
 import install
-import lowering
-import manylinux
+from building import lowering
+from building import manylinux
 import try_cases
 
 TOP = lowering.TOP
@@ -131,7 +131,7 @@ def copied(folder, room, is_proved):
     shutil.copy(Path(__file__).with_name("try_cases.py"), shared)
     (room / "wheel").mkdir()
     manylinux.retagged(next(folder.glob("*.whl")), room / "wheel")
-    shutil.copy(Path(__file__).with_name("installing.sh"), room / "install.sh")
+    shutil.copy(Path(__file__).with_name("building") / "installing.sh", room / "install.sh")
     (room / "install.sh").chmod(0o755)
     if manylinux.version_wanted(next((room / "lib").glob("libjunction.so.*.*"))) > NEWEST:
         raise Refused("libjunction.so asks for a newer C library than 2.31")

@@ -41,8 +41,8 @@ import sys
 import time
 from pathlib import Path
 
-from answers import Block, blocks_at, fields_of, is_wanted, names, needed, parse, render, with_imports
-from shorten_checks import Checks, OutOfTime, dear_functions
+from proving.answers import Block, blocks_at, fields_of, is_wanted, names, needed, parse, render, with_imports
+from proving.shorten_checks import Checks, OutOfTime, dear_functions
 
 class Crate(Checks):
     def __init__(self, args, name):

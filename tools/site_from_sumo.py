@@ -19,8 +19,8 @@ docs/sumo-sites.md has the rules."""
 import argparse
 from pathlib import Path
 
-import clearing
-from reading import told, whole_from
+from sumo import clearing
+from common.reading import told, whole_from
 from sumo.files import write_site
 from sumo.lights import lights_of, read_light
 from sumo.network import read_network

@@ -10,7 +10,7 @@ import re
 import sys
 from pathlib import Path
 
-from reading import Refused, told
+from common.reading import Refused, told
 from site_from_sumo import has_offsets, words_of
 from sumo.files import write_rows, write_site
 from sumo.lights import lights_of, read_light

@@ -16,7 +16,7 @@ import argparse
 import sys
 from pathlib import Path
 
-from reading import told, whole_from
+from common.reading import told, whole_from
 from sumo.network import read_root
 from sumo.study import controls_of, demand_of, run_all, tasks_of
 from sumo.tables import plot, table_lines

@@ -1,5 +1,5 @@
 #!/usr/bin/env python3
-"""Tests of the scripts beside this file, of the pages, and of the page in the browser: tools/test.py [NAME..]
+"""Tests of the scripts beside this file and below it, of the pages, and of the page in the browser: tools/test.py [NAME..]
 
 Each class of tests is a process of its own, two at once, and tells what became of it as soon as it ends. A test that takes too long
 is ended with all that it started, and has failed. What needs a program that isn't there is skipped, and the reason is told. The last
@@ -15,9 +15,9 @@ from pathlib import Path
 
 HERE = Path(__file__).resolve().parent
 TOP = HERE.parent
-sys.path.insert(0, str(HERE))
+sys.path[:0] = [str(HERE), str(HERE / "tests")]
 sys.dont_write_bytecode = True
-import answers
+from proving import answers
 import believe
 import crates
 import style
@@ -125,10 +125,10 @@ class Crates(unittest.TestCase):
             self.assertEqual(late, [], name)
 
     def test_each_has_its_row(self):
-        """The tables of docs/crates.md are those that tools/crates.py makes, with a row for each crate."""
+        """The lists of docs/crates.md are those that tools/crates.py makes, with a row for each crate."""
         self.assertEqual(crates.main(["--check"]), 0, "tools/crates.py")
         page = (TOP / "docs" / "crates.md").read_text(encoding="utf-8")
-        self.assertEqual(re.findall(r"^\| \[`(\w+)`\]", page, re.MULTILINE), list(self.uses))
+        self.assertEqual(re.findall(r"^- \[`(\w+)`\]\(\.\./crates/", page, re.MULTILINE), list(self.uses))
 
     def test_each_begins_with_what_it_is(self):
         for name in self.uses:
@@ -136,17 +136,16 @@ class Crates(unittest.TestCase):
             self.assertTrue(20 <= len(sentence) <= 700, f"{name}: {sentence}")
 
     def test_each_call_is_there(self):
-        """The calls of README's and proved.md's rows are public words of their crates."""
-        for page in ["README.md", "docs/proved.md"]:
-            for row in re.findall(r"^\| `(\w+)` \| (`[^|]*) \|", (TOP / page).read_text(encoding="utf-8"), re.MULTILINE):
-                name, calls = row
-                if name not in self.uses:
-                    continue
-                sources = "\n".join(file.read_text(encoding="utf-8") for file in (TOP / "crates" / name / "src").rglob("*.rt"))
-                for call in re.findall(r"`([\w:]+)`", calls):
-                    for word in call.split("::"):
-                        said = re.search(rf"\b(fn|struct|enum|trait|mod) {word}\b|pub use [^;]*\b{word}\b", sources)
-                        self.assertTrue(said, f"{page}: {name} has no {call}")
+        """The calls of the items of docs/proved.md are public words of their crates."""
+        page = re.sub(r"\n  +", " ", (TOP / "docs" / "proved.md").read_text(encoding="utf-8"))
+        items = re.findall(r"^- `(\w+)`: (`.*?): ", page, re.MULTILINE)
+        self.assertGreater(len(items), 50)
+        for name, calls in items:
+            sources = "\n".join(file.read_text(encoding="utf-8") for file in (TOP / "crates" / name / "src").rglob("*.rt"))
+            for call in re.findall(r"`([\w:]+)`", calls):
+                for word in call.split("::"):
+                    said = re.search(rf"\b(fn|struct|enum|trait|mod) {word}\b|pub use [^;]*\b{word}\b", sources)
+                    self.assertTrue(said, f"docs/proved.md: {name} has no {call}")
 
 
 class Style(unittest.TestCase):
@@ -184,7 +183,7 @@ class Answers(unittest.TestCase):
 
 
 class Believe(unittest.TestCase):
-    """docs/believe.md is what its script makes, and has a row for all that docs/proved.md names."""
+    """docs/believe.md is what its script makes, and has a row for each plain sentence of docs/proved.md."""
 
     def test_the_page_is_made_anew(self):
         done = subprocess.run([sys.executable, "-B", HERE / "believe.py"], capture_output=True, text=True)
@@ -207,15 +206,17 @@ class Believe(unittest.TestCase):
         self.assertEqual((done.returncode, done.stdout), (1, ""))
         self.assertIn("--whole", done.stderr)
 
-    def test_no_definition_of_a_clause_is_a_working_word(self):
-        needed = believe.needed_files(believe.Specs())
-        page = (TOP / "docs" / "proved.md").read_text(encoding="utf-8").split("\n## Readers\n")[1]
-        for crate, row in re.findall(r"^\| `(\w+)` \|(.*)\|$", page, re.MULTILINE):
-            for word, is_crate in re.findall(r"`(\w+)`(:?)", re.split(r"(?<!\\)\|", row)[-1].split("(not ")[0]):
-                if is_crate:
-                    crate = word
-                else:
-                    self.assertTrue(needed[crate, word], f"{crate}/specs/{word} stands in no row of tools/believe.py")
+    def test_each_plain_sentence_has_its_definitions(self):
+        """The calls and laws that say the plain sentences of docs/proved.md have their rows here."""
+        plain = (TOP / "docs" / "proved.md").read_text(encoding="utf-8").split("\n## ")[1]
+        rows = [row.split(" | ")[1] for row in plain.split("\n") if row.startswith("| ")][1:]
+        said = {call for _, call, _ in believe.THEOREMS}
+        calls = {word.split("::")[-1] for call in said for word in re.findall(r"`([\w:]+)`", call)}
+        self.assertGreater(len(rows), 20)
+        for row in rows:
+            # `answer` of `live` is a clause of a call
+            for word in re.findall(r"`([\w:]+)`(?! of )", row):
+                self.assertIn(word.split("::")[-1], calls, row)
 
 
 class Statuses(unittest.TestCase):
@@ -234,7 +235,7 @@ class Statuses(unittest.TestCase):
 class Pages(unittest.TestCase):
     """Links and anchors lead somewhere, and README stays short."""
 
-    PAGES = [file for pattern in ("*.md", "docs/*.md", "crates/**/*.md", "viewer/**/*.md", "library/**/*.md") for file in TOP.glob(pattern)]
+    PAGES = [file for pattern in ("*.md", "docs/*.md", "crates/**/*.md", "viewer/**/*.md", "library/**/*.md", "bench/*.md") for file in TOP.glob(pattern)]
 
     def text_of(self, page):
         return re.sub(r"^```.*?^```", "", page.read_text(encoding="utf-8"), flags=re.DOTALL | re.MULTILINE)
@@ -267,10 +268,16 @@ class Pages(unittest.TestCase):
             left += [file for file in ((page.parent / link).resolve() for link in links if ":" not in link) if file.is_file()]
         self.assertEqual({str(page.relative_to(TOP)) for page in self.PAGES if page.resolve() not in reached}, set())
 
-    def test_readme_is_short(self):
-        text = (TOP / "README.md").read_text(encoding="utf-8")
-        self.assertLessEqual(text.count("\n"), 160)
-        self.assertLessEqual(len(text.split()), 2400)
+    # The words of pages, as `wc -w` counts them; all of them are those of docs/, of the examples and of the top. They only fall.
+    WORDS = {"README.md": 2400, "docs/DECISIONS.md": 5000, "docs/proved.md": 5000, "": 73000}
+
+    def test_pages_are_short(self):
+        self.assertLessEqual((TOP / "README.md").read_text(encoding="utf-8").count("\n"), 160)
+        counted = ("*.md", "docs/*.md", "crates/junction/examples/**/*.md")
+        words = {str(page.relative_to(TOP)): len(page.read_text(encoding="utf-8").split()) for name in counted for page in TOP.glob(name)}
+        words[""] = sum(words.values())
+        for page, most in self.WORDS.items():
+            self.assertLessEqual(words[page], most, page or "all pages")
 
     def test_lines_are_short(self):
         for page in self.PAGES:
@@ -280,10 +287,10 @@ class Pages(unittest.TestCase):
 
 
 class Helps(unittest.TestCase):
-    """Each script of this folder tells its use."""
+    """Each script of this folder and those below it tells its use."""
 
     def test_each_script_has_its_help(self):
-        for script in sorted(HERE.glob("*.py")):
+        for script in sorted(HERE.rglob("*.py")):
             text = script.read_text(encoding="utf-8")
             # the files of tests are unittest's, whose help it is
             if text.startswith("#!") and (script.name == "test_all.py" or not script.name.startswith("test")):

@@ -28,7 +28,7 @@ import time
 from concurrent.futures import ThreadPoolExecutor
 from pathlib import Path
 
-import bounded
+from common import bounded
 import install
 
 TOP = Path(__file__).resolve().parent.parent

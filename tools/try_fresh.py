@@ -23,7 +23,7 @@ from contextlib import ExitStack
 from pathlib import Path
 
 import check_pages
-import lowering
+from building import lowering
 
 TOP = lowering.TOP
 MIRROR = "http://deb.debian.org/debian"

@@ -41,8 +41,8 @@ import threading
 import time
 from concurrent.futures import ThreadPoolExecutor
 
-from wrong_runs import BAD, REFUSED, SURVIVED, UNCLEAR, WEAK, Kit, crates_of
-from wrong_tries import Tries
+from proving.wrong_runs import BAD, REFUSED, SURVIVED, UNCLEAR, WEAK, Kit, crates_of
+from proving.wrong_tries import Tries
 
 FIELDS = ["crate", "edit", "verdict", "function", "goal", "how", "seconds", "day", "commit", "kit", "sum"]
 TOP = os.path.dirname(os.path.dirname(os.path.abspath(__file__)))

@@ -1,8 +1,8 @@
 """Who is in conflict with whom, who is permitted beside whom, and the intergreens of a site."""
 from dataclasses import replace
 
-import clearing
-from reading import Refused
+from sumo import clearing
+from common.reading import Refused
 from sumo.stages import GREEN, whole
 
 

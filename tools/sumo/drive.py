@@ -6,7 +6,7 @@ from contextlib import contextmanager
 from pathlib import Path
 
 import controllers
-from reading import Refused, number_in, table_of, text_of, told
+from common.reading import Refused, number_in, table_of, text_of, told
 from sumo.detectors import KINDS
 
 TABLES = ("junction.pua", "times.csv", "intergreens.csv")

@@ -1,7 +1,7 @@
 """What a network tells of one traffic light: its links with their ways over the junctions, who yields to whom, its program."""
 from dataclasses import dataclass, field
 
-from reading import Refused
+from common.reading import Refused
 from sumo.network import lane_name, shape_of
 from sumo.programs import program_of
 

@@ -4,7 +4,7 @@ import gzip
 import xml.etree.ElementTree as tree
 from pathlib import Path
 
-from reading import Refused
+from common.reading import Refused
 
 
 def read_root(file):

@@ -2,7 +2,7 @@
 import math
 from dataclasses import dataclass
 
-from reading import Refused
+from common.reading import Refused
 
 TYPES = ("static", "actuated", "delay_based")
 

@@ -11,7 +11,7 @@ import tempfile
 import xml.etree.ElementTree as tree
 from pathlib import Path
 
-from reading import Refused
+from common.reading import Refused
 from sumo.drive import left_alone, sites_of
 from sumo.guarded import OWN, own_of
 from sumo.network import files_in, is_configuration, read_root

@@ -2,8 +2,8 @@
 import dataclasses
 from dataclasses import dataclass, field
 
-import clearing
-from reading import Refused
+from sumo import clearing
+from common.reading import Refused
 from sumo.conflicts import apart_of, conflicts_of, drop_permitted, set_intergreens, set_yielding
 from sumo.service import part_walking, set_served
 from sumo.stages import detectors_of, groups_of, set_times, stages_of

@@ -2,8 +2,8 @@
 import math
 from dataclasses import dataclass, field
 
-from clearing import length_of
-from reading import MOST_DETECTOR, Refused
+from sumo.clearing import length_of
+from common.reading import MOST_DETECTOR, Refused
 
 GREEN, AMBER = "Gg", "Yy"
 MOST_GROUPS, MOST_STAGES = 64, 32

@@ -1,5 +1,5 @@
 """The stretches of lanes on which detectors lie."""
-from reading import Refused
+from common.reading import Refused
 from sumo.network import lane_name
 
 LEAST = 1.0  # metres below which a lane area sees too little

@@ -12,7 +12,7 @@ from concurrent.futures import ThreadPoolExecutor, as_completed
 from pathlib import Path
 
 import judge_sumo
-from reading import Refused
+from common.reading import Refused
 from sumo.drive import TABLES, sites_of
 from sumo.sums import files_of_sites, run_sum
 

@@ -1,4 +1,6 @@
 // The text of a mask: a line of the stages and one a group.
+ghost use Rattle.std.specs.Prelude.{◌<◌};
+
 use junction_calls::ActionMask;
 use pua_model::Plan;
 use sig_types::GroupNo;

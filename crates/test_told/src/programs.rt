@@ -2,7 +2,7 @@
 use crate::driven::tell_driven;
 use junction_run::{Status, junction};
 use report_judged::{has_site, report_breaches, report_protocol, report_refusals, report_site};
-use report_seen::{report, report_compare, report_sums};
+use report_seen::{lost_form, report, report_compare, report_lost, report_sums};
 use sig_io::{Files, GrowSink, Sink, put_all};
 use site_check::{check_junction, check_status};
 use std::alloc::Global;

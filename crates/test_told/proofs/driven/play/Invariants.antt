@@ -1,5 +1,5 @@
 use Rattle.junction_calls.specs.Numbers.{IsPlaying}
 use Rattle.test_told.proofs.driven.play.Given as goal
 
-abbrev pub invariant-loop : goal.invariant-loop
-invariant-loop g l = IsPlaying l.handle.value
+abbrev pub invariant-loop-line : goal.invariant-loop-line
+invariant-loop-line l = IsPlaying l.handle.value

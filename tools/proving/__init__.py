@@ -1,0 +1,1 @@
+"""Answers, checks of the prover and wrong bodies."""

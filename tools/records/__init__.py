@@ -1,0 +1,1 @@
+"""Records of other controllers: codes of events, lines, pictures; and two records with their tables."""
