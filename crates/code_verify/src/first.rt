@@ -16,7 +16,7 @@ use thiserror::Error;
 use vap_code::{Code, VerifyWhy};
 
 /// Why a code was not accepted.
-#[derive(Clone, Copy, PartialEq, Eq, Debug, Error)]
+#[derive(Clone, Copy, Debug, Error)]
 pub enum VerifyRefusal {
     /// Memory was wanted and could not be had.
     #[error("out of memory")]

@@ -3,7 +3,7 @@ ghost use Rattle.std.specs.Prelude.{◌≡◌};
 ghost use Rattle.form_help.specs.Report.{report_form, report_more, report_line};
 
 /// A form of `log_report`, by its first word.
-#[derive(Clone, Copy, Debug, PartialEq, Eq)]
+#[derive(Clone, Copy)]
 pub enum ReportForm {
     /// `diagram`.
     Diagram,

@@ -3,7 +3,7 @@ ghost use Rattle.std.specs.Prelude.{◌≡◌};
 ghost use Rattle.form_help.specs.Trace.{trace_form, trace_more, trace_line};
 
 /// A form of `junction_trace`, by its first word.
-#[derive(Clone, Copy, Debug, PartialEq, Eq)]
+#[derive(Clone, Copy, PartialEq, Eq)]
 pub enum TraceForm {
     /// `values`.
     Values,

@@ -42,7 +42,7 @@ pub(crate) trait Audience {
 }
 
 /// Nobody is given a picture, and nobody looks.
-#[derive(Clone, Copy, Debug, Drop)]
+#[derive(Clone, Copy, Drop)]
 pub(crate) struct Nobody;
 
 impl Audience for Nobody {

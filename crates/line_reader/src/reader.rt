@@ -10,7 +10,7 @@ use sig_types::Memory;
 use std::alloc::Global;
 
 /// Why a line is not read.
-#[derive(Clone, Copy, Debug, PartialEq, Eq)]
+#[derive(Clone, Copy)]
 pub enum LineRefusal {
     /// The file could not be read.
     Fault,

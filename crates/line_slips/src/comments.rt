@@ -3,7 +3,7 @@ ghost use Rattle.std.specs.Prelude.{◌≡◌};
 ghost use Rattle.line_slips.specs.Comments.{after, closes_earlier, closes_later, ends_shown, is_empty_text, is_inside, line_start, shows, shows_more};
 
 /// Where a reader of a text stands.
-#[derive(Clone, Copy, Debug, PartialEq, Eq)]
+#[derive(Clone, Copy, PartialEq, Eq)]
 pub(crate) enum Reading {
     /// Outside comments, and behind neither a slash nor a star.
     Outside,

@@ -1,7 +1,7 @@
 // The slips.
 
 /// What the mistake in a line of a PUA file is likely to be.
-#[derive(Clone, Copy, Debug, PartialEq, Eq)]
+#[derive(Clone, Copy, PartialEq, Eq)]
 pub enum PlanSlip {
     /// A program in the place of the PUA file.
     ProgramAsPlan,
@@ -24,7 +24,7 @@ pub enum PlanSlip {
 }
 
 /// What the mistake in a record of a table is likely to be.
-#[derive(Clone, Copy, Debug, PartialEq, Eq)]
+#[derive(Clone, Copy, PartialEq, Eq)]
 pub enum TableSlip {
     /// Fields that are parted by `;`.
     Semicolons,
@@ -53,7 +53,7 @@ pub enum TableSlip {
 }
 
 /// What a byte that begins no token is likely to be.
-#[derive(Clone, Copy, Debug, PartialEq, Eq)]
+#[derive(Clone, Copy, PartialEq, Eq)]
 pub enum ByteSlip {
     /// The PUA file in the place of the program.
     PlanAsProgram,
@@ -72,7 +72,7 @@ pub enum ByteSlip {
 }
 
 /// What the mistake is likely to be where there is no program with a token.
-#[derive(Clone, Copy, Debug, PartialEq, Eq)]
+#[derive(Clone, Copy, PartialEq, Eq)]
 pub enum TokenSlip {
     /// A program without a token.
     EmptyProgram,
@@ -107,7 +107,7 @@ pub enum TokenSlip {
 }
 
 /// What the mistake in a line of a detector file is likely to be.
-#[derive(Clone, Copy, Debug, PartialEq, Eq)]
+#[derive(Clone, Copy, PartialEq, Eq)]
 pub enum EntrySlip {
     /// Entries that are parted by two blanks.
     TwoBlanks,

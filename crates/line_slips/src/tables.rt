@@ -7,7 +7,7 @@ use crate::slip::TableSlip;
 use sig_types::text::{is_digit, number};
 
 /// Which table it is.
-#[derive(Clone, Copy, Debug, PartialEq, Eq)]
+#[derive(Clone, Copy, PartialEq, Eq)]
 pub enum Table {
     Times,
     Intergreens,

@@ -48,7 +48,7 @@ pub(crate) fn word_begin(text: &[u8]) -> usize
 
 /// What is open at the end of a text: whether an `IF` has no `THEN` yet, how many have no `END`, and the line of the first of
 /// these.
-#[derive(Clone, Copy, Debug, PartialEq, Eq)]
+#[derive(Clone, Copy, PartialEq, Eq)]
 pub(crate) struct Opened {
     pub(crate) condition: bool,
     pub(crate) ifs: usize,

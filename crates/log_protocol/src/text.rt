@@ -18,7 +18,7 @@ use sig_tables::{Intergreens, Times};
 use sig_types::GroupNo;
 
 /// How a page is written.
-#[derive(Clone, Copy, Debug, PartialEq, Eq)]
+#[derive(Clone, Copy)]
 pub enum Style {
     /// As a table of comma-separated values.
     Table,

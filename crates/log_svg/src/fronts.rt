@@ -14,7 +14,7 @@ use sig_io::{Draft, Sink};
 use sig_types::DetNo;
 
 /// Fronts of a detector in a second.
-#[derive(Clone, Copy, Debug, PartialEq, Eq)]
+#[derive(Clone, Copy)]
 pub struct FrontMark {
     /// The second.
     pub second: u32,

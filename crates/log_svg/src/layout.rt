@@ -6,7 +6,7 @@ ghost use Rattle.log_svg.specs.Layout.{IsSheet, each_of, height_of, left_of, lon
 use sig_types::ShortName;
 
 /// Where a part of the rows stands in a strip of the seconds.
-#[derive(Clone, Copy, Debug, PartialEq, Eq)]
+#[derive(Clone, Copy)]
 pub struct Layout {
     /// The first second of the diagram.
     pub first: u32,
@@ -95,7 +95,7 @@ pub(crate) fn end_of(layout: Layout) -> u32
 }
 
 /// Where the panels of a diagram stand: each a part of the rows in a strip of the seconds.
-#[derive(Clone, Copy, Debug, PartialEq, Eq)]
+#[derive(Clone, Copy)]
 pub struct Sheet {
     /// Where the first second of a strip begins.
     pub left: u32,

@@ -13,7 +13,7 @@ use sig_types::{Fault, GroupNo, Rule, ShortName, StageRefusal, TurnRefusal};
 use signal_log::{put_fault, put_named_turn, put_stage_refusal};
 
 /// A refused command.
-#[derive(Clone, Copy, Debug, PartialEq, Eq)]
+#[derive(Clone, Copy)]
 pub enum Refused {
     /// A stage command.
     Command(StageRefusal),
@@ -22,7 +22,7 @@ pub enum Refused {
 }
 
 /// A refused command, with its second.
-#[derive(Clone, Copy, Debug, PartialEq, Eq)]
+#[derive(Clone, Copy)]
 pub struct RefusalMark {
     /// The second.
     pub second: u32,
@@ -31,7 +31,7 @@ pub struct RefusalMark {
 }
 
 /// A fault, with its second.
-#[derive(Clone, Copy, Debug, PartialEq, Eq)]
+#[derive(Clone, Copy)]
 pub struct FaultMark {
     /// The second.
     pub second: u32,

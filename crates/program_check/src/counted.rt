@@ -16,7 +16,7 @@ use std::alloc::{AllocError, Global};
 use vap_check::Checked;
 
 /// What is counted of a detector until it is cleared.
-#[derive(Clone, Copy, Debug, PartialEq, Eq)]
+#[derive(Clone, Copy, PartialEq, Eq)]
 pub enum Count {
     Fronts,
     Rears,

@@ -15,7 +15,7 @@ use vap_ast::{ArrayDecl, ConstDecl, Name, Program, Routine};
 use vap_check::Checked;
 
 /// What a name lacks.
-#[derive(Clone, Copy, Debug, PartialEq, Eq)]
+#[derive(Clone, Copy, PartialEq, Eq)]
 pub enum Lack {
     /// A variable that is read and never assigned.
     Unassigned,

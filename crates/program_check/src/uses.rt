@@ -11,7 +11,7 @@ use vap_ast::{Expr, Item, Meaning, Name, Routine, Stmt};
 use vap_check::Checked;
 
 /// How a statement uses a name.
-#[derive(Clone, Copy, Debug, PartialEq, Eq)]
+#[derive(Clone, Copy, PartialEq, Eq)]
 pub enum Use {
     /// Its value is read.
     Read,
@@ -39,7 +39,7 @@ pub struct NameUse {
 }
 
 /// What a name has to be.
-#[derive(Clone, Copy, Debug, PartialEq, Eq)]
+#[derive(Clone, Copy)]
 pub enum Sort {
     Variable,
     Timer,

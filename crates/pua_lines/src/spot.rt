@@ -3,7 +3,7 @@ ghost use Rattle.std.specs.Prelude.{◌≡◌};
 
 /// A place in a file: a line from 1, or 0 for the whole file, and the bytes of the line that are meant. Where `from` is not below
 /// `to`, the whole line is.
-#[derive(Clone, Copy, Debug, PartialEq, Eq)]
+#[derive(Clone, Copy)]
 pub struct Spot {
     pub line: u32,
     pub from: usize,

@@ -14,7 +14,7 @@ use sig_types::text::number;
 const MOST: u32 = 3600;
 
 /// Some seconds of a log.
-#[derive(Clone, Copy, Debug, PartialEq, Eq)]
+#[derive(Clone, Copy)]
 pub struct Window {
     /// The first second, from 1.
     pub from: u32,

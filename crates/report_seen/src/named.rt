@@ -3,7 +3,7 @@ ghost use Rattle.std.specs.Prelude.{◌≡◌, map, string_bytes};
 ghost use Rattle.report_seen.specs.Named.{form_begun, form_called, form_limits, form_words, log_named};
 
 /// A form of a call that reads one log, by its first word.
-#[derive(Clone, Copy, Debug, PartialEq, Eq)]
+#[derive(Clone, Copy)]
 pub enum FormName {
     /// `diagram`.
     Diagram,

@@ -12,7 +12,7 @@ use log_read::{LogStop, LogWhy, why_name};
 use sig_io::{Sink, put_each};
 
 /// Why a call ended before all was done.
-#[derive(Clone, Copy, Debug, PartialEq, Eq)]
+#[derive(Clone, Copy)]
 pub enum Stop {
     /// Memory was wanted and could not be had.
     Memory,
@@ -42,7 +42,7 @@ pub fn stop_of(stop: LogStop) -> Stop
 }
 
 /// How a call ended.
-#[derive(Clone, Copy, Debug, PartialEq, Eq)]
+#[derive(Clone, Copy, Debug)]
 pub enum Status {
     /// All was done.
     Done,

@@ -16,7 +16,7 @@ use det_stream::{Lines, StreamRefusal, StreamWhy};
 use sig_io::{Draft, Files, Sink};
 
 /// Why a detector file is played no further.
-#[derive(Clone, Copy, Debug, PartialEq, Eq)]
+#[derive(Clone, Copy)]
 pub enum Stop {
     /// It could not be read.
     ReadFault,

@@ -12,7 +12,7 @@ use sig_tables::{Intergreens, Times};
 use sig_types::GroupNo;
 
 /// Why a group takes so many seconds until it shows what is wished of it. The first that applies is told.
-#[derive(Clone, Copy, Debug, PartialEq, Eq)]
+#[derive(Clone, Copy)]
 pub enum Cause {
     /// Red is wished, and the group has just started: its red-amber, its minimum green and its amber are still to come.
     MinimumGreen,
@@ -26,7 +26,7 @@ pub enum Cause {
 }
 
 /// The worst case of a site: what it may take from a wish that stays the same until it is shown.
-#[derive(Clone, Copy, Debug, PartialEq, Eq)]
+#[derive(Clone, Copy)]
 pub struct WorstCase {
     /// The bound, 1 to 363 seconds.
     pub seconds: u32,

@@ -4,7 +4,7 @@ use thiserror::Error;
 
 /// Why a table is refused. In one record the first of `Header`, `Fields`, `Number`, `UnknownName`, `Twice` and
 /// `SelfConflict` that applies is given; `Missing` and `OneWay` are asked only where no record is refused.
-#[derive(Clone, Copy, Debug, PartialEq, Eq)]
+#[derive(Clone, Copy, Debug)]
 pub enum TableWhy {
     /// Record 1 is not the header of the table, or is not there.
     Header,
@@ -25,7 +25,7 @@ pub enum TableWhy {
 }
 
 /// What is wrong with a table, and in which record: record 1 is the header, and 0 stands for the whole table.
-#[derive(Clone, Copy, Debug, PartialEq, Eq, Drop, Error)]
+#[derive(Clone, Copy, Debug, Drop, Error)]
 pub enum TableRefusal {
     /// Memory was wanted and could not be had.
     #[error("out of memory")]

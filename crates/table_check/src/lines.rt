@@ -119,7 +119,7 @@ pub fn records_in(alloc: Global, text: &[u8]) -> Result<Vec<&[u8]>, AllocError>
 }
 
 /// Where a record begins: its line, from 1, and how many bytes of that line stand before it.
-#[derive(Clone, Copy, Debug, PartialEq, Eq)]
+#[derive(Clone, Copy)]
 pub struct Begin {
     pub line: usize,
     pub before: usize,

@@ -1,7 +1,7 @@
 // The two tables of a site.
 
 /// Which table it is.
-#[derive(Clone, Copy, Debug, PartialEq, Eq)]
+#[derive(Clone, Copy, PartialEq, Eq)]
 pub enum Table {
     Times,
     Intergreens,

@@ -23,7 +23,7 @@ pub struct Entry {
 }
 
 /// Why a line is refused. The reasons are judged in this order.
-#[derive(Clone, Copy, Debug, PartialEq, Eq)]
+#[derive(Clone, Copy)]
 pub enum TenthWhy {
     /// The line has more than 262,144 bytes without its end.
     LineTooLong = 1,
@@ -44,7 +44,7 @@ pub enum TenthWhy {
 }
 
 /// Why no entry is given.
-#[derive(Clone, Copy, Debug, PartialEq, Eq)]
+#[derive(Clone, Copy)]
 pub enum TenthStop {
     /// Memory was wanted and could not be had.
     Memory,

@@ -29,7 +29,7 @@ pub struct RunNames<'a> {
 }
 
 /// Some seconds of a run.
-#[derive(Clone, Copy, Debug, PartialEq, Eq)]
+#[derive(Clone, Copy)]
 pub struct Window {
     /// The first second, from 1.
     pub from: u32,
@@ -38,7 +38,7 @@ pub struct Window {
 }
 
 /// How counts of lines are written.
-#[derive(Clone, Copy, Debug, PartialEq, Eq)]
+#[derive(Clone, Copy)]
 pub enum Style {
     /// Beside the text of the program.
     Table,

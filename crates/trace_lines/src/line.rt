@@ -3,7 +3,7 @@ ghost use Rattle.std.specs.Prelude.{◌≡◌};
 ghost use Rattle.trace_lines.specs.Lines.{line_in, no_of, times_of, total_by, yes_of};
 
 /// How often a test was answered yes, and how often no.
-#[derive(Clone, Copy, Debug, PartialEq, Eq)]
+#[derive(Clone, Copy)]
 pub struct Answers {
     pub yes: u64,
     pub no: u64,

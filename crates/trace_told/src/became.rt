@@ -18,7 +18,7 @@ use signal_log::{put_turn, rule_name};
 use trace_watch::Event;
 
 /// How the interstage commands of a pass were answered so far.
-#[derive(Clone, Copy, Debug, PartialEq, Eq)]
+#[derive(Clone, Copy)]
 pub struct Answered {
     /// Whether one was obeyed.
     pub obeyed: bool,

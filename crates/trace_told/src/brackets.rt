@@ -8,7 +8,7 @@ use std::alloc::{AllocError, Global};
 use vap_lex::{Sign, Token, TokenKind};
 
 /// What stands in the brackets of a `TRACE`: from the token at `first` on, up to the bracket at `end`, which closes them.
-#[derive(Clone, Copy, Debug, PartialEq, Eq)]
+#[derive(Clone, Copy)]
 pub struct Brackets {
     pub first: usize,
     pub end: usize,

@@ -14,7 +14,7 @@ use std::alloc::{AllocError, Global};
 use vap_check::Checked;
 
 /// Why words choose no values.
-#[derive(Clone, Copy, Debug, PartialEq, Eq)]
+#[derive(Clone, Copy)]
 pub enum NoChoice {
     /// Memory was wanted and could not be had.
     Memory,

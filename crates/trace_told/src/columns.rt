@@ -15,7 +15,7 @@ use vap_check::Checked;
 
 /// A value of a program: a variable or a timer by its number, or a cell of an array by the array's number and the
 /// cell's place from 1.
-#[derive(Clone, Copy, Debug, PartialEq, Eq)]
+#[derive(Clone, Copy)]
 pub enum Column {
     Variable(u16),
     Timer(u16),

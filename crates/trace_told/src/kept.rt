@@ -11,7 +11,7 @@ use std::alloc::{AllocError, Global};
 use vap_vm::Vm;
 
 /// A value of a program, and what it was before a second.
-#[derive(Clone, Copy, Debug, PartialEq, Eq)]
+#[derive(Clone, Copy)]
 pub struct Kept {
     /// The value.
     pub column: Column,

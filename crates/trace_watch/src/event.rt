@@ -3,7 +3,7 @@
 use sig_types::{CommandKind, ReadingKind, TimerKind};
 
 /// A variable, a timer, or a cell of an array at a place that is counted from 1.
-#[derive(Clone, Copy, Debug, PartialEq, Eq)]
+#[derive(Clone, Copy)]
 pub enum Slot {
     Variable(u16),
     Timer(u16),
@@ -11,7 +11,7 @@ pub enum Slot {
 }
 
 /// What an instruction of a pass does that a reader of the program knows.
-#[derive(Clone, Copy, Debug, PartialEq, Eq)]
+#[derive(Clone, Copy)]
 pub enum Event {
     /// A statement of this line begins.
     Begins(u32),

@@ -8,7 +8,7 @@ use std::alloc::{AllocError, Global};
 use vap_code::Instr;
 
 /// A place of a code, and the line of the text from which it comes.
-#[derive(Clone, Copy, Debug, PartialEq, Eq)]
+#[derive(Clone, Copy)]
 pub struct Mark {
     pub place: usize,
     pub line: u32,

@@ -3,7 +3,7 @@ use crate::name::Name;
 use sig_types::{CommandKind, ReadingKind, TimerKind};
 
 /// A program as its text writes it: the declarations in order, and the main routine, which has the program's name.
-#[derive(Debug, Drop, PartialEq)]
+#[derive(Drop)]
 pub struct Program {
     pub consts: Vec<ConstDecl>,
     pub arrays: Vec<ArrayDecl>,
@@ -12,7 +12,7 @@ pub struct Program {
 }
 
 /// A declared constant, with the line of its name, from 1.
-#[derive(Debug, Drop, PartialEq)]
+#[derive(Drop)]
 pub struct ConstDecl {
     pub name: Name,
     pub line: u32,
@@ -20,7 +20,7 @@ pub struct ConstDecl {
 }
 
 /// A declared array, with the line of its name, the number of cells that it declares and the values that it lists.
-#[derive(Debug, Drop, PartialEq)]
+#[derive(Drop)]
 pub struct ArrayDecl {
     pub name: Name,
     pub line: u32,
@@ -29,7 +29,7 @@ pub struct ArrayDecl {
 }
 
 /// A subroutine or the main routine, with the line of its name.
-#[derive(Debug, Drop, PartialEq)]
+#[derive(Drop)]
 pub struct Routine {
     pub name: Name,
     pub line: u32,
@@ -38,12 +38,12 @@ pub struct Routine {
 
 /// Labels and statements, one after another.
 #[cycle(tree)]
-#[derive(Debug, Drop, PartialEq)]
+#[derive(Drop)]
 pub struct Items(pub Vec<Item>);
 
 /// A label, with the line of its name, or a statement, with the line of its first token.
 #[cycle(tree)]
-#[derive(Debug, Drop, PartialEq)]
+#[derive(Drop)]
 pub enum Item {
     Label { name: Name, line: u32 },
     Step { line: u32, what: Stmt },
@@ -51,7 +51,7 @@ pub enum Item {
 
 /// A statement. An `IF` without `ELSE` has an empty list there; `GOTO PROG_ENDE` has the label `prog_ende`.
 #[cycle(tree)]
-#[derive(Debug, Drop, PartialEq)]
+#[derive(Drop)]
 pub enum Stmt {
     /// `target := value`
     Assign {
@@ -93,7 +93,7 @@ pub enum Stmt {
 }
 
 /// An expression. Brackets are no part of it.
-#[derive(Debug, Drop, PartialEq)]
+#[derive(Drop)]
 pub enum Expr {
     /// A number.
     Literal(i32),
@@ -123,7 +123,7 @@ pub enum Expr {
 }
 
 /// An operator on one number.
-#[derive(Clone, Copy, PartialEq, Eq, Debug, Drop)]
+#[derive(Clone, Copy, Drop)]
 pub enum UnaryOp {
     /// `-`
     Neg,
@@ -132,7 +132,7 @@ pub enum UnaryOp {
 }
 
 /// An operator on two numbers; both sides are always computed, the left one first.
-#[derive(Clone, Copy, PartialEq, Eq, Debug, Drop)]
+#[derive(Clone, Copy, Drop)]
 pub enum BinaryOp {
     /// `OR`
     Or,

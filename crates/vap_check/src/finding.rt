@@ -5,7 +5,7 @@ ghost use Rattle.vap_check.specs.FirstFinding.{order, is_sooner, sooner, first_o
 use crate::refusal::{CheckWhy, Which};
 
 /// Something that is wrong, with the line that it stands in.
-#[derive(Clone, Copy, Debug, PartialEq, Eq)]
+#[derive(Clone, Copy)]
 pub struct Finding {
     pub line: u32,
     pub why: CheckWhy,

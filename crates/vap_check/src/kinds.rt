@@ -13,7 +13,7 @@ use std::collections::BTreeMap;
 use vap_ast::Name;
 
 /// What a name of a program is.
-#[derive(Clone, Copy, Debug, PartialEq, Eq)]
+#[derive(Clone, Copy, PartialEq, Eq)]
 pub enum Kind {
     Constant,
     Array,
@@ -30,14 +30,14 @@ pub fn is_kind(wanted: Kind, kind: Kind) -> bool
 }
 
 /// The first declaration of a constant.
-#[derive(Clone, Copy, Debug, PartialEq, Eq)]
+#[derive(Clone, Copy)]
 pub struct First {
     pub line: u32,
     pub value: i32,
 }
 
 /// What a name is by its first declaration; a timer is declared by a timer command.
-#[derive(Clone, Copy, Debug, PartialEq, Eq)]
+#[derive(Clone, Copy)]
 pub enum Declared {
     Constant(First),
     Array,

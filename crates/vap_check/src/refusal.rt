@@ -6,7 +6,7 @@ use sig_types::Memory;
 use thiserror::Error;
 
 /// What a program has too many of, in the order in which the limits are looked at.
-#[derive(Clone, Copy, Debug, PartialEq, Eq)]
+#[derive(Clone, Copy, Debug)]
 pub enum Which {
     /// More than 256 variables.
     Variables,
@@ -23,7 +23,7 @@ pub enum Which {
 }
 
 /// Why a program is refused. Within one line the reason with the lowest number stands.
-#[derive(Clone, Copy, Debug, PartialEq, Eq)]
+#[derive(Clone, Copy, Debug)]
 pub enum CheckWhy {
     /// 1: a constant is declared again.
     ConstTwice,
@@ -54,7 +54,7 @@ pub enum CheckWhy {
 }
 
 /// Why a program isn't checked.
-#[derive(Clone, Copy, Debug, PartialEq, Eq, Error)]
+#[derive(Clone, Copy, Debug, Error)]
 pub enum CheckRefusal {
     /// Memory was wanted and could not be had.
     #[error("out of memory")]

@@ -5,7 +5,7 @@ ghost use Rattle.vap_code.specs.Operands.{effect_of};
 use crate::Instr;
 
 /// How many numbers an instruction takes from the stack, and how many it then puts there.
-#[derive(Clone, Copy, PartialEq, Eq, Debug)]
+#[derive(Clone, Copy)]
 pub struct Effect {
     pub takes: usize,
     pub puts: usize,

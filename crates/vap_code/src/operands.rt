@@ -6,7 +6,7 @@ use crate::Instr;
 use sig_types::{CommandKind, ReadingKind};
 
 /// What stands in an instruction beside its word.
-#[derive(Clone, Copy, PartialEq, Eq, Debug)]
+#[derive(Clone, Copy)]
 pub enum Operand {
     /// Nothing.
     Nothing,

@@ -10,7 +10,7 @@ use crate::token::Sign;
 use sig_types::text::{is_digit, is_letter};
 
 /// Why a text has no token at a place.
-#[derive(Clone, Copy, Debug, PartialEq, Eq)]
+#[derive(Clone, Copy, Debug)]
 pub enum LexWhy {
     /// 1: a byte that begins nothing.
     Byte = 1,
@@ -23,7 +23,7 @@ pub enum LexWhy {
 }
 
 /// What stands at a place of a text.
-#[derive(Clone, Copy, Debug, PartialEq, Eq)]
+#[derive(Clone, Copy)]
 pub(crate) enum Piece {
     /// A blank or a comment.
     Gap,

@@ -19,7 +19,7 @@ use thiserror::Error;
 use vap_ast::Name;
 
 /// Why a text has no tokens: the line of the first place that is refused, from 1, and the reason.
-#[derive(Clone, Copy, Debug, PartialEq, Eq, Error)]
+#[derive(Clone, Copy, Debug, Error)]
 pub enum LexRefusal {
     /// Memory was wanted and could not be had.
     #[error("out of memory")]

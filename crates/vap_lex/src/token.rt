@@ -7,7 +7,7 @@ use std::marker::Model;
 use vap_ast::Name;
 
 /// The signs of a program's text: `:=` `:` `;` `,` `.` `(` `)` `[` `]` `=` `<>` `<` `<=` `>` `>=` `+` `-` `*` `/`.
-#[derive(Clone, Copy, Debug, PartialEq, Eq)]
+#[derive(Clone, Copy, PartialEq, Eq)]
 pub enum Sign {
     Assign,
     Colon,
@@ -31,7 +31,7 @@ pub enum Sign {
 }
 
 /// What a token is: a word (reserved or a name), a number or a sign.
-#[derive(Debug, Drop, PartialEq)]
+#[derive(Drop)]
 pub enum TokenKind {
     Word(Name),
     Number(i32),
@@ -39,7 +39,7 @@ pub enum TokenKind {
 }
 
 /// A token, with the place of its first byte, from 0, and the line of that byte, from 1.
-#[derive(Debug, Drop, PartialEq)]
+#[derive(Drop)]
 pub struct Token {
     pub place: u32,
     pub line: u32,
@@ -48,7 +48,7 @@ pub struct Token {
 
 /// The tokens of a text, in order. Contracts see the list. It keeps that each place is below 4,294,967,294 and that no
 /// number is negative.
-#[derive(Debug, Drop)]
+#[derive(Drop)]
 pub struct Tokens {
     items: Vec<Token>,
 }

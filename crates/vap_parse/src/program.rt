@@ -29,7 +29,7 @@ use vap_lex::{Token, Tokens};
 const MAX_IFS: usize = 100;
 
 /// Why tokens are no program.
-#[derive(Clone, Copy, Debug, PartialEq, Eq)]
+#[derive(Clone, Copy, Debug)]
 pub enum ParseWhy {
     /// 1: a token that can't follow those before it; its place. Where the tokens end too early, it is the last token's
     /// place plus 1, and 0 without any token.
@@ -42,7 +42,7 @@ pub enum ParseWhy {
 
 /// Why tokens have no tree: the line of the first token that is refused, from 1, and the reason. Where the tokens end too
 /// early, the line is that of the last token, and 1 without any token.
-#[derive(Clone, Copy, Debug, PartialEq, Eq, Error)]
+#[derive(Clone, Copy, Debug, Error)]
 pub enum ParseRefusal {
     /// Memory was wanted and could not be had.
     #[error("out of memory")]

@@ -7,7 +7,7 @@ use sig_types::Memory as OutOfMemory;
 use std::alloc::{AllocError, AllocFailed};
 
 /// Why a parser gives up: memory ran out, or the next token is refused.
-#[derive(Debug, Drop)]
+#[derive(Drop)]
 pub enum Stop {
     Memory,
     Refused(Reason),

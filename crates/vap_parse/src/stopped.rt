@@ -17,7 +17,7 @@ use vap_lex::Token;
 
 /// The first refused token: how many tokens stand before it, and why it is refused. Where the tokens end too early, all
 /// stand before it.
-#[derive(Clone, Copy, Debug, PartialEq, Eq)]
+#[derive(Clone, Copy)]
 pub struct Refused {
     pub at: usize,
     pub why: Reason,

@@ -23,7 +23,7 @@ pub struct Machine {
 }
 
 /// What an instruction comes to.
-#[derive(Clone, Copy, PartialEq, Eq, Debug)]
+#[derive(Clone, Copy)]
 pub enum Next {
     /// The instruction at the next place follows.
     Following,

@@ -23,7 +23,7 @@ pub trait Observer {
 }
 
 /// Nobody looks on.
-#[derive(Clone, Copy, PartialEq, Eq, Debug)]
+#[derive(Clone, Copy)]
 pub struct Unseen;
 
 impl Observer for Unseen {

@@ -23,7 +23,7 @@ use std::mem;
 use std::sync::ledger::Ledger;
 
 /// How a pass ended.
-#[derive(Clone, Copy, PartialEq, Eq, Debug)]
+#[derive(Clone, Copy)]
 pub enum PassEnd {
     /// The main routine came to its end.
     Done,
