@@ -50,7 +50,8 @@ use Rattle.junction_run.specs.Form.{SiteWords, ProgramFile}
 use Rattle.junction_run.specs.Loading.{Unloaded, Playing, ReachedInPlay, ReachedAfterSite}
 use Rattle.junction_run.specs.Loading as loading
 use Rattle.junction_run.specs.Notes.{IsNote, NoteMeetsBy, load_note, play_note, stop_note}
-use Rattle.junction_run.specs.Played.{IsPlayed, IsPlayedAt, IsWritten, WasPlayed, BeginsWith}
+use Rattle.run_seconds.specs.Told.{BeginsWith}
+use Rattle.junction_run.specs.Played.{IsPlayed, IsPlayedAt, IsWritten, WasPlayed}
 use Rattle.junction_run.specs.Reasons.{reason_text, line_reason}
 use Rattle.junction_run.specs.Records.{log_of}
 use Rattle.junction_run.specs.SiteAnswer.{IsLoadStatus, IsSiteLoad, IsSiteNote}

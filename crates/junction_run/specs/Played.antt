@@ -1,5 +1,5 @@
 -- What is played.
-use Rattle.std.specs.Prelude.{◌≡◌, ◌++◌, ℕ, List, Option, None, Some, Result, Ok, Err}
+use Rattle.std.specs.Prelude.{◌≡◌, ℕ, List, Option, None, Some, Result, Ok, Err}
 use Rattle.std.specs.Io.KnownBytes.{append_known}
 use Rattle.sig_io.specs.Draft.{IsCut}
 use Rattle.sig_types.specs.Counts.{Counts}
@@ -8,6 +8,7 @@ use Rattle.controller.specs.declared.controller.Controller.{Controller}
 use Rattle.controller.specs.Controls.{site_of, logic_of}
 use Rattle.det_stream.specs.declared.refusal.StreamWhy.{StreamWhy}
 use Rattle.det_stream.specs.Stream.{Stream}
+use Rattle.run_seconds.specs.Told.{BeginsWith}
 use Rattle.run_seconds.specs.declared.play.Stop.{Stop as Seconds}
 use Rattle.run_seconds.specs.declared.play.Stop.TheVariants as seconds
 use Rattle.junction_run.specs.declared.stop.LineReason.{LineReason}
@@ -41,10 +42,6 @@ IsWritten (Ok x) log old new = new ≡ append_known old log
 IsWritten (Err (ReadFault word)) log old new = new ≡ append_known old log
 IsWritten (Err WriteFault) log old new = (n : ℕ) × IsCut old new n log
 IsWritten (Err (RefusedLine word line reason)) log old new = new ≡ append_known old log
-
--- these are the first frames of a detector file
-abbrev pub BeginsWith : Stream → List Counts → Type 0
-BeginsWith stream frames = (rest : List Counts) × (stream.frames ≡ frames ++ rest)
 
 -- this line is the first that is no frame, and this is the reason
 abbrev pub IsNoFrame : Option (ℕ × StreamWhy) → ℕ → LineReason → Type 0
