@@ -2,7 +2,6 @@
 use Rattle.std.proofs.Common.{◌≡◌, ℕ, ◌+◌, ◌<◌, Bool, true, false, cond, ◌||◌, List, ◌∷◌, length, drop, get_or, ap, sym, ◌∙◌, arith, drop-cons}
 use Rattle.std.proofs.lemmas.Grind.{common_steps}
 use Rattle.line_slips.specs.Bytes.{somewhere}
-use Rattle.line_slips.specs.ProgramSlips.{goes_on, token_len}
 use Rattle.line_slips.specs.TableSlips.{begins_with_number, names_len}
 
 pub cut : (text : List ℕ) (i : ℕ) → i < length text → drop i text ≡ get_or text i 0 ∷ drop (i + 1) text
@@ -45,23 +44,4 @@ names_more text here i k at so_far h =
     let more : names_len (drop i text) ≡ 1 + names_len (drop (i + 1) text) =
     ap names_len (cut text i k)
     ∙ ap (λ t. cond t 0 (1 + names_len (drop (i + 1) text))) (tested begins_with_number text here i false k at h) in
-    omega (arith, so_far, more)
-
--- the token ends here
-pub token_ends : (first last : ℕ) (text : List ℕ) (i : ℕ) → i < length text →
-    token_len first text ≡ i + token_len last (drop i text) → false ≡ goes_on last (get_or text i 0) → token_len first text ≡ i
-token_ends first last text i k so_far h =
-    let none : token_len last (drop i text) ≡ 0 =
-    ap (token_len last) (cut text i k)
-    ∙ ap (λ t. cond t (1 + token_len (get_or text i 0) (drop (i + 1) text)) 0) (sym h) in
-    omega (arith, so_far, none)
-
--- it goes on
-pub token_more : (first last : ℕ) (text : List ℕ) (i : ℕ) → i < length text →
-    token_len first text ≡ i + token_len last (drop i text) → true ≡ goes_on last (get_or text i 0) →
-    token_len first text ≡ (i + 1) + token_len (get_or text i 0) (drop (i + 1) text)
-token_more first last text i k so_far h =
-    let more : token_len last (drop i text) ≡ 1 + token_len (get_or text i 0) (drop (i + 1) text) =
-    ap (token_len last) (cut text i k)
-    ∙ ap (λ t. cond t (1 + token_len (get_or text i 0) (drop (i + 1) text)) 0) (sym h) in
     omega (arith, so_far, more)

@@ -1,6 +1,5 @@
 -- The comments of a program's text.
-use Rattle.std.specs.Prelude.{ℕ, ◌==◌, Bool, true, false, not, ◌||◌, if◌then◌else◌, List, [], ◌∷◌}
-use Rattle.std.specs.Char.{is_ascii_whitespace}
+use Rattle.std.specs.Prelude.{ℕ, ◌==◌, Bool, true, false, ◌||◌, if◌then◌else◌, List, [], ◌∷◌}
 use Rattle.line_slips.specs.declared.comments.Reading.{Reading}
 use Rattle.line_slips.specs.declared.comments.Reading.TheVariants.{Outside, Slash, Star, Comment, CommentStar}
 
@@ -19,31 +18,6 @@ is_inside Slash = false
 is_inside Star = false
 is_inside Comment = true
 is_inside CommentStar = true
-
--- the byte, or the slash before it, is neither white space nor of a comment
-abbrev pub shows : Reading → ℕ → Bool
-shows Outside b = not (is_ascii_whitespace b || (b == 47))
-shows Slash b = not (b == 42)
-shows Star b = true
-shows Comment b = false
-shows CommentStar b = false
-
--- the text ended behind a slash that begins no comment
-abbrev pub ends_shown : Reading → Bool
-ends_shown Outside = false
-ends_shown Slash = true
-ends_shown Star = true
-ends_shown Comment = false
-ends_shown CommentStar = false
-
--- bytes behind such a place have more than white space and comments
-abbrev pub shows_more : Reading → List ℕ → Bool
-shows_more at [] = ends_shown at
-shows_more at (b ∷ bs) = shows at b || shows_more (after at b) bs
-
--- a text has nothing but white space and comments; the last one may be open
-unfoldable pub is_empty_text : List ℕ → Bool
-is_empty_text text = not (shows_more Outside text)
 
 -- a comment ends here that began in an earlier line
 abbrev pub closes_earlier : Reading → ℕ → Bool

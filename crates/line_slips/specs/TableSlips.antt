@@ -35,13 +35,15 @@ is_off least most (Some field) = not (is_some (within least most (number_of fiel
 abbrev pub is_off_at : List ℕ → ℕ → ℕ → ℕ → Bool
 is_off_at record' place least most = is_off least most (slice_get (slice_split (λ b. b == 44) record') place)
 
--- of a record of times: its first number that has another form or is out of range
+-- of a record of times: its first number that has another form or is out of range; of one with a quotation mark nothing is said, since
+-- its fields need not end at each comma
 unfoldable pub times_slip : List ℕ → Option TableSlip
 times_slip record' =
-    if is_off_at record' 1 1 255 then Some MinimumGreen
+    if list_any (λ b. b == 34) record' then None
+    else (if is_off_at record' 1 1 255 then Some MinimumGreen
     else (if is_off_at record' 2 0 9 then Some RedAmber
     else (if is_off_at record' 3 0 9 then Some Amber
-    else (if is_off_at record' 4 1 255 then Some MinimumRed else None)))
+    else (if is_off_at record' 4 1 255 then Some MinimumRed else None))))
 
 -- of a record with a number that has another form or is out of range
 abbrev pub number_slip : Table → List ℕ → Option TableSlip

@@ -1,6 +1,6 @@
 // The comments of a program's text.
 ghost use Rattle.std.specs.Prelude.{◌≡◌};
-ghost use Rattle.line_slips.specs.Comments.{after, closes_earlier, closes_later, ends_shown, is_empty_text, is_inside, line_start, shows, shows_more};
+ghost use Rattle.line_slips.specs.Comments.{after, closes_earlier, closes_later, is_inside, line_start};
 
 /// Where a reader of a text stands.
 #[derive(Clone, Copy, PartialEq, Eq)]
@@ -77,43 +77,6 @@ pub(crate) fn is_inside(at: Reading) -> bool
         Reading::Comment | Reading::CommentStar => true,
         Reading::Outside | Reading::Slash | Reading::Star => false,
     }
-}
-
-// Whether a byte, or the slash before it, is neither white space nor of a comment.
-fn shows(at: Reading, b: u8) -> bool
-    ensures { result ≡ shows at b }
-{
-    match at {
-        Reading::Outside => !(b.is_ascii_whitespace() || b == b'/'),
-        Reading::Slash => b != b'*',
-        Reading::Star => true,
-        Reading::Comment | Reading::CommentStar => false,
-    }
-}
-
-// Whether a text that ends here ended behind a sign that begins no comment.
-fn ends_shown(at: Reading) -> bool
-    ensures { result ≡ ends_shown at }
-{
-    match at {
-        Reading::Slash | Reading::Star => true,
-        Reading::Outside | Reading::Comment | Reading::CommentStar => false,
-    }
-}
-
-/// Whether a text has nothing but white space and comments.
-#[tactic(auto, unfolding(crate::specs::Comments::is_empty_text))]
-pub(crate) fn is_empty_text(text: &[u8]) -> bool
-    ensures { result ≡ is_empty_text text.now }
-{
-    let mut at = Reading::Outside;
-    for b in text {
-        if shows(at, *b) {
-            return false;
-        }
-        at = after(at, *b);
-    }
-    !ends_shown(at)
 }
 
 // Whether a comment ends here that began in an earlier line.

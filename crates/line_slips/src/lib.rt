@@ -3,7 +3,6 @@
 //! slip of its list that the text shows, or none; `specs/` defines which.
 #![tactic(auto)]
 
-mod begun;
 mod bytes;
 mod comments;
 mod program;
@@ -11,13 +10,10 @@ mod pua;
 mod slip;
 mod stream;
 mod tables;
-mod tokens;
-mod words;
 
-pub use begun::{called_word, slip_place};
 pub use bytes::trimmed;
-pub use program::{byte_slip, token_slip};
+pub use program::byte_slip;
 pub use pua::{again_slip, row_slip, section_slip};
-pub use slip::{ByteSlip, EntrySlip, PlanSlip, TableSlip, TokenSlip};
+pub use slip::{ByteSlip, EntrySlip, PlanSlip, TableSlip};
 pub use stream::entry_slip;
 pub use tables::{Table, header_slip, name_slip, names_in, number_slip};

@@ -71,41 +71,6 @@ pub enum ByteSlip {
     ControlByte,
 }
 
-/// What the mistake is likely to be where there is no program with a token.
-#[derive(Clone, Copy, PartialEq, Eq)]
-pub enum TokenSlip {
-    /// A program without a token.
-    EmptyProgram,
-    /// A text that ends too early.
-    TextEnds,
-    /// `ELSEIF` for `ELSE` and `IF`.
-    ElseIf,
-    /// `ENDIF` for `END`.
-    EndIf,
-    /// `WHILE`, `FOR` or another word of a loop.
-    Loop,
-    /// A comment that begins with `//`.
-    SlashComment,
-    /// `==` for `=`.
-    DoubleEqual,
-    /// `=>` for `>=`, or `=<` for `<=`.
-    SwappedSigns,
-    /// `=` for `:=`.
-    EqualForAssign,
-    /// `2,5` for a decimal.
-    DecimalComma,
-    /// Nothing where a value is wanted.
-    ValueMissing,
-    /// Two values with nothing between them.
-    OperatorMissing,
-    /// An `IF` without `THEN`.
-    ThenMissing,
-    /// An `IF` without `END`, with the line of the first one that is open.
-    EndMissing(usize),
-    /// A word before a bracket that is no command and no reading.
-    UnknownCall,
-}
-
 /// What the mistake in a line of a detector file is likely to be.
 #[derive(Clone, Copy, PartialEq, Eq)]
 pub enum EntrySlip {

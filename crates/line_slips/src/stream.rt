@@ -36,7 +36,7 @@ pub fn entry_slip(line: &[u8]) -> Option<EntrySlip>
 {
     if has_letter(line) {
         Some(EntrySlip::Headings)
-    } else if line.contains(&b',') {
+    } else if line.contains(&b',') && !line.contains(&b':') {
         Some(EntrySlip::Commas)
     } else if has_two_spaces(line) {
         Some(EntrySlip::TwoBlanks)

@@ -59,12 +59,15 @@ fn is_off(row: &[u8], place: usize, least: u32, most: u32) -> bool
     }
 }
 
-// Of a record of times: its first number that has another form or is out of range.
+// Of a record of times: its first number that has another form or is out of range; nothing of one with a quotation mark, whose
+// fields need not end at each comma.
 #[tactic(auto, unfolding(crate::specs::TableSlips::times_slip))]
 fn times_slip(row: &[u8]) -> Option<TableSlip>
     ensures { result ≡ times_slip row.now }
 {
-    if is_off(row, 1, 1, 255) {
+    if row.contains(&b'"') {
+        None
+    } else if is_off(row, 1, 1, 255) {
         Some(TableSlip::MinimumGreen)
     } else if is_off(row, 2, 0, 9) {
         Some(TableSlip::RedAmber)

@@ -51,6 +51,7 @@ all_kept allowed examined e = record {
   findings = sym (ap (λ texts. kept examined.plan texts examined.findings.items) e ∙ kept-all examined.plan examined.findings.items);
   plan = refl;
   worst = refl;
+  advice = refl;
   pua = refl;
   times = refl;
   intergreens = refl;

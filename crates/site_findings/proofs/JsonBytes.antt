@@ -33,11 +33,13 @@ json_lines-push names examined (f ∷ fs) finding =
 
 -- one more finding of a list
 pub lines_more : (names : SiteNames) (examined : Examined) (findings : List Finding) (i : ℕ) (finding : Finding) →
-    (old new : Text) → i < length findings → finding ≡ get_or findings i finding →
-    old.bytes.items ≡ json_lines names examined (take i findings) → Puts old new (json_line names examined finding) →
-    new.bytes.items ≡ json_lines names examined (take (i + 1) findings)
-lines_more names examined findings i finding old new below is h s =
+    (old new : Text) (first : List ℕ) → i < length findings → finding ≡ get_or findings i finding →
+    old.bytes.items ≡ first ++ json_lines names examined (take i findings) → Puts old new (json_line names examined finding) →
+    new.bytes.items ≡ first ++ json_lines names examined (take (i + 1) findings)
+lines_more names examined findings i finding old new first below is h s =
     let next : take (i + 1) findings ≡ take i findings ++ finding ∷ [] =
     take_more findings i finding below ∙ ap (λ f. take i findings ++ f ∷ []) (sym is) in
     s ∙ (ap (λ t. t ++ json_line names examined finding) h
-    ∙ (sym (json_lines-push names examined (take i findings) finding) ∙ ap (json_lines names examined) (sym next)))
+    ∙ (append_assoc first (json_lines names examined (take i findings)) (json_line names examined finding)
+    ∙ ap (λ t. first ++ t)
+    (sym (json_lines-push names examined (take i findings) finding) ∙ ap (json_lines names examined) (sym next))))

@@ -55,6 +55,7 @@ pub record IsKept (allowed : List (List ℕ)) (old new : Examined) : Type 0 wher
   pub findings : new.findings.items ≡ kept old.plan allowed old.findings.items
   pub plan : new.plan ≡ old.plan
   pub worst : new.worst ≡ old.worst
+  pub advice : new.advice ≡ old.advice
   pub pua : new.pua ≡ old.pua
   pub times : new.times ≡ old.times
   pub intergreens : new.intergreens ≡ old.intergreens

@@ -10,6 +10,7 @@ use Rattle.site_findings.specs.declared.finding.Told.{Told}
 use Rattle.site_findings.specs.declared.finding.Told.TheVariants.{Refused, Unread, NotJudged, Warned}
 use Rattle.site_findings.specs.Cures.{warning_cure}
 use Rattle.site_findings.specs.Escaped.{escaped}
+use Rattle.site_findings.specs.Meant.{told_place}
 use Rattle.site_findings.specs.ReasonProse.{unread_prose}
 use Rattle.site_findings.specs.Reasons.{refusal_subject, refusal_word}
 use Rattle.site_findings.specs.Slips.{refusal_prose}
@@ -44,7 +45,7 @@ word_text examined (Warned warning) = warning_name warning
 
 -- what is told of a line of a file, in a sentence
 abbrev pub line_sentence : Examined → FileKind → Told → List ℕ → List ℕ
-line_sentence examined file (Refused refusal) line = (refusal_prose file refusal examined.program.items line).means
+line_sentence examined file (Refused refusal) line = (refusal_prose file refusal examined.advice line).means
 line_sentence examined file Unread line = unread_prose.means
 line_sentence examined file NotJudged line = codes "not judged, since the PUA file is not accepted"
 line_sentence examined file (Warned warning) line = warning_text examined.plan warning
@@ -53,11 +54,11 @@ line_sentence examined file (Warned warning) line = warning_text examined.plan w
 unfoldable pub sentence_text : Examined → Finding → List ℕ
 sentence_text examined finding =
     line_sentence examined finding.file finding.told (line_of_finding examined finding)
-    ++ record_text (begin_of_finding examined finding).line finding.spot.line
+    ++ record_text (begin_of_finding examined finding).line (told_place examined finding)
 
 -- what to do; nothing of a table that wasn't judged
 abbrev pub cure_text : Examined → FileKind → Told → List ℕ → List ℕ
-cure_text examined file (Refused refusal) line = (refusal_prose file refusal examined.program.items line).cure
+cure_text examined file (Refused refusal) line = (refusal_prose file refusal examined.advice line).cure
 cure_text examined file Unread line = unread_prose.cure
 cure_text examined file NotJudged line = []
 cure_text examined file (Warned warning) line = warning_cure warning

@@ -1,5 +1,6 @@
 -- What is meant of the line of a finding.
-use Rattle.std.specs.Prelude.{ℕ, ◌==◌, if◌then◌else◌, List, Option}
+use Rattle.std.specs.Prelude.{ℕ, ◌==◌, if◌then◌else◌, List, Option, None, Some}
+use Rattle.program_advice.specs.declared.advice.Advice.{Advice}
 use Rattle.pua_model.specs.Plan.{PlanOf}
 use Rattle.pua_lines.specs.declared.spot.Spot.{Spot}
 use Rattle.table_check.specs.declared.lines.Begin.{Begin}
@@ -44,12 +45,36 @@ meant_in_table t plan Unread spot text = spot
 meant_in_table t plan NotJudged spot text = spot
 meant_in_table t plan (Warned w) spot text = in_record spot (warned_span t text)
 
+-- where what is told of a refused program stands, where it is known; else this place
+abbrev pub advised_spot : Option Advice → Spot → Spot
+advised_spot None spot = spot
+advised_spot (Some a) spot = if a.line == 0 then spot else record { line = a.line; from = a.from; to = a.to }
+
+-- where what is told of a program stands that was found at this place
+abbrev pub told_spot : Option Advice → Told → Spot → Spot
+told_spot advice (Refused why) spot = advised_spot advice spot
+told_spot advice Unread spot = spot
+told_spot advice NotJudged spot = spot
+told_spot advice (Warned w) spot = spot
+
+-- the line of a file, or of a table the record, of which this is told that was found at this place
+abbrev pub place_in_file : FileKind → Option Advice → Told → Spot → ℕ
+place_in_file Pua advice told spot = spot.line
+place_in_file Times advice told spot = spot.line
+place_in_file Intergreens advice told spot = spot.line
+place_in_file Program advice told spot = (told_spot advice told spot).line
+place_in_file Detectors advice told spot = spot.line
+
+-- the same of a finding
+abbrev pub told_place : Examined → Finding → ℕ
+told_place examined finding = place_in_file finding.file examined.advice finding.told finding.spot
+
 -- what is meant of a line of a file, in a table of a record
 abbrev pub meant_in_file : Examined → FileKind → Told → Spot → List ℕ → Spot
 meant_in_file examined Pua told spot text = spot
 meant_in_file examined Times told spot text = meant_in_table table.Times examined.plan told spot text
 meant_in_file examined Intergreens told spot text = meant_in_table table.Intergreens examined.plan told spot text
-meant_in_file examined Program told spot text = spot
+meant_in_file examined Program told spot text = told_spot examined.advice told spot
 meant_in_file examined Detectors told spot text = spot
 
 -- what is meant of the line of a finding, or of the record that begins there; of a record that doesn't begin its line as it was found

@@ -1,5 +1,5 @@
 -- What is told of each reason to refuse a file: what it means, what it most often is, and what to do.
-use Rattle.std.specs.Prelude.{List, [], ◌++◌, codes}
+use Rattle.std.specs.Prelude.{[], ◌++◌, codes}
 use Rattle.pua_reader.specs.declared.refusal.PuaWhy.{PuaWhy}
 use Rattle.pua_reader.specs.declared.refusal.PuaWhy.TheVariants as pua
 use Rattle.sig_tables.specs.declared.refusal.TableWhy.{TableWhy}
@@ -37,8 +37,8 @@ pua_prose pua.Row = record {
 }
 pua_prose pua.NameTwice = record {
   means = codes "a name or number of a group, or a name of a stage, again; a group twice in a row or interstage";
-  often = codes "at the row of the starting stage: `$STARTING_STAGE` is misspelt, so the row counts as a stage";
-  cure = codes "look at the `$` line above";
+  often = [];
+  cure = codes "one name for one thing; at a row that is to be the starting stage look at the `$` line above";
 }
 pua_prose pua.UnknownName = record {
   means = codes "a group or a stage that isn't there, or stands below";
@@ -97,7 +97,7 @@ table_prose table.UnknownName = record {
 }
 table_prose table.Twice = record {
   means = codes "a group, or an ordered pair, again";
-  often = codes "names that differ in upper and lower case alone";
+  often = [];
   cure = codes "keep one";
 }
 table_prose (table.Missing group) = record {
@@ -163,7 +163,7 @@ parse_prose parse.TooDeep = record {
 abbrev pub check_prose : CheckWhy → Prose
 check_prose check.ConstTwice = record {
   means = codes "a constant is declared again";
-  often = codes "two `CONST` lines put together";
+  often = [];
   cure = codes "keep one";
 }
 check_prose check.NameKind = record {

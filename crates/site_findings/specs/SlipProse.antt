@@ -1,13 +1,11 @@
 -- What is told of each slip that a line shows: what it is, what it most often comes from, and what to do.
-use Rattle.std.specs.Prelude.{List, [], ◌++◌, codes}
+use Rattle.std.specs.Prelude.{[], ◌++◌, codes}
 use Rattle.line_slips.specs.declared.slip.PlanSlip.{PlanSlip}
 use Rattle.line_slips.specs.declared.slip.PlanSlip.TheVariants as plan
 use Rattle.line_slips.specs.declared.slip.TableSlip.{TableSlip}
 use Rattle.line_slips.specs.declared.slip.TableSlip.TheVariants as table
 use Rattle.line_slips.specs.declared.slip.ByteSlip.{ByteSlip}
 use Rattle.line_slips.specs.declared.slip.ByteSlip.TheVariants as byte
-use Rattle.line_slips.specs.declared.slip.TokenSlip.{TokenSlip}
-use Rattle.line_slips.specs.declared.slip.TokenSlip.TheVariants as token
 use Rattle.line_slips.specs.declared.slip.EntrySlip.{EntrySlip}
 use Rattle.line_slips.specs.declared.slip.EntrySlip.TheVariants as entry
 use Rattle.site_findings.specs.Prose.{Prose}
@@ -161,86 +159,6 @@ byte_slip_prose byte.ControlByte = record {
   means = codes "a control byte, as a byte 0, stands in the line";
   often = codes "a file in UTF-16; a broken copy";
   cure = codes "save it as ASCII or UTF-8";
-}
-
--- of a token with which there is no program
-abbrev pub token_slip_prose : TokenSlip → Prose
-token_slip_prose token.EmptyProgram = record {
-  means = codes "the program is empty";
-  often = [];
-  cure = codes "`PROGRAM name;`, statements, `PROG_ENDE: .`";
-}
-token_slip_prose token.TextEnds = record {
-  means = codes "the text ends here, and a `PROG_ENDE: .` is missing or not whole";
-  often = codes "a copy that was cut off";
-  cure = codes "`PROG_ENDE: .` at the end of each subroutine and of the program";
-}
-token_slip_prose token.ElseIf = record {
-  means = codes "`ELSEIF` and the like are no words of the language";
-  often = [];
-  cure = codes "`ELSE`, `IF`, and an `END` more";
-}
-token_slip_prose token.EndIf = record {
-  means = codes "`ENDIF` and the like are no words of the language";
-  often = [];
-  cure = codes "`END`";
-}
-token_slip_prose token.Loop = record {
-  means = codes "`WHILE`, `FOR` and other loops are no words of the language: a program runs once in each second";
-  often = [];
-  cure = codes "`IF`, and a variable for what has to last";
-}
-token_slip_prose token.SlashComment = record {
-  means = codes "`//` begins no comment; a comment is written `/* .. */`";
-  often = [];
-  cure = codes "`/* .. */`";
-}
-token_slip_prose token.DoubleEqual = record {
-  means = codes "`==` is no sign; two values are compared with `=`";
-  often = [];
-  cure = codes "`=`";
-}
-token_slip_prose token.SwappedSigns = record {
-  means = codes "`=>` and `=<` are no signs; they are written `>=` and `<=`";
-  often = [];
-  cure = codes "`>=`, `<=`";
-}
-token_slip_prose token.EqualForAssign = record {
-  means = codes "`=` compares; a variable is assigned with `:=`";
-  often = [];
-  cure = codes "`:=`";
-}
-token_slip_prose token.DecimalComma = record {
-  means = codes "`2,5` is no number; numbers are whole, and behind the comma a name is wanted";
-  often = [];
-  cure = codes "whole seconds; or tenths, compared with ten times the reading";
-}
-token_slip_prose token.ValueMissing = record {
-  means =
-      codes "a value is wanted here, behind an operator or a bracket: a number, a name or a reading. `THEN` and other words of the language "
-      ++ codes "are none";
-  often = [];
-  cure = codes "write the value, or take the operator out";
-}
-token_slip_prose token.OperatorMissing = record {
-  means = codes "two values stand beside each other, with no operator between them";
-  often = [];
-  cure = codes "`AND`, `OR`, a comparison or an arithmetic sign";
-}
-token_slip_prose token.ThenMissing = record {
-  means = codes "the `THEN` of the `IF` before is missing";
-  often = [];
-  cure = codes "`IF test THEN .. END`";
-}
-token_slip_prose (token.EndMissing line) = record {
-  means = codes "an `IF` above has no `END`: it is open where the program ends";
-  often = [];
-  cure = codes "count `IF` and `END`; each `IF` has one `END`";
-}
-token_slip_prose token.UnknownCall = record {
-  means = codes "is no command and no reading";
-  often = codes "a misspelt word, or one of another system";
-  cure = codes "the words stand in language.md; what is left out in profile.md";
 }
 
 -- of a slip in the detector file

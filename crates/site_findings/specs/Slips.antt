@@ -1,7 +1,8 @@
 -- What is told of a refusal: the slip that its line shows, or else what its reason means.
-use Rattle.std.specs.Prelude.{ℕ, ◌==◌, List, [], slice_index_or, Option, Some, None, unwrap_or}
+use Rattle.std.specs.Prelude.{ℕ, ◌==◌, List, [], length, if◌then◌else◌, slice_index_or, Option, Some, None, unwrap_or}
 use Rattle.std.specs.List.{slice_split}
 use Rattle.std.specs.Option.{option_map}
+use Rattle.program_advice.specs.declared.advice.Advice.{Advice}
 use Rattle.pua_reader.specs.declared.refusal.PuaWhy.{PuaWhy}
 use Rattle.pua_reader.specs.declared.refusal.PuaWhy.TheVariants as pua
 use Rattle.sig_tables.specs.declared.refusal.TableWhy.{TableWhy}
@@ -14,8 +15,6 @@ use Rattle.det_stream.specs.declared.refusal.StreamWhy.{StreamWhy}
 use Rattle.det_stream.specs.declared.refusal.StreamWhy.TheVariants as stream
 use Rattle.line_slips.specs.declared.slip.PlanSlip.{PlanSlip}
 use Rattle.line_slips.specs.declared.slip.PlanSlip.TheVariants as plan
-use Rattle.line_slips.specs.declared.slip.TokenSlip.{TokenSlip}
-use Rattle.line_slips.specs.declared.slip.TokenSlip.TheVariants as token
 use Rattle.line_slips.specs.declared.slip.TableSlip.{TableSlip}
 use Rattle.line_slips.specs.declared.slip.TableSlip.TheVariants as slip
 use Rattle.line_slips.specs.declared.tables.Table.{Table}
@@ -23,17 +22,15 @@ use Rattle.line_slips.specs.declared.tables.Table.TheVariants as table
 use Rattle.line_slips.specs.Bytes.{trimmed}
 use Rattle.line_slips.specs.EntrySlips.{entry_slip}
 use Rattle.line_slips.specs.PlanSlips.{again_slip, row_slip, section_slip}
-use Rattle.line_slips.specs.Begun.{called_word}
-use Rattle.line_slips.specs.ProgramSlips.{byte_slip, token_slip}
+use Rattle.line_slips.specs.ProgramSlips.{byte_slip}
 use Rattle.line_slips.specs.TableSlips.{header_slip, name_slip, names_in, number_slip}
 use Rattle.site_findings.specs.declared.finding.FileKind.{FileKind}
 use Rattle.site_findings.specs.declared.finding.FileKind.TheVariants as file
 use Rattle.site_findings.specs.declared.finding.Refusal.{Refusal}
 use Rattle.site_findings.specs.declared.finding.Refusal.TheVariants as refusal
-use Rattle.site_findings.specs.Calls.{near_call}
-use Rattle.site_findings.specs.Prose.{Prose, quoted_prose, told_prose}
+use Rattle.site_findings.specs.Prose.{Prose, helped_prose, one_sentence, quoted_prose}
 use Rattle.site_findings.specs.ReasonProse.{reason_prose}
-use Rattle.site_findings.specs.SlipProse.{byte_slip_prose, entry_slip_prose, plan_slip_prose, table_slip_prose, token_slip_prose}
+use Rattle.site_findings.specs.SlipProse.{byte_slip_prose, entry_slip_prose, plan_slip_prose, table_slip_prose}
 
 -- the slip of a line of a PUA file
 abbrev pub plan_slip : PuaWhy → List ℕ → Option PlanSlip
@@ -118,29 +115,16 @@ told_of_byte lex.OpenComment line = None
 told_of_byte lex.Decimal line = None
 told_of_byte lex.NumberRange line = None
 
--- what is told of a slip of a token that stands behind this word: the word where it is no call, and the line of an IF that is open
-abbrev pub told_of_slip : TokenSlip → List ℕ → Prose
-told_of_slip token.EmptyProgram word = token_slip_prose token.EmptyProgram
-told_of_slip token.TextEnds word = token_slip_prose token.TextEnds
-told_of_slip token.ElseIf word = token_slip_prose token.ElseIf
-told_of_slip token.EndIf word = token_slip_prose token.EndIf
-told_of_slip token.Loop word = token_slip_prose token.Loop
-told_of_slip token.SlashComment word = token_slip_prose token.SlashComment
-told_of_slip token.DoubleEqual word = token_slip_prose token.DoubleEqual
-told_of_slip token.SwappedSigns word = token_slip_prose token.SwappedSigns
-told_of_slip token.EqualForAssign word = token_slip_prose token.EqualForAssign
-told_of_slip token.DecimalComma word = token_slip_prose token.DecimalComma
-told_of_slip token.ValueMissing word = token_slip_prose token.ValueMissing
-told_of_slip token.OperatorMissing word = token_slip_prose token.OperatorMissing
-told_of_slip token.ThenMissing word = token_slip_prose token.ThenMissing
-told_of_slip (token.EndMissing line) word = told_prose [] [] line (token_slip_prose (token.EndMissing line))
-told_of_slip token.UnknownCall word = told_prose word (near_call word) 0 (token_slip_prose token.UnknownCall)
+-- what is told of the first refused token
+abbrev pub told_of_advice : Option Advice → Option Prose
+told_of_advice None = None
+told_of_advice (Some a) = if length a.means.items == 0 then None else Some (one_sentence a.means.items)
 
--- what is told of a token with which there is no program
-abbrev pub told_of_token : ParseWhy → List ℕ → Option Prose
-told_of_token (parse.Unexpected place) text = option_map (λ slip. told_of_slip slip (called_word text place)) (token_slip text place)
-told_of_token parse.Frequency text = None
-told_of_token parse.TooDeep text = None
+-- what is told of tokens with which there is no program
+abbrev pub told_of_token : ParseWhy → Option Advice → Option Prose
+told_of_token (parse.Unexpected place) advice = told_of_advice advice
+told_of_token parse.Frequency advice = None
+told_of_token parse.TooDeep advice = None
 
 -- what is told of an entry that isn't three numbers
 abbrev pub told_of_entry : StreamWhy → List ℕ → Option Prose
@@ -152,17 +136,37 @@ told_of_entry (stream.RearsAhead detector) line = None
 told_of_entry stream.LineTooLong line = None
 told_of_entry stream.TooManySeconds line = None
 
--- what is told of the slip that a line of a file shows, of which this is the program's text
-abbrev pub slip_prose : FileKind → Refusal → List ℕ → List ℕ → Option Prose
-slip_prose file (refusal.Pua why) program line = option_map (λ slip. told_of_plan slip line) (plan_slip why line)
-slip_prose file (refusal.Table why) program line = told_of_record why line (table_in file)
-slip_prose file (refusal.Lex why) program line = told_of_byte why line
-slip_prose file (refusal.Parse why) program line = told_of_token why program
-slip_prose file (refusal.Check why) program line = None
-slip_prose file (refusal.Stream why) program line = told_of_entry why line
-slip_prose file refusal.Mark program line = None
-slip_prose file refusal.TooLong program line = None
+-- what is told of the slip that a line of a file shows
+abbrev pub slip_prose : FileKind → Refusal → Option Advice → List ℕ → Option Prose
+slip_prose file (refusal.Pua why) advice line = option_map (λ slip. told_of_plan slip line) (plan_slip why line)
+slip_prose file (refusal.Table why) advice line = told_of_record why line (table_in file)
+slip_prose file (refusal.Lex why) advice line = told_of_byte why line
+slip_prose file (refusal.Parse why) advice line = told_of_token why advice
+slip_prose file (refusal.Check why) advice line = None
+slip_prose file (refusal.Stream why) advice line = told_of_entry why line
+slip_prose file refusal.Mark advice line = None
+slip_prose file refusal.TooLong advice line = None
 
--- what is told of a refusal: the slip that its line shows, or else what its reason means
-abbrev pub refusal_prose : FileKind → Refusal → List ℕ → List ℕ → Prose
-refusal_prose file why program line = unwrap_or (slip_prose file why program line) (reason_prose why)
+-- what is told of a refusal but for its change: the slip that its line shows, or else what its reason means
+abbrev pub refused_prose : FileKind → Refusal → Option Advice → List ℕ → Prose
+refused_prose file why advice line = unwrap_or (slip_prose file why advice line) (reason_prose why)
+
+-- the change that is told of a program
+abbrev pub help_in : Option Advice → List ℕ
+help_in None = []
+help_in (Some a) = a.help.items
+
+-- the change that is told of a refusal
+abbrev pub help_of : Refusal → Option Advice → List ℕ
+help_of (refusal.Pua why) advice = []
+help_of (refusal.Table why) advice = []
+help_of (refusal.Lex why) advice = help_in advice
+help_of (refusal.Parse why) advice = help_in advice
+help_of (refusal.Check why) advice = help_in advice
+help_of (refusal.Stream why) advice = []
+help_of refusal.Mark advice = []
+help_of refusal.TooLong advice = []
+
+-- what is told of a refusal
+abbrev pub refusal_prose : FileKind → Refusal → Option Advice → List ℕ → Prose
+refusal_prose file why advice line = helped_prose (help_of why advice) (refused_prose file why advice line)

@@ -2,6 +2,7 @@
 ghost use Rattle.std.specs.Prelude.{◌≡◌, ◌++◌, IfOk, OnOk};
 ghost use Rattle.site_findings.specs.Json.{cure_text, end_of, json_line, json_number, json_place, json_string};
 ghost use Rattle.site_findings.specs.Json.{json_text, json_told, line_sentence, severity_text, word_text};
+ghost use Rattle.site_findings.specs.Meant.{told_place};
 ghost use Rattle.site_findings.specs.Put.{Puts};
 ghost use Rattle.site_findings.specs.Sheets.{AreSheetsOf};
 ghost use Rattle.site_findings.specs.Text.{editor_begin, line_at, record_text};
@@ -9,7 +10,7 @@ ghost use Rattle.site_findings.specs.Text.{editor_begin, line_at, record_text};
 use crate::cures::warning_cure;
 use crate::escaped::put_escaped;
 use crate::finding::{Examined, FileKind, Finding, SiteNames, Told};
-use crate::meant::meant_spot;
+use crate::meant::{meant_spot, told_place};
 use crate::reasons::put_refusal;
 use crate::sentences::unread;
 use crate::slips::said_of;
@@ -84,7 +85,7 @@ fn put_line_sentence(
 {
     match told {
         Told::Refused(refusal) => {
-            let said = said_of(refusal, file, &examined.program, line);
+            let said = said_of(refusal, file, &examined.advice, line);
             put_means(text, &said)
         }
         Told::Unread => text.put(unread().means),
@@ -94,15 +95,11 @@ fn put_line_sentence(
 }
 
 // What to do.
-fn cure_of(examined: &Examined, file: FileKind, told: &Told, line: &[u8]) -> &'static [u8]
+fn cure_of<'a>(examined: &'a Examined, file: FileKind, told: &Told, line: &'a [u8]) -> &'a [u8]
     ensures { result.now ≡ cure_text examined.now file told.now line.now }
 {
     match told {
-        Told::Refused(refusal) => {
-            said_of(refusal, file, &examined.program, line)
-                .sentences
-                .cure
-        }
+        Told::Refused(refusal) => said_of(refusal, file, &examined.advice, line).cure,
         Told::Unread => unread().cure,
         Told::NotJudged => &[],
         Told::Warned(warning) => warning_cure(warning),
@@ -165,11 +162,11 @@ fn sentence_in(
     at: usize,
 ) -> Result<Vec<u8>, AllocError>
     ensures { IfOk result (λ v. v.items ≡ line_sentence examined.now finding.now.file finding.now.told line.now
-        ++ record_text at finding.now.spot.line) }
+        ++ record_text at (told_place examined.now finding.now)) }
 {
     let mut sentence = Text::new(alloc);
     put_line_sentence(&mut sentence, examined, finding.file, &finding.told, line)?;
-    put_record(&mut sentence, at, finding.spot.line)?;
+    put_record(&mut sentence, at, told_place(examined, finding))?;
     Ok(sentence.bytes)
 }
 
@@ -186,10 +183,11 @@ fn put_json_line(
     requires { AreSheetsOf examined.now sheets.now }
     ensures { OnOk result (Puts text.old text.new (json_line names.now examined.now finding.now)) }
 {
-    let Finding { file, spot, told } = finding;
-    let line = line_at(sheets, *file, spot.line);
+    let Finding { file, told, .. } = finding;
+    let place = told_place(examined, finding);
+    let line = line_at(sheets, *file, place);
     let word = word_in(alloc, examined, told)?;
-    let begin = editor_begin(sheets, *file, spot.line);
+    let begin = editor_begin(sheets, *file, place);
     let sentence = sentence_in(alloc, examined, finding, line, begin.line)?;
     let meant = meant_spot(examined, finding, begin, line);
     put_json_place(text, file_name(names, *file).as_bytes(), begin.line, meant)?;
@@ -199,6 +197,24 @@ fn put_json_line(
 
 // So many bytes has the line of most findings at most.
 const USUAL: usize = 320;
+
+// Puts the lines of all findings.
+fn put_lines(
+    alloc: Global,
+    text: &mut Text,
+    sheets: &Sheets<'_>,
+    examined: &Examined,
+    names: &SiteNames<'_>,
+) -> Result<(), AllocError>
+    requires { AreSheetsOf examined.now sheets.now }
+    ensures { OnOk result (Puts text.old text.new (json_text names.now examined.now)) }
+{
+    text.reserve(examined.findings.len().saturating_mul(USUAL))?;
+    for finding in examined.findings.iter() {
+        put_json_line(alloc, text, sheets, examined, names, finding)?;
+    }
+    Ok(())
+}
 
 /// All findings as lines of JSON, an object each.
 pub fn write_json(
@@ -210,9 +226,6 @@ pub fn write_json(
 {
     let sheets = sheets_of(alloc, examined)?;
     let mut text = Text::new(alloc);
-    text.reserve(examined.findings.len().saturating_mul(USUAL))?;
-    for finding in examined.findings.iter() {
-        put_json_line(alloc, &mut text, &sheets, examined, names, finding)?;
-    }
+    put_lines(alloc, &mut text, &sheets, examined, names)?;
     Ok(text.bytes)
 }

@@ -1,8 +1,9 @@
 // What is meant of the line of a finding: of a record of a table the fields that it is about.
 ghost use Rattle.std.specs.Prelude.{◌≡◌};
-ghost use Rattle.site_findings.specs.Meant.{fault_in, in_record, meant_in_table, meant_spot, warned_span};
+ghost use Rattle.site_findings.specs.Meant.{advised_spot, fault_in, in_record, meant_in_table, meant_spot, told_place, told_spot, warned_span};
 
 use crate::finding::{Examined, FileKind, Finding, Refusal, Told};
+use program_advice::Advice;
 use pua_lines::Spot;
 use pua_model::Plan;
 use table_check::{Begin, Table, fault_span, fields_span, names_span};
@@ -55,6 +56,47 @@ fn meant_in_table(table: Table, plan: &Option<Plan>, told: &Told, spot: Spot, ro
     }
 }
 
+// Where what is told of a refused program stands, where it is known; else this place.
+fn advised_spot(advice: &Option<Advice>, spot: Spot) -> Spot
+    ensures { result ≡ advised_spot advice.now spot }
+{
+    match advice {
+        Some(advice) => {
+            if advice.line == 0 {
+                return spot;
+            }
+            Spot {
+                line: advice.line,
+                from: advice.from,
+                to: advice.to,
+            }
+        }
+        None => spot,
+    }
+}
+
+// Where what is told of a program stands that was found at this place.
+fn told_spot(advice: &Option<Advice>, told: &Told, spot: Spot) -> Spot
+    ensures { result ≡ told_spot advice.now told.now spot }
+{
+    match told {
+        Told::Refused(_) => advised_spot(advice, spot),
+        Told::Unread | Told::NotJudged | Told::Warned(_) => spot,
+    }
+}
+
+/// The line, or of a table the record, that a finding is told of.
+pub(crate) fn told_place(examined: &Examined, finding: &Finding) -> u32
+    ensures { result ≡ told_place examined.now finding.now }
+{
+    match finding.file {
+        FileKind::Program => told_spot(&examined.advice, &finding.told, finding.spot).line,
+        FileKind::Pua | FileKind::Times | FileKind::Intergreens | FileKind::Detectors => {
+            finding.spot.line
+        }
+    }
+}
+
 /// What is meant of the line of a finding, or of the record that begins there.
 pub(crate) fn meant_spot(examined: &Examined, finding: &Finding, begin: Begin, line: &[u8]) -> Spot
     ensures { result ≡ meant_spot examined.now finding.now begin line.now }
@@ -68,6 +110,7 @@ pub(crate) fn meant_spot(examined: &Examined, finding: &Finding, begin: Begin, l
         FileKind::Intergreens => {
             meant_in_table(Table::Intergreens, &examined.plan, told, *spot, line)
         }
-        FileKind::Pua | FileKind::Program | FileKind::Detectors => *spot,
+        FileKind::Program => told_spot(&examined.advice, told, *spot),
+        FileKind::Pua | FileKind::Detectors => *spot,
     }
 }

@@ -1,21 +1,20 @@
 // The sentences of slips: what a mistake is likely to be, and what to do.
 ghost use Rattle.std.specs.Prelude.{◌≡◌};
 ghost use Rattle.std.specs.Option.{option_map};
-ghost use Rattle.site_findings.specs.Prose.{quoted_prose};
+ghost use Rattle.site_findings.specs.Prose.{one_sentence, quoted_prose};
 ghost use Rattle.site_findings.specs.Put.{prose_in, said_prose};
-ghost use Rattle.site_findings.specs.SlipProse.{byte_slip_prose, entry_slip_prose, plan_slip_prose, table_slip_prose, token_slip_prose};
-ghost use Rattle.site_findings.specs.Slips.{field_in, plan_slip, quoted_names, quoted_row, refusal_prose, slip_prose, table_in, table_slip};
-ghost use Rattle.site_findings.specs.Slips.{told_of_byte, told_of_entry, told_of_plan, told_of_record, told_of_slip, told_of_token};
+ghost use Rattle.site_findings.specs.SlipProse.{byte_slip_prose, entry_slip_prose, plan_slip_prose, table_slip_prose};
+ghost use Rattle.site_findings.specs.Slips.{field_in, help_in, help_of, refused_prose, plan_slip, quoted_names, quoted_row, refusal_prose, slip_prose, table_in, table_slip};
+ghost use Rattle.site_findings.specs.Slips.{told_of_byte, told_of_entry, told_of_plan, told_of_record, told_of_token};
 
-use crate::calls::near_call;
 use crate::finding::{FileKind, Refusal};
 use crate::sentences::{Sentences, sentences_of};
 use det_stream::StreamWhy;
 use line_slips::{
-    ByteSlip, EntrySlip, PlanSlip, Table, TableSlip, TokenSlip, again_slip, byte_slip, called_word,
-    entry_slip, header_slip, name_slip, names_in, number_slip, row_slip, section_slip, token_slip,
-    trimmed,
+    ByteSlip, EntrySlip, PlanSlip, Table, TableSlip, again_slip, byte_slip, entry_slip,
+    header_slip, name_slip, names_in, number_slip, row_slip, section_slip, trimmed,
 };
+use program_advice::Advice;
 use pua_reader::PuaWhy;
 use sig_tables::TableWhy;
 use vap_lex::LexWhy;
@@ -192,97 +191,6 @@ static CONTROL_BYTE: Sentences = Sentences {
     cure: b"save it as ASCII or UTF-8",
 };
 
-static EMPTY_PROGRAM: Sentences = Sentences {
-    means: b"the program is empty",
-    often: b"",
-    cure: b"`PROGRAM name;`, statements, `PROG_ENDE: .`",
-};
-
-static TEXT_ENDS: Sentences = Sentences {
-    means: b"the text ends here, and a `PROG_ENDE: .` is missing or not whole",
-    often: b"a copy that was cut off",
-    cure: b"`PROG_ENDE: .` at the end of each subroutine and of the program",
-};
-
-static ELSE_IF: Sentences = Sentences {
-    means: b"`ELSEIF` and the like are no words of the language",
-    often: b"",
-    cure: b"`ELSE`, `IF`, and an `END` more",
-};
-
-static END_IF: Sentences = Sentences {
-    means: b"`ENDIF` and the like are no words of the language",
-    often: b"",
-    cure: b"`END`",
-};
-
-static LOOP: Sentences = Sentences {
-    means: b"`WHILE`, `FOR` and other loops are no words of the language: a program runs once in each second",
-    often: b"",
-    cure: b"`IF`, and a variable for what has to last",
-};
-
-static SLASH_COMMENT: Sentences = Sentences {
-    means: b"`//` begins no comment; a comment is written `/* .. */`",
-    often: b"",
-    cure: b"`/* .. */`",
-};
-
-static DOUBLE_EQUAL: Sentences = Sentences {
-    means: b"`==` is no sign; two values are compared with `=`",
-    often: b"",
-    cure: b"`=`",
-};
-
-static SWAPPED_SIGNS: Sentences = Sentences {
-    means: b"`=>` and `=<` are no signs; they are written `>=` and `<=`",
-    often: b"",
-    cure: b"`>=`, `<=`",
-};
-
-static EQUAL_FOR_ASSIGN: Sentences = Sentences {
-    means: b"`=` compares; a variable is assigned with `:=`",
-    often: b"",
-    cure: b"`:=`",
-};
-
-static DECIMAL_COMMA: Sentences = Sentences {
-    means: b"`2,5` is no number; numbers are whole, and behind the comma a name is wanted",
-    often: b"",
-    cure: b"whole seconds; or tenths, compared with ten times the reading",
-};
-
-static VALUE_MISSING: Sentences = Sentences {
-    means: b"a value is wanted here, behind an operator or a bracket: a number, a name or a reading. `THEN` and other \
-             words of the language are none",
-    often: b"",
-    cure: b"write the value, or take the operator out",
-};
-
-static OPERATOR_MISSING: Sentences = Sentences {
-    means: b"two values stand beside each other, with no operator between them",
-    often: b"",
-    cure: b"`AND`, `OR`, a comparison or an arithmetic sign",
-};
-
-static THEN_MISSING: Sentences = Sentences {
-    means: b"the `THEN` of the `IF` before is missing",
-    often: b"",
-    cure: b"`IF test THEN .. END`",
-};
-
-static END_MISSING: Sentences = Sentences {
-    means: b"an `IF` above has no `END`: it is open where the program ends",
-    often: b"",
-    cure: b"count `IF` and `END`; each `IF` has one `END`",
-};
-
-static UNKNOWN_CALL: Sentences = Sentences {
-    means: b"is no command and no reading",
-    often: b"a misspelt word, or one of another system",
-    cure: b"the words stand in language.md; what is left out in profile.md",
-};
-
 static TWO_BLANKS: Sentences = Sentences {
     means: b"two spaces part the entries, where one has to",
     often: b"",
@@ -366,29 +274,6 @@ fn of_byte(slip: ByteSlip) -> &'static Sentences
 }
 
 // The sentences of a slip.
-fn of_token(slip: TokenSlip) -> &'static Sentences
-    ensures { prose_in result.now ≡ token_slip_prose slip }
-{
-    match slip {
-        TokenSlip::EmptyProgram => &EMPTY_PROGRAM,
-        TokenSlip::TextEnds => &TEXT_ENDS,
-        TokenSlip::ElseIf => &ELSE_IF,
-        TokenSlip::EndIf => &END_IF,
-        TokenSlip::Loop => &LOOP,
-        TokenSlip::SlashComment => &SLASH_COMMENT,
-        TokenSlip::DoubleEqual => &DOUBLE_EQUAL,
-        TokenSlip::SwappedSigns => &SWAPPED_SIGNS,
-        TokenSlip::EqualForAssign => &EQUAL_FOR_ASSIGN,
-        TokenSlip::DecimalComma => &DECIMAL_COMMA,
-        TokenSlip::ValueMissing => &VALUE_MISSING,
-        TokenSlip::OperatorMissing => &OPERATOR_MISSING,
-        TokenSlip::ThenMissing => &THEN_MISSING,
-        TokenSlip::EndMissing(_) => &END_MISSING,
-        TokenSlip::UnknownCall => &UNKNOWN_CALL,
-    }
-}
-
-// The sentences of a slip.
 fn of_entry(slip: EntrySlip) -> &'static Sentences
     ensures { prose_in result.now ≡ entry_slip_prose slip }
 {
@@ -401,35 +286,46 @@ fn of_entry(slip: EntrySlip) -> &'static Sentences
     }
 }
 
-/// What is told of a reason: a part of its line, which may be empty, and sentences; the word that was likely meant, which may be
-/// empty, and the line in which what is told stands, or 0.
+/// What is told of a reason: a part of its line, which may be empty, and sentences.
 #[derive(Drop)]
 pub(crate) struct Said<'a> {
     pub(crate) quoted: &'a [u8],
-    pub(crate) sentences: &'static Sentences,
-    pub(crate) near: &'static [u8],
-    pub(crate) line: usize,
+    pub(crate) means: &'a [u8],
+    pub(crate) often: &'a [u8],
+    pub(crate) cure: &'a [u8],
 }
 
 // Sentences behind a part of a line.
-#[tactic(auto, unfolding(crate::specs::Prose::near_text, crate::specs::Prose::open_text))]
 fn quoted<'a>(quoted: &'a [u8], sentences: &'static Sentences) -> Said<'a>
     ensures { said_prose result ≡ quoted_prose quoted.now (prose_in sentences.now) }
 {
     Said {
         quoted,
-        sentences,
-        near: &[],
-        line: 0,
+        means: sentences.means,
+        often: sentences.often,
+        cure: sentences.cure,
     }
 }
 
-/// Sentences with nothing before or behind them.
+/// Sentences with nothing before them.
 #[tactic(auto, unfolding(crate::specs::Prose::quote_text))]
 pub(crate) fn plain<'a>(sentences: &'static Sentences) -> Said<'a>
     ensures { said_prose result ≡ prose_in sentences.now }
 {
     quoted(&[], sentences)
+}
+
+// One sentence alone.
+#[tactic(auto, unfolding(crate::specs::Prose::quote_text))]
+fn alone<'a>(means: &'a [u8]) -> Said<'a>
+    ensures { said_prose result ≡ one_sentence means.now }
+{
+    Said {
+        quoted: &[],
+        means,
+        often: &[],
+        cure: &[],
+    }
 }
 
 // What of a line stands before what is told of its slip: a group's row.
@@ -552,49 +448,19 @@ fn sentences_of_byte(why: LexWhy, line: &[u8]) -> Option<&'static Sentences>
     }
 }
 
-// What is told of a slip of a token behind this word.
-fn said_of_slip<'a>(slip: TokenSlip, word: &'a [u8]) -> Said<'a>
-    ensures { said_prose result ≡ told_of_slip slip word.now }
+// What is told of the first refused token; None where nothing is.
+fn said_of_token<'a>(why: ParseWhy, advice: &'a Option<Advice>) -> Option<Said<'a>>
+    ensures { option_map said_prose result ≡ told_of_token why advice.now }
 {
-    match slip {
-        TokenSlip::UnknownCall => Said {
-            quoted: word,
-            sentences: &UNKNOWN_CALL,
-            near: near_call(word),
-            line: 0,
-        },
-        TokenSlip::EndMissing(line) => Said {
-            quoted: &[],
-            sentences: &END_MISSING,
-            near: &[],
-            line,
-        },
-        TokenSlip::EmptyProgram
-        | TokenSlip::TextEnds
-        | TokenSlip::ElseIf
-        | TokenSlip::EndIf
-        | TokenSlip::Loop
-        | TokenSlip::SlashComment
-        | TokenSlip::DoubleEqual
-        | TokenSlip::SwappedSigns
-        | TokenSlip::EqualForAssign
-        | TokenSlip::DecimalComma
-        | TokenSlip::ValueMissing
-        | TokenSlip::OperatorMissing
-        | TokenSlip::ThenMissing => plain(of_token(slip)),
-    }
-}
-
-// What is told of a token with which there is no program.
-fn said_of_token<'a>(why: ParseWhy, text: &'a [u8]) -> Option<Said<'a>>
-    ensures { option_map said_prose result ≡ told_of_token why text.now }
-{
-    match why {
-        ParseWhy::Unexpected(place) => {
-            let slip = token_slip(text, place)?;
-            Some(said_of_slip(slip, called_word(text, place)))
+    match (why, advice) {
+        (ParseWhy::Unexpected(_), Some(advice)) => {
+            if advice.means.is_empty() {
+                None
+            } else {
+                Some(alone(&advice.means))
+            }
         }
-        ParseWhy::Frequency | ParseWhy::TooDeep => None,
+        (ParseWhy::Unexpected(_), None) | (ParseWhy::Frequency | ParseWhy::TooDeep, _) => None,
     }
 }
 
@@ -617,32 +483,76 @@ fn sentences_of_entry(why: StreamWhy, line: &[u8]) -> Option<&'static Sentences>
 fn slip_said<'a>(
     refusal: &Refusal,
     file: FileKind,
-    program: &'a [u8],
+    advice: &'a Option<Advice>,
     line: &'a [u8],
 ) -> Option<Said<'a>>
-    ensures { option_map said_prose result ≡ slip_prose file refusal.now program.now line.now }
+    ensures { option_map said_prose result ≡ slip_prose file refusal.now advice.now line.now }
 {
     match refusal {
         Refusal::Pua(why) => said_of_plan(why, line),
         Refusal::Table(why) => said_of_record(*why, file, line),
         Refusal::Lex(why) => Some(plain(sentences_of_byte(*why, line)?)),
-        Refusal::Parse(why) => said_of_token(*why, program),
+        Refusal::Parse(why) => said_of_token(*why, advice),
         Refusal::Stream(why) => Some(plain(sentences_of_entry(*why, line)?)),
         Refusal::Check(_) | Refusal::Mark | Refusal::TooLong => None,
     }
 }
 
-/// What is told of a refusal: what its line shows of the mistake, else what the reason means.
+// What is told of a refusal but for its change: what its line shows of the mistake, else what the reason means.
+fn said_of_reason<'a>(
+    refusal: &Refusal,
+    file: FileKind,
+    advice: &'a Option<Advice>,
+    line: &'a [u8],
+) -> Said<'a>
+    ensures { said_prose result ≡ refused_prose file refusal.now advice.now line.now }
+{
+    match slip_said(refusal, file, advice, line) {
+        Some(said) => said,
+        None => plain(sentences_of(refusal)),
+    }
+}
+
+// The change that is told of a program.
+fn help_in(advice: &Option<Advice>) -> &[u8]
+    ensures { result.now ≡ help_in advice.now }
+{
+    match advice {
+        Some(advice) => &advice.help,
+        None => &[],
+    }
+}
+
+/// The change that is told of a refusal.
+pub(crate) fn help_of<'a>(refusal: &Refusal, advice: &'a Option<Advice>) -> &'a [u8]
+    ensures { result.now ≡ help_of refusal.now advice.now }
+{
+    match refusal {
+        Refusal::Lex(_) | Refusal::Parse(_) | Refusal::Check(_) => help_in(advice),
+        Refusal::Pua(_) | Refusal::Table(_) | Refusal::Stream(_) => &[],
+        Refusal::Mark | Refusal::TooLong => &[],
+    }
+}
+
+/// What is told of a refusal. Where a change is, it stands in the place of what the mistake most often is, and of what to do.
 pub(crate) fn said_of<'a>(
     refusal: &Refusal,
     file: FileKind,
-    program: &'a [u8],
+    advice: &'a Option<Advice>,
     line: &'a [u8],
 ) -> Said<'a>
-    ensures { said_prose result ≡ refusal_prose file refusal.now program.now line.now }
+    ensures { said_prose result ≡ refusal_prose file refusal.now advice.now line.now }
 {
-    match slip_said(refusal, file, program, line) {
-        Some(said) => said,
-        None => plain(sentences_of(refusal)),
+    let said = said_of_reason(refusal, file, advice, line);
+    let help = help_of(refusal, advice);
+    if help.is_empty() {
+        said
+    } else {
+        Said {
+            quoted: said.quoted,
+            means: said.means,
+            often: &[],
+            cure: help,
+        }
     }
 }

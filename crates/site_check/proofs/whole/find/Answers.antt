@@ -8,6 +8,7 @@ returns-clause-found c =
       findings = c.in_ok-plan.ensures.told ∙ ap (λ l. l ++ found_in c.args.texts c.args.judged) c.new-findings.ensures.items;
       plan = c.in_ok-plan.ensures.plan;
       worst = c.worst_of-worst.ensures;
+      advice = c.in_ok-plan.ensures.advice;
       pua = c.bytes_of.ensures;
       times = c.bytes_of-2.ensures;
       intergreens = c.bytes_of-3.ensures;

@@ -1,6 +1,0 @@
-use Rattle.std.proofs.Common.{◌≡◌, ◌+◌, ◌==◌, drop, not}
-use Rattle.std.specs.List.{prefix_len}
-use Rattle.line_slips.proofs.tokens.first_line.Given as goal
-
-abbrev pub invariant-loop-i : goal.invariant-loop-i
-invariant-loop-i l = prefix_len (λ b. not (b == 10)) l.text ≡ l.i + prefix_len (λ b. not (b == 10)) (drop l.i l.text)

@@ -1,7 +1,0 @@
-use Rattle.std.proofs.Common.{◌≡◌, ◌+◌, drop}
-use Rattle.std.specs.List.{prefix_len}
-use Rattle.line_slips.specs.Bytes.{is_word_byte}
-use Rattle.line_slips.proofs.words.word_after.Given as goal
-
-abbrev pub invariant-loop-i : goal.invariant-loop-i
-invariant-loop-i l = prefix_len is_word_byte l.text ≡ l.i + prefix_len is_word_byte (drop l.i l.text)

@@ -1,0 +1,4 @@
+mod AllKinds
+pub mod EachPart
+pub mod Putting
+mod Standing

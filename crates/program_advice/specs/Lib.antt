@@ -1,0 +1,10 @@
+pub mod Advice
+pub mod Bytes
+pub mod Help
+pub mod Kinds
+pub mod Open
+pub mod Probe
+pub mod Sentence
+pub mod Stands
+pub mod Tokens
+pub mod Wanted
