@@ -125,7 +125,14 @@ _vantulig_log_report()
         *)
             case ${COMP_WORDS[1]}:$COMP_CWORD in
                 breaches:3 | protocol:3 | refusals:3) _vantulig_files pua ;;
-                breaches:[45] | protocol:[45] | refusals:[45]) _vantulig_files csv ;;
+                breaches:[45] | protocol:[45] | refusals:[45])
+                    # behind the two tables of a record in tenths the options may stand already
+                    case ${COMP_WORDS[1]}:$COMP_CWORD:$cur in
+                        breaches:5:-*) _vantulig_options --amber-tolerance --csv ;;
+                        protocol:5:-*) _vantulig_options --csv ;;
+                        *) _vantulig_files csv ;;
+                    esac
+                    ;;
                 breaches:*) _vantulig_options --amber-tolerance --csv ;;
                 protocol:* | refusals:*) _vantulig_options --csv ;;
                 compare:*) _vantulig_files log ;;

@@ -53,6 +53,7 @@ report_more form.Protocol =
     codes "  what came in the log of any controller, beside what the tables say\n"
     ++ codes "  --csv  as a table\n"
     ++ codes "  PUA, TIMES, INTERGREENS: the plan and the tables of the junction, as for `junction run`\n"
+    ++ codes "  RECORD TIMES INTERGREENS in their place: a record in tenths of a second, by tables with one decimal\n"
 report_more form.Refusals =
     codes "  why each command and each turn of the log, or of these seconds, was refused, in numbers\n"
     ++ codes "  --csv  as a table\n"

@@ -96,6 +96,7 @@ pub fn report_more(form: ReportForm) -> &'static [u8]
             b"  what came in the log of any controller, beside what the tables say
   --csv  as a table
   PUA, TIMES, INTERGREENS: the plan and the tables of the junction, as for `junction run`
+  RECORD TIMES INTERGREENS in their place: a record in tenths of a second, by tables with one decimal
 ",
         ReportForm::Refusals =>
             b"  why each command and each turn of the log, or of these seconds, was refused, in numbers

@@ -1,5 +1,5 @@
 -- A page with one picture more.
-use Rattle.std.proofs.Common.{◌≡◌, ◌∙◌, ℕ, zero, suc, ◌+◌, ◌-◌, ◌*◌, ◌^◌, ◌<◌, ◌≤◌, min, Bool, true, false, ◌&&◌, List, [], ◌∷◌, ◌++◌, length, refl, sym, ap, arith, ne_eqb}
+use Rattle.std.proofs.Common.{◌≡◌, ◌∙◌, ℕ, suc, ◌+◌, ◌<◌, ◌≤◌, Bool, true, false, ◌&&◌, List, [], ◌∷◌, ◌++◌, length, refl, sym, ap, arith, ne_eqb}
 use Rattle.std.specs.Prelude.{if◌then◌else◌}
 use Rattle.std.proofs.lemmas.List.{append-nil}
 use Rattle.std.proofs.Math.ListN.{length-append}
@@ -8,11 +8,11 @@ use Rattle.sig_types.specs.Turns.{Picture, History, Trace, shown, trace, is_gree
 use Rattle.sig_guard.proofs.Agree.{AgreeBelow}
 use Rattle.sig_guard.proofs.Pictures.{trace-append_old, trace-append_new}
 use Rattle.log_protocol.specs.declared.together.Together.{Together}
-use Rattle.log_protocol.specs.Came.{both_green, first_of, gather, together}
+use Rattle.log_protocol.specs.Came.{both_green, together}
 use Rattle.log_protocol.specs.Steps.{with_both, with_second}
 use Rattle.log_protocol.proofs.Gathered.{few_if, gather_few, gather_same}
 
-same_together : (n n' f f' : ℕ) → n ≡ n' → f ≡ f' → (let x : Together = record { seconds = n; first = f } in x) ≡ record { seconds = n'; first = f' }
+pub same_together : (n n' f f' : ℕ) → n ≡ n' → f ≡ f' → (let x : Together = record { seconds = n; first = f } in x) ≡ record { seconds = n'; first = f' }
 same_together n n' f f' h1 h2 = rw (h1, h2) refl
 
 second_more : (seconds : List ℕ) (t : ℕ) → length seconds < 6048002 → with_second (together seconds) t ≡ together (seconds ++ t ∷ [])

@@ -9,8 +9,8 @@ use Rattle.log_judge.specs.declared.protocol.Kind.{Kind}
 use Rattle.log_judge.specs.declared.protocol.Extremes.{Extremes}
 use Rattle.log_judge.specs.Past.{since, last_end}
 use Rattle.log_judge.specs.Breaches.{is_known}
-use Rattle.log_judge.specs.Came.{from_of, with_run, with_change, one_more, is_shortest, none_yet, runs_to, changes_to, is_change, last_green_to, turned_green}
-use Rattle.log_protocol.specs.Came.{Lasted, unknown_past, lasted, change, runs_of, changes_of, shorter, shortest_from, shortest, longest, extremes, gather}
+use Rattle.log_judge.specs.Came.{from_of, with_run, with_change, one_more, runs_to, changes_to, is_change, last_green_to, turned_green}
+use Rattle.log_protocol.specs.Came.{Lasted, unknown_past, lasted, change, runs_of, changes_of, shorter, shortest_from, longest, extremes}
 use Rattle.log_protocol.proofs.Gathered.{few_if, gather_few}
 
 -- the first of the shortest, with one more at the end
@@ -22,11 +22,11 @@ longest_more : (xs : List Lasted) (y : Lasted) → longest (xs ++ y ∷ []) ≡ 
 longest_more [] y = omega arith
 longest_more (x ∷ rest) y = omega (arith, longest_more rest y)
 
-seconds_of : (b : Bool) (y s : Lasted) → (if b then y else s).seconds ≡ (if b then y.seconds else s.seconds)
+pub seconds_of : (b : Bool) (y s : Lasted) → (if b then y else s).seconds ≡ (if b then y.seconds else s.seconds)
 seconds_of true y s = refl
 seconds_of false y s = refl
 
-over_of : (b : Bool) (y s : Lasted) → (if b then y else s).over ≡ (if b then y.over else s.over)
+pub over_of : (b : Bool) (y s : Lasted) → (if b then y else s).over ≡ (if b then y.over else s.over)
 over_of true y s = refl
 over_of false y s = refl
 
@@ -39,7 +39,7 @@ pick_over s y c some = rw (ne_eqb c 0 (λ e. omega (arith, e, some))) (over_of (
 count_more : (c : ℕ) → c < 6048002 → c + 1 ≡ (if nat_lt c 6048002 then c + 1 else c)
 count_more c few = rw (lt-ltb c 6048002 few) refl
 
-same_extremes : (c c' l l' s s' m m' : ℕ) → c ≡ c' → l ≡ l' → s ≡ s' → m ≡ m' →
+pub same_extremes : (c c' l l' s s' m m' : ℕ) → c ≡ c' → l ≡ l' → s ≡ s' → m ≡ m' →
     (let x : Extremes = record { count = c; least = l; second = s; most = m } in x) ≡ record { count = c'; least = l'; second = s'; most = m' }
 same_extremes c c' l l' s s' m m' h1 h2 h3 h4 = rw (h1, h2, h3, h4) refl
 
@@ -55,9 +55,9 @@ extremes_more (x ∷ rest) y few =
 
 -- one that lasted, or none
 with_lasted : (xs : List Lasted) (from : Option ℕ) (t : ℕ) → length xs < 6048002 →
-    with_run unknown_past (extremes xs) from t ≡ extremes (xs ++ lasted from t)
+    with_run (unknown_past 0) (extremes xs) from t ≡ extremes (xs ++ lasted from t)
 with_lasted xs None t few = ap extremes (sym (append-nil xs))
-with_lasted xs (Some s) t few = go (is_known unknown_past s)
+with_lasted xs (Some s) t few = go (is_known (unknown_past 0) s)
   where
     go : (b : Bool) → (if b then one_more (extremes xs) (t - s) t else extremes xs)
         ≡ extremes (xs ++ (if b then record { seconds = t - s; over = t } ∷ [] else []))
@@ -77,28 +77,36 @@ with_changed xs turned green (Some b) t few = go (turned && is_change green b)
 
 few_lasted : (from : Option ℕ) (t : ℕ) → length (lasted from t) ≤ 1
 few_lasted None t = omega arith
-few_lasted (Some s) t = let x : Lasted = record { seconds = t - s; over = t } in few_if (is_known unknown_past s) x
+few_lasted (Some s) t = let x : Lasted = record { seconds = t - s; over = t } in few_if (is_known (unknown_past 0) s) x
 
 few_changes : (turned : Bool) (green ended : Option ℕ) (t : ℕ) → length (change turned green ended t) ≤ 1
 few_changes turned green None t = omega arith
 few_changes turned green (Some b) t = let x : Lasted = record { seconds = t - b; over = t } in few_if (turned && is_change green b) x
 
+-- no more runs are over than there are pictures behind the first one
+pub few_runs_of : (kind : Kind) (a : Trace) (m : ℕ) → length (runs_of kind a m) ≤ m
+few_runs_of kind a m =
+    gather_few (λ t. lasted (from_of kind (a t) (a (suc t)) (since a t) (suc t)) (suc t)) m
+    (λ t. few_lasted (from_of kind (a t) (a (suc t)) (since a t) (suc t)) (suc t))
+
+-- and no more changes
+pub few_changes_of : (a c : Trace) (m : ℕ) → length (changes_of a c m) ≤ m
+few_changes_of a c m =
+    gather_few (λ t. change (turned_green (c t) (c (suc t))) (last_green_to c t) (last_end false a (suc t)) (suc t)) m
+    (λ t. few_changes (turned_green (c t) (c (suc t))) (last_green_to c t) (last_end false a (suc t)) (suc t))
+
 -- what is kept of the runs of a group second by second are the extremes of all of them
-pub runs_are : (kind : Kind) (a : Trace) (m : ℕ) → m ≤ 6048002 → runs_to unknown_past kind a m ≡ extremes (runs_of kind a m)
+pub runs_are : (kind : Kind) (a : Trace) (m : ℕ) → m ≤ 6048002 → runs_to (unknown_past 0) kind a m ≡ extremes (runs_of kind a m)
 runs_are kind a zero few = refl
 runs_are kind a (suc m) few =
-    let size : length (runs_of kind a m) ≤ m =
-    gather_few (λ t. lasted (from_of kind (a t) (a (suc t)) (since a t) (suc t)) (suc t)) m
-    (λ t. few_lasted (from_of kind (a t) (a (suc t)) (since a t) (suc t)) (suc t)) in
-    ap (λ (x : Extremes). with_run unknown_past x (from_of kind (a m) (a (suc m)) (since a m) (suc m)) (suc m)) (runs_are kind a m (omega arith))
+    let size : length (runs_of kind a m) ≤ m = few_runs_of kind a m in
+    ap (λ (x : Extremes). with_run (unknown_past 0) x (from_of kind (a m) (a (suc m)) (since a m) (suc m)) (suc m)) (runs_are kind a m (omega arith))
     ∙ with_lasted (runs_of kind a m) (from_of kind (a m) (a (suc m)) (since a m) (suc m)) (suc m) (omega arith)
 
 -- and so of the changes between two groups
-pub changes_are : (a c : Trace) (m : ℕ) → m ≤ 6048002 → changes_to unknown_past a c m ≡ extremes (changes_of a c m)
+pub changes_are : (a c : Trace) (m : ℕ) → m ≤ 6048002 → changes_to (unknown_past 0) a c m ≡ extremes (changes_of a c m)
 changes_are a c zero few = refl
 changes_are a c (suc m) few =
-    let size : length (changes_of a c m) ≤ m =
-    gather_few (λ t. change (turned_green (c t) (c (suc t))) (last_green_to c t) (last_end false a (suc t)) (suc t)) m
-    (λ t. few_changes (turned_green (c t) (c (suc t))) (last_green_to c t) (last_end false a (suc t)) (suc t)) in
+    let size : length (changes_of a c m) ≤ m = few_changes_of a c m in
     ap (λ (x : Extremes). with_change x (turned_green (c m) (c (suc m))) (last_green_to c m) (last_end false a (suc m)) (suc m)) (changes_are a c m (omega arith))
     ∙ with_changed (changes_of a c m) (turned_green (c m) (c (suc m))) (last_green_to c m) (last_end false a (suc m)) (suc m) (omega arith)

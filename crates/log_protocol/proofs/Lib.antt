@@ -4,3 +4,6 @@ pub mod Same
 pub mod Adding
 pub mod Pages
 pub mod Shortest
+pub mod Joins
+pub mod Reached
+pub mod Totalled

@@ -1,15 +1,14 @@
 -- What a page tells is what came in its history.
-use Rattle.std.proofs.Common.{◌≡◌, ◌∙◌, ℕ, ◌+◌, ◌-◌, ◌*◌, ◌<◌, ◌≤◌, length, sym, arith}
+use Rattle.std.proofs.Common.{◌≡◌, ◌∙◌, ℕ, ◌-◌, ◌<◌, length, sym, arith}
 use Rattle.sig_types.specs.Turns.{History, trace}
 use Rattle.log_judge.specs.declared.protocol.Kind.{Kind}
 use Rattle.log_judge.specs.declared.protocol.Kind.TheVariants.{Green, Red, RedAmber, Amber}
-use Rattle.log_judge.specs.Came.{runs_at, runs_to}
 use Rattle.log_judge.specs.Stands as stands
 use Rattle.log_protocol.specs.declared.page.Page.{Page}
-use Rattle.log_protocol.specs.Came.{came_in, extremes, runs_of, unknown_past}
+use Rattle.log_protocol.specs.Came.{came_in, extremes, runs_of}
 use Rattle.log_protocol.specs.Page.{HasPage, IsPageOf, came_on, groups_of, runs_on, seconds_of}
+use Rattle.log_protocol.specs.Totals.{SameCame}
 use Rattle.log_protocol.proofs.Extreme.{runs_are, changes_are}
-use Rattle.log_protocol.proofs.Same.{SameCame}
 
 pub same_seconds : (page : Page) (h : History) → IsPageOf page h → seconds_of page ≡ length h
 unfolding IsPageOf seconds_of

@@ -1,9 +1,9 @@
 -- The shortest of a list.
-use Rattle.std.proofs.Common.{◌≡◌, ℕ, suc, zero, ◌<◌, ◌≤◌, List, [], ◌∷◌, ◌++◌, length, refl, ap, arith, inl, inr}
+use Rattle.std.proofs.Common.{◌≡◌, suc, ◌<◌, ◌≤◌, List, [], ◌∷◌, ◌++◌, refl, ap, arith, inl, inr}
 use Rattle.std.specs.Prelude.{All}
 use Rattle.std.proofs.lemmas.Bool.{cases_lt, lt-ltb, le-ltb}
 use Rattle.std.proofs.lemmas.List.Elements.{All-cons, All-nil}
-use Rattle.log_protocol.specs.Came.{Lasted, shorter, shortest, shortest_from}
+use Rattle.log_protocol.specs.Came.{Lasted, shortest_from}
 use Rattle.log_protocol.specs.Laws.{IsFirstShortest, ShortestIsFirst}
 
 cons_parts : (x y : Lasted) (xs ys : List Lasted) → x ∷ xs ≡ y ∷ ys → (x ≡ y) × (xs ≡ ys)

@@ -1,5 +1,5 @@
 -- What came in a history, all of it, with an unknown past before it.
-use Rattle.std.specs.Prelude.{ℕ, zero, suc, ◌+◌, ◌-◌, ◌<◌, max, Bool, false, ◌&&◌, List, [], ◌∷◌, ◌++◌, length, Option, None, Some, if◌then◌else◌, nat_lt}
+use Rattle.std.specs.Prelude.{ℕ, zero, suc, ◌-◌, max, Bool, false, ◌&&◌, List, [], ◌∷◌, ◌++◌, length, Option, None, Some, if◌then◌else◌, nat_lt}
 use Rattle.sig_types.specs.Turns.{History, Trace, trace, is_green}
 use Rattle.log_judge.specs.declared.find.Terms.{Terms}
 use Rattle.log_judge.specs.declared.protocol.Kind.{Kind}
@@ -9,9 +9,9 @@ use Rattle.log_judge.specs.Breaches.{is_known}
 use Rattle.log_judge.specs.Came.{from_of, is_change, last_green_to, turned_green}
 use Rattle.log_protocol.specs.declared.together.Together.{Together}
 
--- nothing is known of the time before the history
-abbrev pub unknown_past : Terms
-unknown_past = record { rested = false; tolerance = 0 }
+-- nothing is known of the time before a history, and an amber or a red-amber may differ from its time by the tolerance
+abbrev pub unknown_past : ℕ → Terms
+unknown_past tolerance = record { rested = false; tolerance = tolerance }
 
 -- what each number below n gives, one after another
 abbrev pub gather : {A : Type 0} → (ℕ → List A) → ℕ → List A
@@ -26,7 +26,7 @@ pub record Lasted : Type 0 where
 -- what was over in second t and began in s, where there is one and its beginning is known
 abbrev pub lasted : Option ℕ → ℕ → List Lasted
 lasted None t = []
-lasted (Some s) t = if is_known unknown_past s then record { seconds = t - s; over = t } ∷ [] else []
+lasted (Some s) t = if is_known (unknown_past 0) s then record { seconds = t - s; over = t } ∷ [] else []
 
 -- the greens, reds, red-ambers or ambers of a group that began within the history and are over up to second m
 abbrev pub runs_of : Kind → Trace → ℕ → List Lasted

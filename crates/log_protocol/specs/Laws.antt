@@ -1,5 +1,5 @@
 -- What follows of the shortest, for every list.
-use Rattle.std.specs.Prelude.{◌≡◌, ℕ, ◌<◌, ◌≤◌, List, [], ◌∷◌, ◌++◌, length, All}
+use Rattle.std.specs.Prelude.{◌≡◌, ◌<◌, ◌≤◌, List, ◌∷◌, ◌++◌, length, All}
 use Rattle.log_protocol.specs.Came.{Lasted, shortest}
 
 -- it is one of them, each before it is longer, and none after it is shorter

@@ -1,6 +1,10 @@
 pub mod Came
 pub mod Steps
 pub mod Page
+pub mod Parts
+pub mod Joined
+pub mod Totals
+pub mod Told
 pub mod Texts
 pub mod Sheet
 pub mod Laws

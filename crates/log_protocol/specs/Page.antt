@@ -37,10 +37,10 @@ came_on page = record {
 -- the page of the pictures of this history
 pub record HasPage (page : Page) (h : History) : Type 0 where
   pub judged : stands.StandsFor page.judge h
-  pub terms : stands.terms_of page.judge ≡ unknown_past
+  pub terms : stands.terms_of page.judge ≡ unknown_past 0
   pub long : length h ≡ stands.seconds_of page.judge
   pub few : length h ≤ 6048002
-  pub came : HasCame page.protocol unknown_past (stands.groups_of page.judge) h
+  pub came : HasCame page.protocol (unknown_past 0) (stands.groups_of page.judge) h
   pub greens : (g i : ℕ) → g < stands.groups_of page.judge → i < stands.groups_of page.judge →
       together_at page.together.items (64 * g + i) ≡ together (both_green (trace h g) (trace h i) (length h))
 

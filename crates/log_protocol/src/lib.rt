@@ -9,7 +9,11 @@ pub mod laws;
 mod page;
 mod text;
 mod together;
+mod told;
+mod totals;
 
 pub use page::Page;
-pub use text::{Sheet, Style};
+pub use text::{Sheet, Style, put_head, put_unknown};
 pub use together::Together;
+pub use told::Told;
+pub use totals::{Totals, joined};

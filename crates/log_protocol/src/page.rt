@@ -11,8 +11,8 @@ use std::alloc::{AllocError, Global};
 #[derive(Drop)]
 pub struct Page {
     judge: Judge,
-    protocol: Protocol,
-    together: Vec<Together>,
+    pub(crate) protocol: Protocol,
+    pub(crate) together: Vec<Together>,
     ghost sized: { length together.items ≡ 4096 },
 }
 

@@ -1,20 +1,18 @@
 // The text of what came.
 ghost use Rattle.std.specs.Prelude.{◌≡◌, ℕ, List, ◌+◌, ◌<◌, ◌≤◌, ◌++◌, Option, length};
-ghost use Rattle.std.specs.Fmt.{decimal};
-ghost use Rattle.sig_io.specs.Draft.{FailsOnly, Puts};
-ghost use Rattle.sig_types.specs.Turns.{History};
-ghost use Rattle.sig_tables.specs.SiteRules.{rules_of};
+ghost use Rattle.sig_io.specs.Draft.{Puts};
 ghost use Rattle.pua_model.specs.Plan.{groups_in};
+ghost use Rattle.judge_text.specs.Ticks.{ticks_text};
 ghost use Rattle.log_protocol.specs.Came.{gather};
-ghost use Rattle.log_protocol.specs.Page.{IsPageOf, came_on, groups_of, seconds_of};
-ghost use Rattle.log_protocol.specs.Texts.{came_text, change_label, change_text, group_text, greens_text, head_text, is_unlisted, kind_name, name_at, numbers_text, page_text, rest_text, run_label, run_text, shortest_text, time_of, together_label, together_rest, together_text};
+ghost use Rattle.log_protocol.specs.Texts.{came_text, change_label, change_text, group_text, greens_text, head_text, is_unlisted, kind_name, name_at, numbers_text, rest_text, run_label, run_text, shortest_text, time_of, together_label, together_rest, together_text, unknown_label, unknown_text};
 
-use crate::page::Page;
 use crate::together::Together;
+use crate::told::Told;
+use judge_text::{Tick, put_ticks};
 use log_judge::{Extremes, Kind};
 use pua_model::Plan;
 use sig_io::{Draft, Sink};
-use sig_tables::{Intergreens, Times};
+use sig_tables::Limits;
 use sig_types::GroupNo;
 
 /// How a page is written.
@@ -30,12 +28,14 @@ pub enum Style {
 #[derive(Clone, Copy)]
 pub struct Sheet<'a> {
     pub style: Style,
+    /// How long a picture is shown.
+    pub tick: Tick,
     pub plan: &'a Plan,
-    pub times: &'a Times,
-    pub intergreens: &'a Intergreens,
-    /// The number of the log's first second.
+    /// The numbers of the tables, in ticks.
+    pub limits: &'a Limits<'a>,
+    /// The number of what the page counts as the first tick, 0.
     pub first: u32,
-    pub page: &'a Page,
+    pub told: Told<'a>,
 }
 
 // The name of what a row of a group is of.
@@ -52,43 +52,51 @@ fn kind_name(style: Style, kind: Kind) -> &'static [u8]
     }
 }
 
-// Puts a word and a number.
-fn put_number<O: Sink>(draft: &mut Draft, sink: &mut O, word: &[u8], n: u32)
+// Puts a word and a number of ticks.
+fn put_length<O: Sink>(draft: &mut Draft, sink: &mut O, tick: Tick, word: &[u8], n: u32)
     requires { length word.now ≤ 40 }
-    ensures { Puts O.taken O.faults draft.old draft.new sink.old sink.new (word.now ++ decimal n) }
+    ensures { Puts O.taken O.faults draft.old draft.new sink.old sink.new (word.now ++ ticks_text tick n) }
 {
     draft.put(sink, word);
-    draft.put_number(sink, n);
+    put_ticks(draft, sink, tick, u64::from(n));
 }
 
-// Puts a word and the number of a second of the log.
-fn put_second<O: Sink>(draft: &mut Draft, sink: &mut O, word: &[u8], first: u32, second: u32)
+// Puts a word and the second of a tick.
+fn put_second<O: Sink>(
+    draft: &mut Draft,
+    sink: &mut O,
+    tick: Tick,
+    word: &[u8],
+    first: u32,
+    place: u32,
+)
     requires { length word.now ≤ 40 }
-    ensures { Puts O.taken O.faults draft.old draft.new sink.old sink.new (word.now ++ decimal (first + second)) }
+    ensures { Puts O.taken O.faults draft.old draft.new sink.old sink.new (word.now ++ ticks_text tick (first + place)) }
 {
     draft.put(sink, word);
-    draft.put_long_number(sink, u64::from(first) + u64::from(second));
+    put_ticks(draft, sink, tick, u64::from(first) + u64::from(place));
 }
 
 // Puts the numbers of a row of the table.
 #[tactic(auto, unfolding(crate::specs::Texts::numbers_text))]
-fn put_fields<O: Sink>(draft: &mut Draft, sink: &mut O, first: u32, came: Extremes)
-    ensures { Puts O.taken O.faults draft.old draft.new sink.old sink.new (numbers_text Style.Table first came) }
+fn put_fields<O: Sink>(draft: &mut Draft, sink: &mut O, tick: Tick, first: u32, came: Extremes)
+    ensures { Puts O.taken O.faults draft.old draft.new sink.old sink.new (numbers_text tick Style.Table first came) }
 {
     draft.put_number(sink, came.count);
     if came.count == 0 {
         draft.put(sink, b",,,");
     } else {
-        put_number(draft, sink, b",", came.least);
-        put_second(draft, sink, b",", first, came.second);
-        put_number(draft, sink, b",", came.most);
+        put_length(draft, sink, tick, b",", came.least);
+        put_second(draft, sink, tick, b",", first, came.second);
+        put_length(draft, sink, tick, b",", came.most);
     }
 }
 
-// Puts a word and a number, and then a word and the number of a second of the log.
+// Puts a word and a number of ticks, and then a word and the second of a tick.
 fn put_until<O: Sink>(
     draft: &mut Draft,
     sink: &mut O,
+    tick: Tick,
     word: &[u8],
     n: u32,
     between: &[u8],
@@ -97,19 +105,20 @@ fn put_until<O: Sink>(
 )
     requires word { length word.now ≤ 40 }
     requires between { length between.now ≤ 40 }
-    ensures { Puts O.taken O.faults draft.old draft.new sink.old sink.new (word.now ++ decimal n ++ between.now ++ decimal (first + second)) }
+    ensures { Puts O.taken O.faults draft.old draft.new sink.old sink.new (word.now ++ ticks_text tick n ++ between.now ++ ticks_text tick (first + second)) }
 {
-    put_number(draft, sink, word, n);
-    put_second(draft, sink, between, first, second);
+    put_length(draft, sink, tick, word, n);
+    put_second(draft, sink, tick, between, first, second);
 }
 
 // Puts the shortest, with the second in which it was over.
-fn put_shortest<O: Sink>(draft: &mut Draft, sink: &mut O, first: u32, came: Extremes)
-    ensures { Puts O.taken O.faults draft.old draft.new sink.old sink.new (shortest_text first came) }
+fn put_shortest<O: Sink>(draft: &mut Draft, sink: &mut O, tick: Tick, first: u32, came: Extremes)
+    ensures { Puts O.taken O.faults draft.old draft.new sink.old sink.new (shortest_text tick first came) }
 {
     put_until(
         draft,
         sink,
+        tick,
         b" times, shortest ",
         came.least,
         b" s, over in second ",
@@ -120,15 +129,15 @@ fn put_shortest<O: Sink>(draft: &mut Draft, sink: &mut O, first: u32, came: Extr
 
 // Puts the numbers of a line.
 #[tactic(auto, unfolding(crate::specs::Texts::numbers_text))]
-fn put_words<O: Sink>(draft: &mut Draft, sink: &mut O, first: u32, came: Extremes)
-    ensures { Puts O.taken O.faults draft.old draft.new sink.old sink.new (numbers_text Style.Lines first came) }
+fn put_words<O: Sink>(draft: &mut Draft, sink: &mut O, tick: Tick, first: u32, came: Extremes)
+    ensures { Puts O.taken O.faults draft.old draft.new sink.old sink.new (numbers_text tick Style.Lines first came) }
 {
     if came.count == 0 {
         draft.put(sink, b"never");
     } else {
         draft.put_number(sink, came.count);
-        put_shortest(draft, sink, first, came);
-        put_number(draft, sink, b", longest ", came.most);
+        put_shortest(draft, sink, tick, first, came);
+        put_length(draft, sink, tick, b", longest ", came.most);
         draft.put(sink, b" s");
     }
 }
@@ -185,21 +194,29 @@ fn put_together_label<O: Sink>(
 fn put_together_rest<O: Sink>(
     draft: &mut Draft,
     sink: &mut O,
+    tick: Tick,
     style: Style,
     first: u32,
     greens: Together,
 )
-    ensures { Puts O.taken O.faults draft.old draft.new sink.old sink.new (together_rest style first greens) }
+    ensures { Puts O.taken O.faults draft.old draft.new sink.old sink.new (together_rest tick style first greens) }
 {
     match style {
         Style::Table => {
-            put_number(draft, sink, b",,", greens.seconds);
-            put_second(draft, sink, b",,", first, greens.first);
+            put_length(draft, sink, tick, b",,", greens.seconds);
+            put_second(draft, sink, tick, b",,", first, greens.first);
             draft.put(sink, b",\n");
         }
         Style::Lines => {
-            put_number(draft, sink, b" green together: ", greens.seconds);
-            put_second(draft, sink, b" s, first in second ", first, greens.first);
+            put_length(draft, sink, tick, b" green together: ", greens.seconds);
+            put_second(
+                draft,
+                sink,
+                tick,
+                b" s, first in second ",
+                first,
+                greens.first,
+            );
             draft.put(sink, b"; no intergreen in the table\n");
         }
     }
@@ -209,6 +226,7 @@ fn put_together_rest<O: Sink>(
 fn put_together<O: Sink>(
     draft: &mut Draft,
     sink: &mut O,
+    tick: Tick,
     style: Style,
     first: u32,
     one: &str,
@@ -217,16 +235,23 @@ fn put_together<O: Sink>(
 )
     requires one { length one.now ≤ 32 }
     requires other { length other.now ≤ 32 }
-    ensures { Puts O.taken O.faults draft.old draft.new sink.old sink.new (together_text style first one.now other.now greens) }
+    ensures { Puts O.taken O.faults draft.old draft.new sink.old sink.new (together_text tick style first one.now other.now greens) }
 {
     put_together_label(draft, sink, style, one, other);
-    put_together_rest(draft, sink, style, first, greens);
+    put_together_rest(draft, sink, tick, style, first, greens);
 }
 
-// Puts the first line.
+/// Puts the first line of a page: the names of the columns, or for how many ticks pictures were shown, and from which one on.
 #[tactic(auto, unfolding(crate::specs::Texts::head_text))]
-fn put_head<O: Sink>(draft: &mut Draft, sink: &mut O, style: Style, seconds: u32, first: u32)
-    ensures { Puts O.taken O.faults draft.old draft.new sink.old sink.new (head_text style seconds first) }
+pub fn put_head<O: Sink>(
+    draft: &mut Draft,
+    sink: &mut O,
+    tick: Tick,
+    style: Style,
+    shown: u32,
+    first: u32,
+)
+    ensures { Puts O.taken O.faults draft.old draft.new sink.old sink.new (head_text tick style shown first) }
 {
     match style {
         Style::Table => {
@@ -236,36 +261,83 @@ fn put_head<O: Sink>(draft: &mut Draft, sink: &mut O, style: Style, seconds: u32
             );
         }
         Style::Lines => {
-            if seconds == 0 {
+            if shown == 0 {
                 draft.put(sink, b"no second\n");
             } else {
-                draft.put_number(sink, seconds);
-                put_number(draft, sink, b" s from second ", first);
+                put_ticks(draft, sink, tick, u64::from(shown));
+                put_length(draft, sink, tick, b" s from second ", first);
                 draft.put(sink, b"\n");
             }
         }
     }
 }
 
+// Puts how many there were, the shortest and the longest.
+fn put_numbers<O: Sink>(
+    draft: &mut Draft,
+    sink: &mut O,
+    tick: Tick,
+    style: Style,
+    first: u32,
+    came: Extremes,
+)
+    ensures { Puts O.taken O.faults draft.old draft.new sink.old sink.new (numbers_text tick style first came) }
+{
+    match style {
+        Style::Table => put_fields(draft, sink, tick, first, came),
+        Style::Lines => put_words(draft, sink, tick, first, came),
+    }
+}
+
+// The beginning of the row of what isn't known.
+fn unknown_label(style: Style) -> &'static [u8]
+    ensures label { result.now ≡ unknown_label style }
+    ensures short { length result.now ≤ 12 }
+{
+    match style {
+        Style::Table => b"unknown,,,,",
+        Style::Lines => b"not known: ",
+    }
+}
+
+/// Puts the row of the stretches of which nothing is known, where there are some.
+pub fn put_unknown<O: Sink>(
+    draft: &mut Draft,
+    sink: &mut O,
+    tick: Tick,
+    style: Style,
+    unknown: Extremes,
+)
+    ensures { Puts O.taken O.faults draft.old draft.new sink.old sink.new (unknown_text tick style unknown) }
+{
+    if unknown.count == 0 {
+        return;
+    }
+    draft.put(sink, unknown_label(style));
+    put_numbers(draft, sink, tick, style, 0, unknown);
+    draft.put(sink, b"\n");
+}
+
 impl Sheet<'_> {
-    ghost use Rattle.log_protocol.specs.Sheet.{IsSheet};
+    ghost use Rattle.log_protocol.specs.Sheet.{IsSheet, rules_on};
+    ghost use Rattle.log_protocol.specs.Told.{came_by};
 
     // Puts the rest of a row: the numbers of what came, and what the table says.
     #[tactic(auto, unfolding(crate::specs::Texts::rest_text))]
-    fn put_rest<O: Sink>(&self, draft: &mut Draft, sink: &mut O, needed: u8, came: Extremes)
-        ensures { Puts O.taken O.faults draft.old draft.new sink.old sink.new (rest_text self.now.style self.now.first needed came) }
+    fn put_rest<O: Sink>(&self, draft: &mut Draft, sink: &mut O, needed: u32, came: Extremes)
+        ensures { Puts O.taken O.faults draft.old draft.new sink.old sink.new (rest_text self.now.tick self.now.style self.now.first needed came) }
     {
         match self.style {
             Style::Table => {
-                put_number(draft, sink, b",", u32::from(needed));
+                put_length(draft, sink, self.tick, b",", needed);
                 draft.put(sink, b",");
-                put_fields(draft, sink, self.first, came);
+                put_fields(draft, sink, self.tick, self.first, came);
                 draft.put(sink, b"\n");
             }
             Style::Lines => {
                 draft.put(sink, b": ");
-                put_words(draft, sink, self.first, came);
-                put_number(draft, sink, b"; ", u32::from(needed));
+                put_words(draft, sink, self.tick, self.first, came);
+                put_length(draft, sink, self.tick, b"; ", needed);
                 draft.put(sink, b" s in the table\n");
             }
         }
@@ -292,15 +364,15 @@ impl Sheet<'_> {
     }
 
     // The time of a group in the table.
-    fn time_of(&self, kind: Kind, g: GroupNo) -> u8
-        requires { g.0 < length self.now.times.now }
-        ensures { result ≡ time_of (rules_of self.now.times.now self.now.intergreens.now) kind g.0 }
+    fn time_of(&self, kind: Kind, g: GroupNo) -> u32
+        requires { g.0 < self.now.limits.now.pairs.count }
+        ensures { result ≡ time_of (rules_on self.now) kind g.0 }
     {
         match kind {
-            Kind::Green => self.times.min(g),
-            Kind::Red => self.times.min_red(g),
-            Kind::RedAmber => self.times.red_amber(g),
-            Kind::Amber => self.times.amber(g),
+            Kind::Green => self.limits.min(g),
+            Kind::Red => self.limits.min_red(g),
+            Kind::RedAmber => self.limits.red_amber(g),
+            Kind::Amber => self.limits.amber(g),
         }
     }
 
@@ -310,11 +382,11 @@ impl Sheet<'_> {
         requires sheet { IsSheet self.now }
         requires group { g < groups_in self.now.plan.now }
         ensures { Puts O.taken O.faults draft.old draft.new sink.old sink.new
-            (run_text self.now.style self.now.first (came_on self.now.page.now) (rules_of self.now.times.now self.now.intergreens.now) (name_at self.now.plan.now.names g) g kind) }
+            (run_text self.now.tick self.now.style self.now.first (came_by self.now.told) (rules_on self.now) (name_at self.now.plan.now.names g) g kind) }
     {
         let group = GroupNo(g);
         self.put_run_label(draft, sink, kind, self.plan.group_name(group));
-        let came = self.page.runs(kind, group);
+        let came = self.told.runs(kind, group);
         self.put_rest(draft, sink, self.time_of(kind, group), came);
     }
 
@@ -324,7 +396,7 @@ impl Sheet<'_> {
         requires sheet { IsSheet self.now }
         requires group { g < groups_in self.now.plan.now }
         ensures { Puts O.taken O.faults draft.old draft.new sink.old sink.new
-            (group_text self.now.style self.now.first (came_on self.now.page.now) (rules_of self.now.times.now self.now.intergreens.now) (name_at self.now.plan.now.names g) g) }
+            (group_text self.now.tick self.now.style self.now.first (came_by self.now.told) (rules_on self.now) (name_at self.now.plan.now.names g) g) }
     {
         self.put_run(draft, sink, Kind::Green, g);
         self.put_run(draft, sink, Kind::Red, g);
@@ -336,7 +408,7 @@ impl Sheet<'_> {
     fn put_groups<O: Sink>(&self, draft: &mut Draft, sink: &mut O)
         requires { IsSheet self.now }
         ensures { Puts O.taken O.faults draft.old draft.new sink.old sink.new
-            (gather (λ g. group_text self.now.style self.now.first (came_on self.now.page.now) (rules_of self.now.times.now self.now.intergreens.now) (name_at self.now.plan.now.names g) g)
+            (gather (λ g. group_text self.now.tick self.now.style self.now.first (came_by self.now.told) (rules_on self.now) (name_at self.now.plan.now.names g) g)
             (groups_in self.now.plan.now)) }
     {
         for g in 0..self.plan.groups() {
@@ -351,15 +423,15 @@ impl Sheet<'_> {
         requires to { to < groups_in self.now.plan.now }
         requires from { from < groups_in self.now.plan.now }
         ensures { Puts O.taken O.faults draft.old draft.new sink.old sink.new
-            (change_text self.now.style self.now.first (came_on self.now.page.now) self.now.plan.now.names to from ((rules_of self.now.times.now self.now.intergreens.now).between from to)) }
+            (change_text self.now.tick self.now.style self.now.first (came_by self.now.told) self.now.plan.now.names to from ((rules_on self.now).between from to)) }
     {
         let (to, from) = (GroupNo(to), GroupNo(from));
-        match self.intergreens.between(from, to) {
+        match self.limits.between(from, to) {
             None => {}
             Some(needed) => {
                 let name = self.plan.group_name(to);
                 put_change_label(draft, sink, self.style, name, self.plan.group_name(from));
-                self.put_rest(draft, sink, needed, self.page.changes(to, from));
+                self.put_rest(draft, sink, u32::from(needed), self.told.changes(to, from));
             }
         }
     }
@@ -369,7 +441,7 @@ impl Sheet<'_> {
         requires sheet { IsSheet self.now }
         requires to { to < groups_in self.now.plan.now }
         ensures { Puts O.taken O.faults draft.old draft.new sink.old sink.new
-            (gather (λ from. change_text self.now.style self.now.first (came_on self.now.page.now) self.now.plan.now.names to from ((rules_of self.now.times.now self.now.intergreens.now).between from to))
+            (gather (λ from. change_text self.now.tick self.now.style self.now.first (came_by self.now.told) self.now.plan.now.names to from ((rules_on self.now).between from to))
             (groups_in self.now.plan.now)) }
     {
         for from in 0..self.plan.groups() {
@@ -381,8 +453,8 @@ impl Sheet<'_> {
     fn put_changes<O: Sink>(&self, draft: &mut Draft, sink: &mut O)
         requires { IsSheet self.now }
         ensures { Puts O.taken O.faults draft.old draft.new sink.old sink.new
-            (gather (λ to. gather (λ from. change_text self.now.style self.now.first (came_on self.now.page.now) self.now.plan.now.names to from
-            ((rules_of self.now.times.now self.now.intergreens.now).between from to)) (groups_in self.now.plan.now)) (groups_in self.now.plan.now)) }
+            (gather (λ to. gather (λ from. change_text self.now.tick self.now.style self.now.first (came_by self.now.told) self.now.plan.now.names to from
+            ((rules_on self.now).between from to)) (groups_in self.now.plan.now)) (groups_in self.now.plan.now)) }
     {
         for to in 0..self.plan.groups() {
             self.put_changes_to(draft, sink, to);
@@ -391,12 +463,11 @@ impl Sheet<'_> {
 
     // Whether the table has no intergreen between two groups.
     fn is_unlisted(&self, one: GroupNo, other: GroupNo) -> bool
-        requires one { one.0 < self.now.intergreens.now.count }
-        requires other { other.0 < self.now.intergreens.now.count }
-        ensures { result ≡ is_unlisted (rules_of self.now.times.now self.now.intergreens.now) one.0 other.0 }
+        requires one { one.0 < self.now.limits.now.pairs.count }
+        requires other { other.0 < self.now.limits.now.pairs.count }
+        ensures { result ≡ is_unlisted (rules_on self.now) one.0 other.0 }
     {
-        !(self.intergreens.between(one, other).is_some()
-            || self.intergreens.between(other, one).is_some())
+        !(self.limits.between(one, other).is_some() || self.limits.between(other, one).is_some())
     }
 
     // Puts the row of two groups, where they were green together and the table has no intergreen between them.
@@ -406,14 +477,16 @@ impl Sheet<'_> {
         requires one { g < groups_in self.now.plan.now }
         requires other { i < groups_in self.now.plan.now }
         ensures { Puts O.taken O.faults draft.old draft.new sink.old sink.new
-            (greens_text self.now.style self.now.first (came_on self.now.page.now) self.now.plan.now.names (rules_of self.now.times.now self.now.intergreens.now) g i) }
+            (greens_text self.now.tick self.now.style self.now.first (came_by self.now.told) self.now.plan.now.names (rules_on self.now) g i) }
     {
         let (one, other) = (GroupNo(g), GroupNo(i));
-        let greens = self.page.greens(one, other);
+        let greens = self.told.greens(one, other);
         if g < i && self.is_unlisted(one, other) && greens.seconds != 0 {
             let name = self.plan.group_name(one);
             let other = self.plan.group_name(other);
-            put_together(draft, sink, self.style, self.first, name, other, greens);
+            put_together(
+                draft, sink, self.tick, self.style, self.first, name, other, greens,
+            );
         }
     }
 
@@ -422,7 +495,7 @@ impl Sheet<'_> {
         requires sheet { IsSheet self.now }
         requires group { g < groups_in self.now.plan.now }
         ensures { Puts O.taken O.faults draft.old draft.new sink.old sink.new
-            (gather (λ i. greens_text self.now.style self.now.first (came_on self.now.page.now) self.now.plan.now.names (rules_of self.now.times.now self.now.intergreens.now) g i)
+            (gather (λ i. greens_text self.now.tick self.now.style self.now.first (came_by self.now.told) self.now.plan.now.names (rules_on self.now) g i)
             (groups_in self.now.plan.now)) }
     {
         for i in 0..self.plan.groups() {
@@ -434,7 +507,7 @@ impl Sheet<'_> {
     fn put_all_greens<O: Sink>(&self, draft: &mut Draft, sink: &mut O)
         requires { IsSheet self.now }
         ensures { Puts O.taken O.faults draft.old draft.new sink.old sink.new
-            (gather (λ g. gather (λ i. greens_text self.now.style self.now.first (came_on self.now.page.now) self.now.plan.now.names (rules_of self.now.times.now self.now.intergreens.now) g i)
+            (gather (λ g. gather (λ i. greens_text self.now.tick self.now.style self.now.first (came_by self.now.told) self.now.plan.now.names (rules_on self.now) g i)
             (groups_in self.now.plan.now)) (groups_in self.now.plan.now)) }
     {
         for g in 0..self.plan.groups() {
@@ -442,28 +515,16 @@ impl Sheet<'_> {
         }
     }
 
-    // Puts the text of what the page tells.
+    /// Puts the rows of a page: what came of each group, in the changes of each pair of the table, and of each two groups that were
+    /// green together though the table has no intergreen between them.
     #[tactic(auto, unfolding(crate::specs::Texts::came_text))]
-    fn put_all<O: Sink>(&self, draft: &mut Draft, sink: &mut O)
+    pub fn put<O: Sink>(&self, draft: &mut Draft, sink: &mut O)
         requires { IsSheet self.now }
         ensures { Puts O.taken O.faults draft.old draft.new sink.old sink.new
-            (head_text self.now.style (seconds_of self.now.page.now) self.now.first
-            ++ came_text self.now.style self.now.first (came_on self.now.page.now) self.now.plan.now.names (rules_of self.now.times.now self.now.intergreens.now)) }
+            (came_text self.now.tick self.now.style self.now.first (came_by self.now.told) self.now.plan.now.names (rules_on self.now)) }
     {
-        put_head(draft, sink, self.style, self.page.seconds(), self.first);
         self.put_groups(draft, sink);
         self.put_changes(draft, sink);
         self.put_all_greens(draft, sink);
-    }
-
-    /// Puts the page: what came of each group, in the changes of each pair of the table, and of each two groups that were green
-    /// together though the table has no intergreen between them.
-    pub fn put<O: Sink>(&self, draft: &mut Draft, sink: &mut O)
-        requires { IsSheet self.now }
-        ensures cause { FailsOnly (O.faults sink.old) (O.faults sink.new) draft.old.failed draft.new.failed }
-        ensures page { (h : History) → IsPageOf self.now.page.now h → Puts O.taken O.faults draft.old draft.new sink.old sink.new
-            (page_text self.now.style self.now.first self.now.plan.now.names (rules_of self.now.times.now self.now.intergreens.now) h) }
-    {
-        self.put_all(draft, sink);
     }
 }

@@ -2,8 +2,8 @@
 //! same as characters, `sums LOG [FROM TO]` what groups, stages, refusals, faults and detectors add up to, and with `--lost` which starts
 //! were asked for and lost, `compare LOG LOG` where
 //! two logs differ first and the sums of both, `breaches LOG PUA TIMES INTERGREENS` what the log of any controller breaks of the rules of a junction,
-//! `breaches RECORD TIMES INTERGREENS` what a record in tenths of a second breaks,
-//! `protocol LOG PUA TIMES INTERGREENS` what came in it, and `refusals LOG PUA TIMES INTERGREENS` why commands and turns were
+//! `protocol LOG PUA TIMES INTERGREENS` what came in it, `breaches` and `protocol` with `RECORD TIMES INTERGREENS` the same of a record
+//! in tenths of a second, and `refusals LOG PUA TIMES INTERGREENS` why commands and turns were
 //! refused.
 #![tactic(auto)]
 
@@ -40,6 +40,11 @@ fn end_judged<N: Sink>(form: ReportForm, status: report_words::Status, notes: &m
     report_words::exit_status(status)
 }
 
+// Whether the form of this word takes a record in tenths too.
+fn has_record_form(word: &str) -> bool {
+    word == "breaches" || word == "protocol"
+}
+
 // Does what the words ask for, and answers the exit status.
 fn answer<F: Files, O: Sink, N: Sink>(
     alloc: Global,
@@ -58,7 +63,7 @@ fn answer<F: Files, O: Sink, N: Sink>(
         Some(word) if word.as_str() == "sums" => {
             exit_status(report_sums(alloc, words, files, out, notes))
         }
-        Some(word) if word.as_str() == "breaches" && is_record_call(words) => {
+        Some(word) if has_record_form(word) && is_record_call(words) => {
             report_words::exit_status(report_record(alloc, words, files, out, notes))
         }
         Some(word) if word.as_str() == "breaches" => {

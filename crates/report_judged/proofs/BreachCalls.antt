@@ -19,7 +19,8 @@ use Rattle.judge_text.specs.Rows.{table_text}
 use Rattle.report_judged.specs.declared.breach_finding.Found.{Found}
 use Rattle.report_judged.specs.BreachCall.{IsStopped, IsTold, is_some_breach, text_of}
 use Rattle.report_judged.specs.BreachForm.{Asked}
-use Rattle.report_judged.specs.BreachesFound.{AreFound, IsLogStop, IsReadFault, unknown_past}
+use Rattle.log_protocol.specs.Came.{unknown_past}
+use Rattle.report_judged.specs.BreachesFound.{AreFound, IsLogStop, IsReadFault}
 use Rattle.report_judged.specs.BreachesWritten.{IsWritten}
 
 -- a log that is read no further

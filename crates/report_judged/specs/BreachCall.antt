@@ -21,7 +21,8 @@ use Rattle.report_words.specs.Statuses.{status_of}
 use Rattle.judge_text.specs.Lines.{breaches_text}
 use Rattle.judge_text.specs.Rows.{table_text}
 use Rattle.report_judged.specs.BreachForm.{Asked, form_of}
-use Rattle.report_judged.specs.BreachesFound.{IsLogStop, IsReadFault, IsWriteFault, unknown_past}
+use Rattle.log_protocol.specs.Came.{unknown_past}
+use Rattle.report_judged.specs.BreachesFound.{IsLogStop, IsReadFault, IsWriteFault}
 
 -- there are some
 abbrev pub is_some_breach : List Breach → Bool

@@ -1,5 +1,5 @@
 -- The breaches of a log that is read at a site.
-use Rattle.std.specs.Prelude.{◌≡◌, ℕ, false, List, length, Some, None, Result, Ok, Err}
+use Rattle.std.specs.Prelude.{◌≡◌, ℕ, List, length, Some, None, Result, Ok, Err}
 use Rattle.sig_types.specs.Rules.{Rules}
 use Rattle.sig_types.specs.Turns.{Picture}
 use Rattle.log_judge.specs.declared.breach.Breach.{Breach}
@@ -15,11 +15,8 @@ use Rattle.site_load.specs.Loading.{Site}
 use Rattle.site_load.specs.declared.stop.SiteStop.TheVariants as site
 use Rattle.report_words.specs.declared.stop.JudgeStop.{JudgeStop}
 use Rattle.report_words.specs.declared.stop.JudgeStop.TheVariants.{Words, Memory, Site as Unsited, ReadFault, RefusedLine, WriteFault}
+use Rattle.log_protocol.specs.Came.{unknown_past}
 use Rattle.report_judged.specs.declared.breach_finding.Found.{Found}
-
--- how a log is judged of which the past is not known, with this tolerance
-abbrev pub unknown_past : ℕ → Terms
-unknown_past tolerance = record { rested = false; tolerance = tolerance }
 
 -- a log with these bytes, of groups with these names, is read no further for this
 abbrev pub IsLogStop : List (List ℕ) → (word bytes : List ℕ) → JudgeStop → Type 0

@@ -18,6 +18,7 @@ use Rattle.report_words.specs.Statuses.{status_of}
 use Rattle.log_read.specs.Answers.{IsFirst}
 use Rattle.log_read.specs.Readings.{IsPictures}
 use Rattle.log_read.specs.declared.begin.Begin.TheVariants.{Anywhere}
+use Rattle.judge_text.specs.declared.tick.Tick.TheVariants.{Second}
 use Rattle.log_protocol.specs.Texts.{page_text}
 use Rattle.report_judged.specs.ProtocolForm.{Asked, form_of}
 use Rattle.report_judged.specs.ProtocolGathered.{IsUnread}
@@ -31,7 +32,7 @@ pub record IsTextOf (asked : Asked) (file : Contents) (text : List ℕ) : Type 0
   pub log : IsPictures Anywhere site.plan.names (file asked.log) pictures None
   pub first : ℕ
   pub first_is : IsFirst Anywhere (file asked.log) pictures first
-  pub text_is : text ≡ page_text asked.style first site.plan.names site.rules pictures
+  pub text_is : text ≡ page_text Second asked.style first site.plan.names site.rules pictures
 
 -- why the log is not read to its end, of which the site is loaded
 abbrev pub IsLogStop : Asked → Contents → JudgeStop → Type 0

@@ -1,5 +1,5 @@
 // The call.
-ghost use Rattle.std.specs.Prelude.{◌≡◌, ◌≤◌, ◌⊎◌, ℕ, List, Option, OnErr, Ok, IsTrue, length, map, string_bytes};
+ghost use Rattle.std.specs.Prelude.{◌≡◌, ◌≤◌, ◌⊎◌, ℕ, List, Option, OnErr, Ok, IsTrue, length, map, string_bytes, IfErr, None};
 ghost use Rattle.std.specs.Option.{ForSome};
 ghost use Rattle.sig_io.specs.Draft.{IsDraft};
 ghost use Rattle.sig_io.specs.Outside.{Rose};
@@ -10,7 +10,7 @@ ghost use Rattle.site_load.specs.Sites.{site_of_tables};
 ghost use Rattle.judge_text.specs.Lines.{breaches_text};
 ghost use Rattle.judge_text.specs.Rows.{table_text};
 ghost use Rattle.report_judged.specs.BreachCall.{IsAnswered, IsReported, done_with, is_some_breach, text_of};
-ghost use Rattle.report_judged.specs.BreachForm.{asked_in};
+ghost use Rattle.report_judged.specs.BreachForm.{asked_in, form_of};
 ghost use Rattle.report_judged.specs.BreachesFound.{IsReadFault, IsWriteFault};
 ghost use Rattle.report_judged.specs.BreachesWritten.{IsWritten};
 
@@ -108,6 +108,7 @@ fn judge_at<'a, F: Files, O: Sink>(
     ensures judged { ForSome (F.told files.old) (λ file.
         site_of (asked_in form.now).site file ≡ Ok (site_of_tables tables.now) →
         IsAnswered (asked_in form.now) file result (O.taken out.old) (O.taken out.new)) }
+    ensures unwritten { IfErr result (λ stop. (stop ≡ JudgeStop.WriteFault → ⊥) → out.new ≡ out.old) }
     ensures contents_stay { F.told files.new ≡ F.told files.old }
     ensures later { F.faults files.old ≤ F.faults files.new }
     ensures read { IsReadFault result → Rose (F.faults files.old) (F.faults files.new) }
@@ -133,6 +134,7 @@ fn do_form<'a, F: Files, O: Sink>(
     requires tolerance { form.now.tolerance ≤ 9 }
     ensures answered { ForSome (F.told files.old) (λ file.
         IsAnswered (asked_in form.now) file result (O.taken out.old) (O.taken out.new)) }
+    ensures unwritten { IfErr result (λ stop. (stop ≡ JudgeStop.WriteFault → ⊥) → out.new ≡ out.old) }
     ensures contents_stay { F.told files.new ≡ F.told files.old }
     ensures read { IsReadFault result → Rose (F.faults files.old) (F.faults files.new) }
     ensures write { IsWriteFault result → Rose (O.faults out.old) (O.faults out.new) }
@@ -157,6 +159,7 @@ fn done_with(broken: bool) -> Status
 /// It writes each breach of the log by the plan and the tables, in words, or as a table with `--csv`. Of the time before the log
 /// nothing is known. The plan, the times, the intergreens and the log are read one after the other, each to its end, before the
 /// first byte is written; nothing is written where one is refused.
+/// No file is touched where the words are no form.
 pub fn report_breaches<F: Files, O: Sink, N: Sink>(
     alloc: Global,
     words: &[String],
@@ -169,6 +172,8 @@ pub fn report_breaches<F: Files, O: Sink, N: Sink>(
         (seen (O.taken out.old) (O.taken out.new) (O.faults out.old) (O.faults out.new))
         (seen (N.taken notes.old) (N.taken notes.new) (N.faults notes.old) (N.faults notes.new))
         result }
+    ensures unread { form_of (map string_bytes words.now) ≡ None → files.new ≡ files.old }
+    ensures unwritten { (result ≡ Status.Done → ⊥) → (result ≡ Status.Broken → ⊥) → (result ≡ Status.WriteFault → ⊥) → out.new ≡ out.old }
     ensures contents_stay { F.told files.new ≡ F.told files.old }
 {
     let Some(form) = form_of(words) else {

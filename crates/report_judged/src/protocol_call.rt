@@ -1,5 +1,5 @@
 // The call.
-ghost use Rattle.std.specs.Prelude.{◌≡◌, ◌≤◌, ◌⊎◌, ℕ, IsTrue, List, Ok, Option, length, map, string_bytes};
+ghost use Rattle.std.specs.Prelude.{◌≡◌, ◌≤◌, ◌⊎◌, ℕ, IsTrue, List, Ok, Option, length, map, string_bytes, IfErr, None};
 ghost use Rattle.std.specs.Option.{ForSome};
 ghost use Rattle.sig_io.specs.Draft.{IsDraft};
 ghost use Rattle.sig_io.specs.Outside.{Rose};
@@ -11,14 +11,16 @@ ghost use Rattle.log_protocol.specs.Page.{IsPageOf, groups_of};
 ghost use Rattle.log_protocol.specs.Texts.{page_text};
 ghost use Rattle.site_load.specs.Loading.{site_of};
 ghost use Rattle.site_load.specs.Sites.{site_of_tables};
-ghost use Rattle.report_judged.specs.ProtocolForm.{asked_in};
+ghost use Rattle.report_judged.specs.ProtocolForm.{asked_in, form_of};
 ghost use Rattle.report_judged.specs.ProtocolCall.{IsAnswered, IsReadFault, IsReported, IsWriteFault, IsWritten};
 
 use crate::protocol_form::{ProtocolForm, form_of};
 use crate::protocol_gathering::{Gathered, gather};
-use log_protocol::{Sheet, Style};
+use judge_text::Tick;
+use log_protocol::{Sheet, Style, Told, put_head};
 use report_words::{JudgeStop, Status, status_of, write_stop};
 use sig_io::{Draft, Files, Sink};
+use sig_tables::Limits;
 use site_load::{SiteTables, take_site};
 use std::alloc::Global;
 
@@ -26,6 +28,7 @@ use std::alloc::Global;
 fn end<'a, O: Sink>(draft: Draft, out: &mut O) -> Result<(), JudgeStop<'a>>
     ensures written { (start : Option (List ℕ)) (text : List ℕ) → IsDraft start (O.taken out.old) draft text →
         IsWritten text result start (O.taken out.new) }
+    ensures stop { IfErr result (λ stop. stop ≡ JudgeStop.WriteFault) }
     ensures cause { IsWriteFault result → IsTrue draft.failed ⊎ Rose (O.faults out.old) (O.faults out.new) }
     ensures no_read { IsReadFault result → ⊥ }
     ensures later { O.faults out.old ≤ O.faults out.new }
@@ -48,20 +51,30 @@ fn write_page<'a, O: Sink>(
     requires few { groups_in tables.now.plan ≤ 64 }
     requires groups { groups_of gathered.now.page ≡ groups_in tables.now.plan }
     ensures written { (pictures : History) → IsPageOf gathered.now.page pictures →
-        IsWritten (page_text style gathered.now.first tables.now.plan.names (rules_of tables.now.times tables.now.intergreens) pictures) result
+        IsWritten (page_text Tick.Second style gathered.now.first tables.now.plan.names (rules_of tables.now.times tables.now.intergreens) pictures) result
         (O.taken out.old) (O.taken out.new) }
+    ensures stop { IfErr result (λ stop. stop ≡ JudgeStop.WriteFault) }
     ensures cause { IsWriteFault result → Rose (O.faults out.old) (O.faults out.new) }
     ensures no_read { IsReadFault result → ⊥ }
 {
+    let limits = Limits::of(&tables.times, &tables.intergreens);
     let sheet = Sheet {
         style,
+        tick: Tick::Second,
         plan: &tables.plan,
-        times: &tables.times,
-        intergreens: &tables.intergreens,
+        limits: &limits,
         first: gathered.first,
-        page: &gathered.page,
+        told: Told::Page(&gathered.page),
     };
     let mut draft = Draft::new();
+    put_head(
+        &mut draft,
+        out,
+        Tick::Second,
+        style,
+        gathered.page.seconds(),
+        gathered.first,
+    );
     sheet.put(&mut draft, out);
     end(draft, out)
 }
@@ -78,6 +91,7 @@ fn tell_at<'a, F: Files, O: Sink>(
     requires intergreens { tables.now.intergreens.count ≡ groups_in tables.now.plan }
     ensures answered { ForSome (F.told files.old) (λ file. site_of (asked_in form.now).site file ≡ Ok (site_of_tables tables.now) →
         IsAnswered (asked_in form.now) file result (O.taken out.old) (O.taken out.new)) }
+    ensures unwritten { IfErr result (λ stop. (stop ≡ JudgeStop.WriteFault → ⊥) → out.new ≡ out.old) }
     ensures contents_stay { F.told files.new ≡ F.told files.old }
     ensures read { IsReadFault result → Rose (F.faults files.old) (F.faults files.new) }
     ensures write { IsWriteFault result → Rose (O.faults out.old) (O.faults out.new) }
@@ -98,6 +112,7 @@ fn do_form<'a, F: Files, O: Sink>(
 ) -> Result<(), JudgeStop<'a>>
     ensures answered { ForSome (F.told files.old) (λ file.
         IsAnswered (asked_in form.now) file result (O.taken out.old) (O.taken out.new)) }
+    ensures unwritten { IfErr result (λ stop. (stop ≡ JudgeStop.WriteFault → ⊥) → out.new ≡ out.old) }
     ensures contents_stay { F.told files.new ≡ F.told files.old }
     ensures read { IsReadFault result → Rose (F.faults files.old) (F.faults files.new) }
     ensures write { IsWriteFault result → Rose (O.faults out.old) (O.faults out.new) }
@@ -113,6 +128,7 @@ fn do_form<'a, F: Files, O: Sink>(
 /// It writes what came in the log, beside what the tables say: as lines, or as a table with `--csv`. Nothing is judged. Of the time
 /// before the log nothing is known. The plan, the times, the intergreens and the log are read one after the other, each to its end,
 /// before the first byte is written; nothing is written where one is refused.
+/// No file is touched where the words are no form.
 pub fn report_protocol<F: Files, O: Sink, N: Sink>(
     alloc: Global,
     words: &[String],
@@ -125,6 +141,8 @@ pub fn report_protocol<F: Files, O: Sink, N: Sink>(
         (seen (O.taken out.old) (O.taken out.new) (O.faults out.old) (O.faults out.new))
         (seen (N.taken notes.old) (N.taken notes.new) (N.faults notes.old) (N.faults notes.new))
         result }
+    ensures unread { form_of (map string_bytes words.now) ≡ None → files.new ≡ files.old }
+    ensures unwritten { (result ≡ Status.Done → ⊥) → (result ≡ Status.WriteFault → ⊥) → out.new ≡ out.old }
     ensures contents_stay { F.told files.new ≡ F.told files.old }
 {
     let Some(form) = form_of(words) else {

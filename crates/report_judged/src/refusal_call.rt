@@ -1,5 +1,5 @@
 // The call.
-ghost use Rattle.std.specs.Prelude.{◌≡◌, ◌≤◌, ◌⊎◌, ℕ, IsTrue, List, Ok, Option, length, map, string_bytes};
+ghost use Rattle.std.specs.Prelude.{◌≡◌, ◌≤◌, ◌⊎◌, ℕ, IsTrue, List, Ok, Option, length, map, string_bytes, IfErr, None};
 ghost use Rattle.std.specs.Option.{ForSome};
 ghost use Rattle.sig_io.specs.Draft.{IsDraft};
 ghost use Rattle.sig_io.specs.Outside.{Rose};
@@ -8,7 +8,7 @@ ghost use Rattle.pua_model.specs.Plan.{groups_in};
 ghost use Rattle.site_load.specs.Loading.{site_of};
 ghost use Rattle.site_load.specs.Sites.{site_of_tables};
 ghost use Rattle.refusal_text.specs.Kept.{told_text};
-ghost use Rattle.report_judged.specs.RefusalForm.{asked_in};
+ghost use Rattle.report_judged.specs.RefusalForm.{asked_in, form_of};
 ghost use Rattle.report_judged.specs.RefusalCall.{IsAnswered, IsReadFault, IsReported, IsWriteFault, IsWritten};
 
 use crate::refusal_finding::find_refusals;
@@ -62,6 +62,7 @@ fn tell_at<'a, F: Files, O: Sink>(
     requires intergreens { tables.now.intergreens.count ≡ groups_in tables.now.plan }
     ensures answered { ForSome (F.told files.old) (λ file. site_of (asked_in form.now).site file ≡ Ok (site_of_tables tables.now) →
         IsAnswered (asked_in form.now) file result (O.taken out.old) (O.taken out.new)) }
+    ensures unwritten { IfErr result (λ stop. (stop ≡ JudgeStop.WriteFault → ⊥) → out.new ≡ out.old) }
     ensures contents_stay { F.told files.new ≡ F.told files.old }
     ensures read { IsReadFault result → Rose (F.faults files.old) (F.faults files.new) }
     ensures write { IsWriteFault result → Rose (O.faults out.old) (O.faults out.new) }
@@ -82,6 +83,7 @@ fn do_form<'a, F: Files, O: Sink>(
 ) -> Result<(), JudgeStop<'a>>
     ensures answered { ForSome (F.told files.old) (λ file.
         IsAnswered (asked_in form.now) file result (O.taken out.old) (O.taken out.new)) }
+    ensures unwritten { IfErr result (λ stop. (stop ≡ JudgeStop.WriteFault → ⊥) → out.new ≡ out.old) }
     ensures contents_stay { F.told files.new ≡ F.told files.old }
     ensures read { IsReadFault result → Rose (F.faults files.old) (F.faults files.new) }
     ensures write { IsWriteFault result → Rose (O.faults out.old) (O.faults out.new) }
@@ -99,6 +101,7 @@ fn do_form<'a, F: Files, O: Sink>(
 /// with `--csv`. A log that begins with second 1 began at rest; of another one nothing is known of the time before it. The plan,
 /// the times, the intergreens and the log are read one after the other, each to its end, before the first byte is written;
 /// nothing is written where one is refused.
+/// No file is touched where the words are no form.
 pub fn report_refusals<F: Files, O: Sink, N: Sink>(
     alloc: Global,
     words: &[String],
@@ -111,6 +114,8 @@ pub fn report_refusals<F: Files, O: Sink, N: Sink>(
         (seen (O.taken out.old) (O.taken out.new) (O.faults out.old) (O.faults out.new))
         (seen (N.taken notes.old) (N.taken notes.new) (N.faults notes.old) (N.faults notes.new))
         result }
+    ensures unread { form_of (map string_bytes words.now) ≡ None → files.new ≡ files.old }
+    ensures unwritten { (result ≡ Status.Done → ⊥) → (result ≡ Status.WriteFault → ⊥) → out.new ≡ out.old }
     ensures contents_stay { F.told files.new ≡ F.told files.old }
 {
     let Some(form) = form_of(words) else {

@@ -1,5 +1,5 @@
 -- A search over the entries of a record.
-use Rattle.std.proofs.Common.{◌≡◌, ◌∙◌, ℕ, ◌+◌, ◌-◌, ◌<◌, ◌≤◌, false, List, [], ◌∷◌, ◌++◌, Option, None, Some, Result, Ok, Err, refl, sym, ap, subst, append_assoc, zero-add, arith}
+use Rattle.std.proofs.Common.{◌≡◌, ◌∙◌, ℕ, ◌+◌, ◌-◌, ◌<◌, ◌≤◌, List, [], ◌∷◌, ◌++◌, Option, None, Some, Err, refl, sym, ap, subst, append_assoc, arith}
 use Rattle.sig_types.specs.Rules.{Rules}
 use Rattle.report_words.specs.declared.stop.JudgeStop.TheVariants.{Words, Memory, Site, ReadFault, RefusedLine, WriteFault}
 use Rattle.tenth_records.specs.declared.entry.Entry.{Entry}
@@ -7,15 +7,14 @@ use Rattle.tenth_records.specs.declared.entry.Shown.{Shown}
 use Rattle.tenth_records.specs.declared.entry.Shown.TheVariants.{Picture, Unknown, End}
 use Rattle.tenth_records.specs.declared.entry.TenthStop.{TenthStop}
 use Rattle.tenth_records.specs.declared.entry.TenthStop.TheVariants as tenth
-use Rattle.tenth_records.specs.Answers.{IsNext, IsSized, told_end}
-use Rattle.tenth_records.specs.Parts.{is_known, parts_in, parts_of, pictures_from, unknown_in, unknown_to}
+use Rattle.tenth_records.specs.Answers.{IsNext, told_end}
+use Rattle.tenth_records.specs.Parts.{parts_in, parts_of, pictures_from, unknown_in, unknown_to}
 use Rattle.tenth_records.specs.Record.{Told, entry_then, first_or}
 use Rattle.tenth_report.specs.declared.search.Search.{Search}
 use Rattle.tenth_report.specs.declared.stop.RecordStop.{RecordStop}
 use Rattle.tenth_report.specs.declared.stop.RecordStop.TheVariants.{Judge, RefusedEntry}
-use Rattle.tenth_report.specs.Search.{AreFound, Fits, HasFound, HasRoom, HasTaken}
+use Rattle.tenth_report.specs.Search.{Fits, HasFound, HasRoom, HasTaken}
 use Rattle.tenth_report.specs.Stops.{IsReadFault, IsRecordStop, IsStopOf, IsWriteFault}
-use Rattle.tenth_report.proofs.Searching.{all_found}
 
 -- the search has taken all entries from this first time on, up to the earliest time that may follow
 abbrev pub FitsAt : Search → Option ℕ → ℕ → Type 0

@@ -1,6 +1,6 @@
 -- What is told of parts, one after another.
-use Rattle.std.proofs.Common.{◌≡◌, ◌∙◌, ℕ, ◌+◌, ◌<◌, ◌≤◌, zero, suc, Bool, true, false, List, [], ◌∷◌, ◌++◌, length, map, take, drop, get_or, refl, sym, ap, subst, append_assoc, add-one, arith}
-use Rattle.std.proofs.Math.ListN.{length-append, length-drop}
+use Rattle.std.proofs.Common.{◌≡◌, ◌∙◌, ℕ, ◌+◌, ◌<◌, ◌≤◌, zero, suc, Bool, true, false, List, [], ◌∷◌, ◌++◌, length, map, take, drop, get_or, refl, sym, ap, append_assoc, add-one, arith}
+use Rattle.std.proofs.Math.ListN.{length-append}
 use Rattle.std.proofs.Math.Seq.{drop-cons}
 use Rattle.std.proofs.lemmas.List.{append-nil}
 use Rattle.std.specs.List.{flat_map}
@@ -12,7 +12,8 @@ use Rattle.tenth_report.specs.declared.search.Found.{Found}
 use Rattle.tenth_report.specs.declared.search.JudgedPart.{JudgedPart}
 use Rattle.judge_text.specs.Rows.{columns_text}
 use Rattle.judge_text.specs.Sums.{sums_text}
-use Rattle.tenth_report.specs.Breaches.{all_breaches, known_in, part_breaches}
+use Rattle.log_protocol.specs.Parts.{known_in}
+use Rattle.tenth_report.specs.Breaches.{all_breaches, part_breaches}
 use Rattle.tenth_report.specs.Kept.{counted, found_text, kept_text}
 use Rattle.tenth_report.specs.Search.{AreFound, kept}
 use Rattle.tenth_report.specs.Told.{counts_text, part_text, part_told, table_of, text_of, words_of}

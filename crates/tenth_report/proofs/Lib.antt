@@ -4,4 +4,7 @@ pub mod KeptParts
 pub mod TablesLoad
 pub mod Notes
 pub mod Entries
+pub mod Gapped
+pub mod Paging
+pub mod Begun
 pub mod RecordCalls

@@ -17,8 +17,10 @@ use Rattle.tenth_records.specs.Parts.{Part, is_known, parts_in, parts_of, pictur
 use Rattle.tenth_records.specs.Record.{is_end}
 use Rattle.tenth_report.specs.declared.search.JudgedPart.{JudgedPart}
 use Rattle.tenth_report.specs.declared.search.Search.{Search}
-use Rattle.tenth_report.specs.Breaches.{all_breaches, known_in, part_breaches, unknown_past}
-use Rattle.tenth_report.specs.Search.{AreFound, Fits, HasFound, HasRoom, HasTaken, IsJudged, IsNew, kept, unknown_then, with_open}
+use Rattle.log_protocol.specs.Parts.{known_in}
+use Rattle.log_protocol.specs.Came.{unknown_past}
+use Rattle.tenth_report.specs.Breaches.{all_breaches, part_breaches}
+use Rattle.tenth_report.specs.Search.{AreFound, Fits, HasFound, HasRoom, HasTaken, IsJudged, IsNew, kept, unknown_then}
 use Rattle.tenth_report.proofs.Judging.{stands_count}
 
 -- no more tenths than of a week are counted up to a time
@@ -34,7 +36,7 @@ judged_room s to room known =
     let after = room.fits.after known in
     omega (arith, inside, after, room.later, room.week)
 
-both_of : (b : Bool) (P : Type 0) → (b ≡ true → P) → (b ≡ false → P) → P
+pub both_of : (b : Bool) (P : Type 0) → (b ≡ true → P) → (b ≡ false → P) → P
 both_of true P one other = one refl
 both_of false P one other = other refl
 

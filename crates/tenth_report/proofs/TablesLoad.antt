@@ -1,12 +1,11 @@
 -- What loading both tables stops at, and what it gives.
-use Rattle.std.proofs.Common.{◌≡◌, ◌∙◌, ℕ, List, Option, Ok, refl, sym, subst}
+use Rattle.std.proofs.Common.{◌≡◌, ◌∙◌, ℕ, List, Ok, sym, subst}
 use Rattle.sig_io.specs.Outside.{Contents}
 use Rattle.pua_model.specs.Plan.{PlanOf}
 use Rattle.sig_tables.specs.declared.times.TimesRow.{TimesRow}
 use Rattle.sig_tables.specs.Pairs.{Pairs, between}
 use Rattle.sig_tables.specs.SiteRules.{rules_by, rules_of}
 use Rattle.site_load.specs.declared.stop.SiteStop.{SiteStop}
-use Rattle.site_load.specs.Loading.{◌>>=◌}
 use Rattle.site_load.specs.Stop.{IsLoadStop}
 use Rattle.site_load.proofs.Loads.{goes_on, stop_along, stops_at}
 use Rattle.tenth_report.specs.Tables.{ReachedInTables, intergreens_at, rules_at, times_at}

@@ -1,4 +1,4 @@
--- What a call of `log_report breaches` of a record answers.
+-- What a call of `log_report breaches` or `log_report protocol` of a record answers.
 use Rattle.std.specs.Prelude.{◌≡◌, ◌⊎◌, ℕ, Bool, true, false, List, Option, None, Some, Result, Ok, Err}
 use Rattle.std.specs.Option.{ForSome}
 use Rattle.std.specs.Str.Lines.{lines}

@@ -1,19 +1,21 @@
 -- The words of a call.
-use Rattle.std.specs.Prelude.{ℕ, Bool, true, false, ◌||◌, List, [], ◌∷◌, codes, Option, None, Some, if◌then◌else◌}
-use Rattle.std.specs.Option.{option_map}
+use Rattle.std.specs.Prelude.{ℕ, ◌≤◌, Bool, true, false, ◌&&◌, ◌||◌, List, [], ◌∷◌, codes, Option, None, Some, is_none, if◌then◌else◌}
+use Rattle.std.specs.Option.{ForSome, option_map}
 use Rattle.std.specs.Str.{bytes_eq}
 use Rattle.sig_types.specs.Text.{within}
 use Rattle.sig_tables.specs.Amounts.{tenths_of}
 use Rattle.tenth_report.specs.declared.form.Options.{Options}
 use Rattle.tenth_report.specs.declared.form.RecordForm.{RecordForm}
+use Rattle.tenth_report.specs.declared.form.Task.{Task}
+use Rattle.tenth_report.specs.declared.form.Task.TheVariants.{Breaches, Protocol}
 
--- what the words ask for: the breaches of a record by two tables, with a tolerance in tenths for ambers and red-ambers, as a table or
--- in words
+-- what the words ask for: of a record by two tables its breaches, with a tolerance in tenths for ambers and red-ambers, or what came
+-- in it; as a table or in words
 pub record Asked : Type 0 where
   pub record_file : List ℕ
   pub times : List ℕ
   pub intergreens : List ℕ
-  pub tolerance : ℕ
+  pub task : Task
   pub csv : Bool
 
 -- what is asked for, as the program holds it
@@ -22,7 +24,7 @@ asked_in form = record {
   record_file = form.file.now;
   times = form.times.now;
   intergreens = form.intergreens.now;
-  tolerance = form.tolerance;
+  task = form.task;
   csv = form.csv;
 }
 
@@ -42,12 +44,12 @@ is_record_call [] = false
 -- the option with its number of seconds, 0 to 9 with at most one decimal, in tenths
 abbrev pub with_tolerance : List ℕ → List ℕ → Bool → Option Options
 with_tolerance option n csv =
-    if bytes_eq option (codes "--amber-tolerance") then option_map (λ t. record { tolerance = t; csv = csv }) (within 0 90 (tenths_of n))
+    if bytes_eq option (codes "--amber-tolerance") then option_map (λ t. record { tolerance = Some t; csv = csv }) (within 0 90 (tenths_of n))
     else None
 
 -- the one option without a number
 abbrev pub csv_alone : List ℕ → Option Options
-csv_alone word = if bytes_eq word (codes "--csv") then Some (record { tolerance = 0; csv = true }) else None
+csv_alone word = if bytes_eq word (codes "--csv") then Some (record { tolerance = None; csv = true }) else None
 
 -- both options, in either order
 abbrev pub three_words : List ℕ → List ℕ → List ℕ → Option Options
@@ -58,26 +60,48 @@ three_words first second third =
 
 -- the options behind the names of the files, each at most once: without them no tolerance, and words
 abbrev pub options_of : List (List ℕ) → Option Options
-options_of [] = Some (record { tolerance = 0; csv = false })
+options_of [] = Some (record { tolerance = None; csv = false })
 options_of (csv ∷ []) = csv_alone csv
 options_of (option ∷ n ∷ []) = with_tolerance option n false
 options_of (first ∷ second ∷ third ∷ []) = three_words first second third
 options_of (first ∷ second ∷ third ∷ fourth ∷ more) = None
 
--- three files with options
-abbrev pub asked_with : List ℕ → List ℕ → List ℕ → Options → Asked
-asked_with file times intergreens options = record {
+-- a tolerance in tenths is at most 9 seconds
+abbrev pub IsTask : Task → Type 0
+IsTask (Breaches tolerance) = tolerance ≤ 90
+IsTask Protocol = Unit {0}
+
+-- so is that of options
+abbrev pub AreOptions : Options → Type 0
+AreOptions options = ForSome options.tolerance (λ t. t ≤ 90)
+
+-- none where it isn't given
+abbrev pub or_none : Option ℕ → ℕ
+or_none None = 0
+or_none (Some tolerance) = tolerance
+
+-- what a word asks for with this tolerance, which breaches alone have
+abbrev pub task_of : List ℕ → Option ℕ → Option Task
+task_of word tolerance =
+    if bytes_eq word (codes "breaches") then Some (Breaches (or_none tolerance))
+    else if bytes_eq word (codes "protocol") && is_none tolerance then Some Protocol
+    else None
+
+-- three files with a task
+abbrev pub asked_with : List ℕ → List ℕ → List ℕ → Bool → Task → Asked
+asked_with file times intergreens csv task = record {
   record_file = file;
   times = times;
   intergreens = intergreens;
-  tolerance = options.tolerance;
-  csv = options.csv;
+  task = task;
+  csv = csv;
 }
 
--- breaches RECORD TIMES INTERGREENS and options
+-- breaches RECORD TIMES INTERGREENS or protocol RECORD TIMES INTERGREENS, and options
 abbrev pub form_by : List ℕ → List ℕ → List ℕ → List ℕ → Option Options → Option Asked
-form_by word file times intergreens options =
-    if bytes_eq word (codes "breaches") then option_map (asked_with file times intergreens) options else None
+form_by word file times intergreens None = None
+form_by word file times intergreens (Some options) =
+    option_map (asked_with file times intergreens options.csv) (task_of word options.tolerance)
 
 -- what the words after the program's name ask for
 abbrev pub form_of : List (List ℕ) → Option Asked

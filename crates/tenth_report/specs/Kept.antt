@@ -1,9 +1,15 @@
 -- The text of what was found.
-use Rattle.std.specs.Prelude.{ℕ, ◌+◌, Bool, true, false, List, [], ◌∷◌, ◌++◌, length, take, drop, if◌then◌else◌}
+use Rattle.std.specs.Prelude.{ℕ, ◌+◌, Bool, true, false, List, [], ◌∷◌, ◌++◌, take, drop, if◌then◌else◌}
 use Rattle.log_judge.specs.declared.breach.Breach.{Breach}
 use Rattle.judge_text.specs.Rows.{columns_text}
 use Rattle.judge_text.specs.Sums.{sums_text}
+use Rattle.sig_types.specs.Rules.{Rules}
+use Rattle.judge_text.specs.declared.tick.Tick.TheVariants.{Tenth}
+use Rattle.log_protocol.specs.Texts.{came_text, head_text, unknown_text}
+use Rattle.log_protocol.specs.Totals.{came_at}
+use Rattle.tenth_report.specs.declared.gathering.Gathered.{Gathered}
 use Rattle.tenth_report.specs.declared.search.Found.{Found}
+use Rattle.tenth_report.specs.Protocol.{style_of}
 use Rattle.tenth_report.specs.declared.search.JudgedPart.{JudgedPart}
 use Rattle.tenth_report.specs.Told.{counts_text, part_text}
 
@@ -31,3 +37,9 @@ kept_words names found =
 -- the text of what was found
 abbrev pub found_text : Bool → List (List ℕ) → Found → List ℕ
 found_text csv names found = if csv then kept_table names found else kept_words names found
+
+-- the text of what was gathered
+abbrev pub gathered_text : Bool → List (List ℕ) → Rules → Gathered → List ℕ
+gathered_text csv names rules gathered =
+    head_text Tenth (style_of csv) gathered.known gathered.first
+    ++ (came_text Tenth (style_of csv) 0 (came_at gathered.totals) names rules ++ unknown_text Tenth (style_of csv) gathered.unknown)

@@ -2,6 +2,10 @@ pub mod Form
 pub mod Tables
 pub mod Breaches
 pub mod Search
+pub mod Gaps
+pub mod Protocol
+pub mod Pages
+pub mod Gathering
 pub mod Told
 pub mod Kept
 pub mod Stops

@@ -19,7 +19,9 @@ use Rattle.tenth_records.specs.Record.{Told, is_end}
 use Rattle.tenth_report.specs.declared.search.Found.{Found}
 use Rattle.tenth_report.specs.declared.search.JudgedPart.{JudgedPart}
 use Rattle.tenth_report.specs.declared.search.Search.{Search}
-use Rattle.tenth_report.specs.Breaches.{all_breaches, known_in, part_breaches, unknown_past}
+use Rattle.log_protocol.specs.Parts.{known_in}
+use Rattle.log_protocol.specs.Came.{unknown_past}
+use Rattle.tenth_report.specs.Breaches.{all_breaches, part_breaches}
 
 -- the rules of tables in tenths
 abbrev pub rules_in : Numbers → Rules

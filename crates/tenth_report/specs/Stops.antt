@@ -1,5 +1,5 @@
 -- Why a call stopped, and how it ended.
-use Rattle.std.specs.Prelude.{◌≡◌, ℕ, List, ◌++◌, codes, Some, Result, Ok, Err}
+use Rattle.std.specs.Prelude.{◌≡◌, ℕ, List, codes, Some, Result, Ok, Err}
 use Rattle.site_load.specs.declared.stop.SiteStop.TheVariants as site
 use Rattle.report_words.specs.declared.status.Status.{Status}
 use Rattle.report_words.specs.declared.status.Status.TheVariants.{Refused}

@@ -1,5 +1,5 @@
 -- The tables by which a record is judged.
-use Rattle.std.specs.Prelude.{◌≡◌, ℕ, List, Option, Result, Ok, Err}
+use Rattle.std.specs.Prelude.{◌≡◌, ℕ, List, Option, Result, Ok}
 use Rattle.sig_io.specs.Outside.{Contents}
 use Rattle.sig_types.specs.Rules.{Rules}
 use Rattle.pua_model.specs.Plan.{PlanOf}

@@ -1,5 +1,5 @@
 -- What a call tells of a record.
-use Rattle.std.specs.Prelude.{◌≡◌, ℕ, ◌+◌, ◌==◌, Bool, true, false, List, [], ◌∷◌, ◌++◌, codes, length, None, Ok, if◌then◌else◌}
+use Rattle.std.specs.Prelude.{◌≡◌, ℕ, ◌==◌, Bool, true, false, List, [], ◌∷◌, ◌++◌, codes, length, None, Ok, if◌then◌else◌}
 use Rattle.std.specs.List.{flat_map}
 use Rattle.std.specs.Fmt.{decimal}
 use Rattle.std.specs.Str.Lines.{lines}
@@ -11,13 +11,18 @@ use Rattle.judge_text.specs.Ticks.{ticks_text}
 use Rattle.judge_text.specs.Rows.{columns_text, row_text}
 use Rattle.judge_text.specs.Lines.{line_text}
 use Rattle.judge_text.specs.Sums.{sums_text}
+use Rattle.tenth_records.specs.declared.entry.Entry.{Entry}
 use Rattle.tenth_records.specs.Answers.{record_told}
 use Rattle.tenth_records.specs.Header.{header_of}
 use Rattle.tenth_records.specs.Names.{plan_of_names}
 use Rattle.tenth_records.specs.Parts.{Part, parts_of, unknown_in}
 use Rattle.tenth_records.specs.Record.{Told}
-use Rattle.tenth_report.specs.Breaches.{all_breaches, known_in, part_breaches}
+use Rattle.log_protocol.specs.Parts.{known_in}
+use Rattle.tenth_report.specs.Breaches.{all_breaches, part_breaches}
+use Rattle.tenth_report.specs.declared.form.Task.{Task}
+use Rattle.tenth_report.specs.declared.form.Task.TheVariants.{Breaches, Protocol}
 use Rattle.tenth_report.specs.Form.{Asked}
+use Rattle.tenth_report.specs.Protocol.{protocol_of, style_of}
 use Rattle.tenth_report.specs.Tables.{rules_at}
 
 -- the breaches of a part whose first time is this and that has so many tenths: a row for each, or a line in words
@@ -60,6 +65,16 @@ abbrev pub is_some_breach : List Breach → Bool
 is_some_breach [] = false
 is_some_breach (x ∷ xs) = true
 
+-- the text that a task asks for, of a record with these entries
+abbrev pub told_of : Task → Bool → List (List ℕ) → Rules → List Entry → List ℕ
+told_of (Breaches tolerance) csv names rules entries = text_of csv names rules tolerance (parts_of entries) (unknown_in entries)
+told_of Protocol csv names rules entries = protocol_of (style_of csv) names rules entries
+
+-- a task asks for breaches, and there are some
+abbrev pub is_broken : Task → Rules → List Entry → Bool
+is_broken (Breaches tolerance) rules entries = is_some_breach (all_breaches rules tolerance (parts_of entries))
+is_broken Protocol rules entries = false
+
 -- The text that is asked for, of files with these contents, and whether there are breaches: the header of the record, the tables
 -- and the lines behind the header are accepted.
 pub record IsTold (asked : Asked) (file : Contents) (text : List ℕ) (broken : Bool) : Type 0 where
@@ -70,5 +85,5 @@ pub record IsTold (asked : Asked) (file : Contents) (text : List ℕ) (broken : 
   pub told : Told
   pub told_is : told ≡ record_told names (file asked.record_file)
   pub accepted : told.refused ≡ None
-  pub text_is : text ≡ text_of asked.csv names rules asked.tolerance (parts_of told.entries) (unknown_in told.entries)
-  pub broken_is : broken ≡ is_some_breach (all_breaches rules asked.tolerance (parts_of told.entries))
+  pub text_is : text ≡ told_of asked.task asked.csv names rules told.entries
+  pub broken_is : broken ≡ is_broken asked.task rules told.entries

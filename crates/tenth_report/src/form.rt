@@ -1,8 +1,18 @@
 // The words of a call.
 ghost use Rattle.std.specs.Prelude.{◌≡◌, ◌≤◌, None, Some, IfSome, MatchOption, map, string_bytes};
-ghost use Rattle.tenth_report.specs.Form.{asked_in, csv_alone, form_by, form_of, is_option, is_record_call, three_words, with_tolerance};
+ghost use Rattle.std.specs.Option.{ForSome};
+ghost use Rattle.tenth_report.specs.Form.{AreOptions, IsTask, asked_in, csv_alone, form_by, form_of, is_option, is_record_call, task_of, three_words, with_tolerance};
 
 use sig_tables::amount;
+
+/// What is asked of a record.
+#[derive(Clone, Copy)]
+pub(crate) enum Task {
+    /// Each breach, with the tenths of a second by which an amber or a red-amber may differ from its time, 0 to 90.
+    Breaches { tolerance: u32 },
+    /// What came.
+    Protocol,
+}
 
 /// What the words ask for.
 #[derive(Clone, Copy)]
@@ -13,8 +23,8 @@ pub(crate) struct RecordForm<'a> {
     pub(crate) times: &'a str,
     /// The table of intergreens.
     pub(crate) intergreens: &'a str,
-    /// By how many tenths of a second an amber or a red-amber may differ from its time, 0 to 90.
-    pub(crate) tolerance: u32,
+    /// What is told of them.
+    pub(crate) task: Task,
     /// Whether a table is written, and not words.
     pub(crate) csv: bool,
 }
@@ -22,7 +32,8 @@ pub(crate) struct RecordForm<'a> {
 /// What stands behind the names of the files.
 #[derive(Clone, Copy)]
 pub(crate) struct Options {
-    pub(crate) tolerance: u32,
+    /// The tolerance in tenths, where it's given.
+    pub(crate) tolerance: Option<u32>,
     pub(crate) csv: bool,
 }
 
@@ -47,11 +58,11 @@ pub fn is_record_call(words: &[String]) -> bool
 // `--csv`
 fn csv_alone(word: &str) -> Option<Options>
     ensures options { result ≡ csv_alone word.now }
-    ensures range { IfSome result (λ o. o.tolerance ≤ 90) }
+    ensures range { IfSome result AreOptions }
 {
     if word == "--csv" {
         Some(Options {
-            tolerance: 0,
+            tolerance: None,
             csv: true,
         })
     } else {
@@ -62,12 +73,12 @@ fn csv_alone(word: &str) -> Option<Options>
 // `--amber-tolerance N`
 fn with_tolerance(option: &str, n: &str, csv: bool) -> Option<Options>
     ensures options { result ≡ with_tolerance option.now n.now csv }
-    ensures range { IfSome result (λ o. o.tolerance ≤ 90) }
+    ensures range { IfSome result AreOptions }
 {
     if option == "--amber-tolerance" {
         match amount(n.as_bytes(), 0, 90) {
             Some(tolerance) => Some(Options {
-                tolerance: u32::from(tolerance),
+                tolerance: Some(u32::from(tolerance)),
                 csv,
             }),
             None => None,
@@ -80,7 +91,7 @@ fn with_tolerance(option: &str, n: &str, csv: bool) -> Option<Options>
 // Both, in either order.
 fn three_words(first: &str, second: &str, third: &str) -> Option<Options>
     ensures options { result ≡ three_words first.now second.now third.now }
-    ensures range { IfSome result (λ o. o.tolerance ≤ 90) }
+    ensures range { IfSome result AreOptions }
 {
     if first == "--csv" {
         with_tolerance(second, third, true)
@@ -91,6 +102,23 @@ fn three_words(first: &str, second: &str, third: &str) -> Option<Options>
     }
 }
 
+// What this word asks for with these options: only breaches have a tolerance.
+fn task_of(word: &str, tolerance: Option<u32>) -> Option<Task>
+    requires { ForSome tolerance (λ t. t ≤ 90) }
+    ensures task { result ≡ task_of word.now tolerance }
+    ensures range { IfSome result IsTask }
+{
+    if word == "breaches" {
+        return Some(Task::Breaches {
+            tolerance: tolerance.unwrap_or(0),
+        });
+    }
+    if word == "protocol" && tolerance.is_none() {
+        return Some(Task::Protocol);
+    }
+    None
+}
+
 // The form of this word, with three files and options.
 fn form_by<'a>(
     word: &str,
@@ -99,32 +127,28 @@ fn form_by<'a>(
     intergreens: &'a str,
     options: Option<Options>,
 ) -> Option<RecordForm<'a>>
-    requires { IfSome options (λ o. o.tolerance ≤ 90) }
+    requires { IfSome options AreOptions }
     ensures form { MatchOption result (form_by word.now record.now times.now intergreens.now options ≡ None)
         (λ f. form_by word.now record.now times.now intergreens.now options ≡ Some (asked_in f)) }
-    ensures range { IfSome result (λ f. f.tolerance ≤ 90) }
+    ensures range { IfSome result (λ f. IsTask f.task) }
 {
-    if word != "breaches" {
-        return None;
-    }
-    match options {
-        Some(options) => Some(RecordForm {
-            file: record,
-            times,
-            intergreens,
-            tolerance: options.tolerance,
-            csv: options.csv,
-        }),
-        None => None,
-    }
+    let options = options?;
+    let task = task_of(word, options.tolerance)?;
+    Some(RecordForm {
+        file: record,
+        times,
+        intergreens,
+        task,
+        csv: options.csv,
+    })
 }
 
 /// What the words after the program's name ask for: `breaches RECORD TIMES INTERGREENS`, and then `--amber-tolerance N` and
-/// `--csv`, in either order.
+/// `--csv`, in either order; or `protocol RECORD TIMES INTERGREENS`, and then `--csv`.
 pub(crate) fn form_of(words: &[String]) -> Option<RecordForm<'_>>
     ensures form { MatchOption result (form_of (map string_bytes words.now) ≡ None)
         (λ f. form_of (map string_bytes words.now) ≡ Some (asked_in f)) }
-    ensures range { IfSome result (λ f. f.tolerance ≤ 90) }
+    ensures range { IfSome result (λ f. IsTask f.task) }
 {
     match words {
         [word, record, times, intergreens] => form_by(
@@ -133,7 +157,7 @@ pub(crate) fn form_of(words: &[String]) -> Option<RecordForm<'_>>
             times.as_str(),
             intergreens.as_str(),
             Some(Options {
-                tolerance: 0,
+                tolerance: None,
                 csv: false,
             }),
         ),

@@ -54,8 +54,8 @@ pub(crate) struct Search {
     pub(crate) tolerance: u32,
 }
 
-// Whether a picture is shown.
-fn is_known(shown: &Shown) -> bool
+/// Whether a picture is shown.
+pub(crate) fn is_known(shown: &Shown) -> bool
     ensures { result ≡ is_known shown.now }
 {
     match shown {

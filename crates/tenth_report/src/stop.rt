@@ -13,7 +13,7 @@ use tenth_records::{TenthStop, TenthWhy};
 
 /// Why a call ended before all was done. A file goes by its word, and its lines count from 1.
 #[derive(Drop)]
-pub(crate) enum RecordStop<'a> {
+pub enum RecordStop<'a> {
     /// What stops a call that judges a log.
     Judge(JudgeStop<'a>),
     /// A line of the record is refused.

@@ -6,7 +6,8 @@ use Rattle.log_judge.specs.Stands.{terms_of}
 use Rattle.log_read.specs.Answers.{IsFirst, first_given}
 use Rattle.log_read.specs.Readings.{IsPictures}
 use Rattle.log_read.specs.declared.begin.Begin.TheVariants.{Anywhere}
-use Rattle.report_judged.specs.BreachesFound.{IsLogStop, unknown_past}
+use Rattle.log_protocol.specs.Came.{unknown_past}
+use Rattle.report_judged.specs.BreachesFound.{IsLogStop}
 use Rattle.report_judged.proofs.BreachReading.{stands_count}
 use Rattle.report_judged.proofs.breach_finding.find_breaches.Goals as goal
 

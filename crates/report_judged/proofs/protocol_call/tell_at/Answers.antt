@@ -1,6 +1,7 @@
 use Rattle.std.proofs.Common.{refl}
 use Rattle.sig_tables.specs.SiteRules.{rules_of}
 use Rattle.site_load.specs.Sites.{site_of_tables}
+use Rattle.judge_text.specs.declared.tick.Tick.TheVariants.{Second}
 use Rattle.log_protocol.specs.Texts.{page_text}
 use Rattle.report_judged.specs.ProtocolCall.{IsTextOf}
 use Rattle.report_judged.specs.ProtocolForm.{asked_in}
@@ -15,7 +16,7 @@ returns-in-Ok-clause-answered g c file told = λ loaded.
     let form = c.args.form.now in
     let gathered = c.in-Ok.gathered in
     let is : IsGathered t.plan.names (file form.log.now) gathered = c.in-Ok.ensures.gathering file told in
-    let text_of : IsTextOf (asked_in form) file (page_text form.style gathered.first t.plan.names (rules_of t.times t.intergreens) is.pictures) = record {
+    let text_of : IsTextOf (asked_in form) file (page_text Second form.style gathered.first t.plan.names (rules_of t.times t.intergreens) is.pictures) = record {
       site = site_of_tables t;
       loaded = loaded;
       pictures = is.pictures;
@@ -24,7 +25,7 @@ returns-in-Ok-clause-answered g c file told = λ loaded.
       first_is = is.first;
       text_is = refl;
     } in
-    answered (asked_in form) file (page_text form.style gathered.first t.plan.names (rules_of t.times t.intergreens) is.pictures)
+    answered (asked_in form) file (page_text Second form.style gathered.first t.plan.names (rules_of t.times t.intergreens) is.pictures)
     c.write_page.result _ _ text_of (c.write_page.ensures.written is.pictures is.page)
 
 pub returns-in-Err-clause-answered : goal.returns-in-Err-clause-answered

@@ -3,11 +3,10 @@ use Rattle.site_load.specs.Stop.{IsLoadStop}
 use Rattle.pua_model.specs.Plan.{PlanOf}
 use Rattle.tenth_records.specs.Answers.{record_told}
 use Rattle.tenth_records.specs.Names.{plan_of_names}
-use Rattle.tenth_report.specs.declared.tables.RecordTables.{RecordTables}
 use Rattle.tenth_report.specs.Form.{asked_in}
 use Rattle.tenth_report.specs.Tables.{ReachedInTables, rules_at, rules_by_tables}
 use Rattle.tenth_report.proofs.Entries.{fault_of, no_write_of}
-use Rattle.tenth_report.proofs.RecordCalls.{open_stopped, site_fault}
+use Rattle.tenth_report.proofs.RecordCalls.{open_stopped}
 use Rattle.tenth_report.proofs.call.do_form.Goals as goal
 
 pub returns-in-Err-clause-answered : goal.returns-in-Err-clause-answered
@@ -43,7 +42,7 @@ returns-clause-answered g c = λ file e.
     let e2 = c.take_tables.ensures.contents_stay ∙ e1 in
     let named : c.in-Ok.opened.1 ≡ plan_of_names c.in-Ok.opened.1.names = c.in-Ok.ensures.plan in
     let plan : c.in-Ok-take_tables.tables.plan ≡ c.in-Ok.opened.1 = c.in-Ok-take_tables.ensures.plan in
-    c.judge_record.ensures.judged file e2
+    c.do_task.ensures.done file e2
     (opened.0 ∙ ap (λ (p : PlanOf). Ok p.names) (sym plan))
     (subst (λ (p : PlanOf). rules_at file form.times.now form.intergreens.now p ≡ Ok (rules_by_tables c.in-Ok-take_tables.tables))
     (named ∙ ap (λ (p : PlanOf). plan_of_names p.names) (sym plan)) (c.in-Ok-take_tables.ensures.tables file e1))

@@ -20,7 +20,7 @@ returns-in-Err-clause-judged g c = λ file e header tables left.
 pub write_found-requires : goal.write_found-requires
 write_found-requires g c =
     let s = c.in-Ok.ensures.found in
-    found_count (rules_by_tables c.args.tables.now) c.args.form.now.tolerance s.entries c.in-Ok.found s.are
+    found_count (rules_by_tables c.args.tables.now) c.args.tolerance s.entries c.in-Ok.found s.are
 
 pub returns-in-Ok-write_found-clause-judged : goal.returns-in-Ok-write_found-clause-judged
 returns-in-Ok-write_found-clause-judged g c = λ file e header tables left.
@@ -33,7 +33,7 @@ returns-in-Ok-write_found-clause-judged g c = λ file e header tables left.
     sym (ap (λ n. left_told c.args.record.now (file n)) name ∙ left) ∙ s.read file e in (
       found_text asked.csv names f,
       (
-        told asked file names (rules_by_tables c.args.tables.now) s.entries f c.is_some.result header tables read s.are
+        told asked file names (rules_by_tables c.args.tables.now) c.args.tolerance s.entries f c.is_some.result c.requires.task header tables read s.are
             (c.is_some.ensures ∙ ap is_some_breach c.deref.ensures.value),
         c.in-Ok-write_found.ensures.written,
       ),
@@ -49,7 +49,7 @@ returns-clause-judged g c = λ file e header tables left.
     let read : record_told names (file c.args.form.now.file.now) ≡ record { entries = s.entries; refused = None } =
     sym (ap (λ n. left_told c.args.record.now (file n)) name ∙ left) ∙ s.read file e in
     cut_short asked file (found_text asked.csv names f) (is_some_breach f.breaches.items) c.in-Err-write_found.stop _ _
-    (told asked file names (rules_by_tables c.args.tables.now) s.entries f (is_some_breach f.breaches.items) header tables read s.are refl)
+    (told asked file names (rules_by_tables c.args.tables.now) c.args.tolerance s.entries f (is_some_breach f.breaches.items) c.requires.task header tables read s.are refl)
     c.in-Err-write_found.ensures.written
 
 pub returns-clause-read : goal.returns-clause-read

@@ -1,14 +1,12 @@
-use Rattle.std.proofs.Common.{◌≡◌, ◌∙◌, ◌≤◌, ◌++◌, ◌∷◌, [], ℕ, List, None, Some, Ok, refl, sym, ap, subst, arith}
+use Rattle.std.proofs.Common.{◌≡◌, ◌∙◌, ◌++◌, ◌∷◌, [], None, Some, Ok, refl, sym, subst, arith}
 use Rattle.sig_io.specs.Outside.{Contents}
-use Rattle.tenth_records.specs.declared.entry.Entry.{Entry}
 use Rattle.tenth_records.specs.declared.entry.Shown.{Shown}
-use Rattle.tenth_records.specs.declared.entry.Shown.TheVariants.{End}
 use Rattle.tenth_records.specs.Answers.{Follows, IsNext, IsSized, first_of, groups_of, left_told, name_of, next_of, told_end}
 use Rattle.tenth_records.specs.Parts.{parts_of, unknown_in}
-use Rattle.tenth_records.specs.Record.{Told, entry_then}
+use Rattle.tenth_records.specs.Record.{entry_then}
 use Rattle.log_judge.specs.Stands as stands
 use Rattle.tenth_report.specs.Search.{AreFound, rules_in}
-use Rattle.tenth_report.proofs.Entries.{FitsAt, fits_next, one_taken, read_on, read_whole, refused_on, room_at, whole_taken}
+use Rattle.tenth_report.proofs.Entries.{fits_next, one_taken, read_on, read_whole, refused_on, room_at, whole_taken}
 use Rattle.tenth_report.proofs.Searching.{all_found, first_fits, none_taken}
 use Rattle.tenth_report.proofs.finding.find_within.Goals as goal
 

@@ -1,4 +1,4 @@
-use Rattle.std.proofs.Common.{◌≡◌, ◌≤◌, ◌++◌, ℕ, true, List, length, Some}
+use Rattle.std.proofs.Common.{◌≡◌, ◌≤◌, ◌++◌, true, List, length, Some}
 use Rattle.sig_io.specs.Outside.{Contents}
 use Rattle.tenth_records.specs.declared.entry.Entry.{Entry}
 use Rattle.tenth_records.specs.Answers.{first_of, groups_of, is_live, left_told, name_of, next_of}

@@ -1,18 +1,13 @@
-use Rattle.std.proofs.Common.{◌≡◌, ◌<◌, ◌≤◌, rules, ℕ, Bool, true, false, List, [], ◌∷◌, length, map, Option, None, string_bytes, Global, refl, arith, codes}
-use Rattle.std.specs.Prelude.{if◌then◌else◌, ◌⊎◌}
+use Rattle.std.proofs.Common.{◌≡◌, ◌<◌, ◌≤◌, rules, ℕ, List, [], ◌∷◌, length, map, None, string_bytes, Global, refl, arith}
+use Rattle.std.specs.Prelude.{◌⊎◌}
 use Rattle.std.proofs.Common.{inl, inr}
 use Rattle.std.proofs.lemmas.List.{length-map}
-use Rattle.std.specs.Str.{bytes_eq}
-use Rattle.tenth_report.specs.Form.{Asked, form_of}
+use Rattle.tenth_report.specs.Form.{form_of}
 use Rattle.tenth_report.proofs.form.form_of.Goals.{
   in_default-via-then-words-lt4,
   in_default-via-else-words-lt4+else-words-lt5+else-words-lt6+else-words-lt7+else-words-lt8,
 }
 use Rattle.tenth_report.proofs.form.form_of.Goals as goal
-
-either_none : (b : Bool) → (let none : Option Asked = None in if b then none else none) ≡ None
-either_none true = refl
-either_none false = refl
 
 -- no form has fewer words than four, or more than seven
 no_form : (words : List (List ℕ)) → (length words < 4) ⊎ (8 ≤ length words) → form_of words ≡ None
@@ -24,7 +19,7 @@ no_form (a ∷ b ∷ c ∷ d ∷ []) out = absurd (omega (arith, out))
 no_form (a ∷ b ∷ c ∷ d ∷ e ∷ []) out = absurd (omega (arith, out))
 no_form (a ∷ b ∷ c ∷ d ∷ e ∷ f ∷ []) out = absurd (omega (arith, out))
 no_form (a ∷ b ∷ c ∷ d ∷ e ∷ f ∷ g ∷ []) out = absurd (omega (arith, out))
-no_form (a ∷ b ∷ c ∷ d ∷ e ∷ f ∷ g ∷ h ∷ words) out = either_none (bytes_eq a (codes "breaches"))
+no_form (a ∷ b ∷ c ∷ d ∷ e ∷ f ∷ g ∷ h ∷ words) out = refl
 
 pub returns-in_default-clause-form : goal.returns-in_default-clause-form
 returns-in_default-clause-form c =

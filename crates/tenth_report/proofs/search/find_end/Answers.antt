@@ -1,4 +1,4 @@
-use Rattle.std.proofs.Common.{◌≡◌, ◌≤◌, ◌∙◌, length, arith}
+use Rattle.std.proofs.Common.{◌≡◌, ◌≤◌, length, arith}
 use Rattle.log_judge.specs.Stands.{terms_of}
 use Rattle.tenth_report.specs.Search.{rules_in}
 use Rattle.tenth_report.proofs.Judging.{stands_count, with_last, with_none}

@@ -1,4 +1,4 @@
-use Rattle.std.proofs.Common.{◌≡◌, ◌+◌, ◌≤◌, ◌++◌, [], ◌∷◌, ℕ, length, take, drop, get_or, refl, sym, arith}
+use Rattle.std.proofs.Common.{◌+◌, ◌≤◌, ◌++◌, [], length, take, drop, get_or, refl, sym, arith}
 use Rattle.sig_io.proofs.Drafts.{nothing, same_put, then}
 use Rattle.tenth_report.specs.declared.search.JudgedPart.{JudgedPart}
 use Rattle.tenth_report.specs.Kept.{counted, kept_text}

@@ -1,10 +1,10 @@
-use Rattle.std.proofs.Common.{◌≡◌, ◌∙◌, ℕ, suc, ◌+◌, ◌-◌, ◌*◌, ◌<◌, ◌≤◌, List, [], ◌∷◌, ◌++◌, length, arith, sym, ap, subst}
+use Rattle.std.proofs.Common.{◌≡◌, ◌∙◌, ℕ, ◌+◌, ◌*◌, ◌<◌, [], ◌∷◌, ◌++◌, length, arith, sym, ap, subst}
 use Rattle.std.proofs.Math.ListN.{length-append}
-use Rattle.sig_types.specs.Turns.{History, Picture, shown}
+use Rattle.sig_types.specs.Turns.{shown}
 use Rattle.log_judge.specs.declared.find.Terms.{Terms}
 use Rattle.log_judge.specs.HasCame.{HasCame}
 use Rattle.log_judge.specs.Stands as stands
-use Rattle.log_protocol.specs.Page.{HasPage, IsPageOf, groups_of, seconds_of}
+use Rattle.log_protocol.specs.Page.{IsPageOf, groups_of, seconds_of}
 use Rattle.log_protocol.specs.Steps.{together_at, with_both}
 use Rattle.log_protocol.proofs.Adding.{together_more}
 use Rattle.log_protocol.proofs.page.Page.add.Goals as goal

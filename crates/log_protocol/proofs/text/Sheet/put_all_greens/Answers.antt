@@ -1,4 +1,3 @@
-use Rattle.std.proofs.Common.{ℕ, List, arith}
 use Rattle.sig_io.proofs.Drafts.{nothing, then}
 use Rattle.log_protocol.proofs.Gathered.{gather_more}
 use Rattle.log_protocol.proofs.text.Sheet.put_all_greens.Goals as goal

@@ -1,13 +1,12 @@
-use Rattle.std.proofs.Common.{◌≡◌, ℕ, List, Option}
 use Rattle.sig_io.specs.Draft.{Puts}
-use Rattle.sig_tables.specs.SiteRules.{rules_of}
 use Rattle.pua_model.specs.Plan.{groups_in}
 use Rattle.log_protocol.specs.Came.{gather}
-use Rattle.log_protocol.specs.Page.{came_on}
+use Rattle.log_protocol.specs.Sheet.{rules_on}
+use Rattle.log_protocol.specs.Told.{came_by}
 use Rattle.log_protocol.specs.Texts.{greens_text}
 use Rattle.log_protocol.proofs.text.Sheet.put_all_greens.Given as goal
 
 abbrev pub invariant-loop-g : goal.invariant-loop-g
 invariant-loop-g g l =
     Puts g.O.Sink.taken g.O.Sink.faults l.fn.draft l.draft l.fn.sink l.sink
-    (gather (λ g. gather (λ i. greens_text l.self.style l.self.first (came_on l.self.page.now) l.self.plan.now.names (rules_of l.self.times.now l.self.intergreens.now) g i) (groups_in l.self.plan.now)) l.g)
+    (gather (λ g. gather (λ i. greens_text l.self.tick l.self.style l.self.first (came_by l.self.told) l.self.plan.now.names (rules_on l.self) g i) (groups_in l.self.plan.now)) l.g)

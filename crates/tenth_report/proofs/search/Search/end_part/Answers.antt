@@ -1,5 +1,5 @@
-use Rattle.std.proofs.Common.{◌≡◌, ◌∙◌, ◌-◌, List, refl, length, true, rules, arith}
-use Rattle.log_judge.specs.Stands.{groups_of, seconds_of}
+use Rattle.std.proofs.Common.{◌≡◌, ◌-◌, refl, length, true, rules, arith}
+use Rattle.log_judge.specs.Stands.{groups_of}
 use Rattle.tenth_records.specs.Parts.{is_known}
 use Rattle.tenth_report.specs.declared.search.JudgedPart.{JudgedPart}
 use Rattle.tenth_report.specs.Search.{rules_in}

@@ -1,4 +1,4 @@
-use Rattle.std.proofs.Common.{◌≡◌, ◌∷◌}
+use Rattle.std.proofs.Common.{◌∷◌}
 use Rattle.tenth_records.specs.Parts.{is_known, parts_in, parts_of, pictures_from, unknown_in}
 use Rattle.tenth_report.specs.Search.{rules_in}
 use Rattle.tenth_report.proofs.Searching.{taken_next, turned_at}
