@@ -1,6 +1,6 @@
 -- Numbers that name stages give commands of the plan, and so does the stage that is active before a second's commands.
-use Rattle.std.proofs.Common.{◌≡◌, ◌≤◌, ◌+◌, ◌==◌, ◌&&◌, ◌||◌, ◌<◌, ◌++◌, All, ℕ, zero, suc, pos, Bool, true, false, List, [], ◌∷◌, Some, None, is_some, nat_le, nat_lt, if◌then◌else◌, length, get_or, refl, subst, arith}
-use Rattle.std.proofs.lemmas.Bool.{eqb-true, leb-true, ltb-false, ltb-true}
+use Rattle.std.proofs.Common.{◌≡◌, ◌≤◌, ◌+◌, ◌==◌, ◌&&◌, ◌||◌, ◌++◌, ◌∙◌, All, ℕ, pos, Bool, true, false, List, [], ◌∷◌, Some, None, is_some, nat_le, if◌then◌else◌, length, refl, sym, arith}
+use Rattle.std.proofs.lemmas.Bool.{eqb-true, leb-true}
 use Rattle.std.proofs.lemmas.List.Elements.{All-push, All-same}
 use Rattle.sig_types.specs.declared.numbers.Command.{Command}
 use Rattle.sig_types.specs.declared.numbers.StagePlace.{StagePlace}
@@ -15,7 +15,7 @@ use Rattle.controller.specs.Past.{Past}
 use Rattle.controller.specs.World.{place_before}
 use Rattle.controller.specs.declared.controller.Controller.{Controller}
 use Rattle.junction_calls.specs.declared.commands.GivenCommands.{GivenCommands}
-use Rattle.junction_calls.specs.Given.{HasActive, are_stages, are_wishes, is_named, is_stage_or_none, is_wish}
+use Rattle.junction_calls.specs.Given.{HasActive, are_stages, are_wishes, is_named, is_stage_or_none}
 
 named_there : (plan : PlanOf) (n : ℕ) → is_some (stage_of plan (pos n)) ≡ true → HasStage plan n
 unfolding stage_of
@@ -60,39 +60,40 @@ pub one_more_named : (plan : PlanOf) (old pushed : List Command) (command : Comm
 one_more_named plan old pushed command is before named =
     All-same (IsCommand plan) pushed (old ++ command ∷ []) is (All-push (IsCommand plan) old command before named)
 
--- of wishes that are all named each one is
-wishes_below : (plan : PlanOf) (numbers : List ℕ) (n : ℕ) → are_wishes plan numbers n ≡ true → (p : ℕ) → p < n → is_wish plan p (get_or numbers p 0) ≡ true
-wishes_below plan numbers zero are p lt = absurd (omega (arith, lt))
-wishes_below plan numbers (suc n) are p lt = go (nat_lt p n) refl (λ below. wishes_below plan numbers n parts.0 p below)
-  where
-    parts : (are_wishes plan numbers n ≡ true) × (is_wish plan n (get_or numbers n 0) ≡ true)
-    parts = both_true (are_wishes plan numbers n) (is_wish plan n (get_or numbers n 0)) are
+and_all : (a b c : Bool) → (a && b) ≡ true → (a && (b && c)) ≡ c
+and_all true true c is = refl
+and_all true false c is = cc
+and_all false b c is = cc
 
-    go : (b : Bool) → nat_lt p n ≡ b → (p < n → is_wish plan p (get_or numbers p 0) ≡ true) → is_wish plan p (get_or numbers p 0) ≡ true
-    go true test earlier = earlier (ltb-true p n test)
-    go false test earlier =
-        let same : n ≡ p = omega (arith, lt, ltb-false p n test) in
-        subst (λ m. is_wish plan m (get_or numbers m 0) ≡ true) same parts.1
+and_none : (a b c : Bool) → (a && b) ≡ false → (a && (b && c)) ≡ false
+and_none true true c is = cc
+and_none true false c is = refl
+and_none false b c is = refl
 
-later_named : (plan : PlanOf) (given : GivenCommands) → is_named plan given ≡ true →
-    (is_stage_or_none plan given.stage && are_wishes plan given.groups 64) ≡ true
-later_named plan given named =
-    (both_true (are_stages plan given.from given.to) (is_stage_or_none plan given.stage && are_wishes plan given.groups 64) named).1
+and_true : (a b c : Bool) → c ≡ true → (a && b) ≡ (a && (b && c))
+and_true true true c is = sym is
+and_true true false c is = refl
+and_true false b c is = refl
 
--- the parts of commands whose numbers all name something
-pub stage_of_named : (plan : PlanOf) (given : GivenCommands) → is_named plan given ≡ true → is_stage_or_none plan given.stage ≡ true
-stage_of_named plan given named =
-    (both_true (is_stage_or_none plan given.stage) (are_wishes plan given.groups 64) (later_named plan given named)).0
+-- numbers name what there is where those of the stages do and those of the groups do
+pub all_named : (plan : PlanOf) (given : GivenCommands) (stages groups : Bool) →
+    stages ≡ (are_stages plan given.from given.to && is_stage_or_none plan given.stage) → stages ≡ true → groups ≡ are_wishes plan given.groups 64 →
+    groups ≡ is_named plan given
+all_named plan given stages groups is there wishes =
+    wishes ∙ sym (and_all (are_stages plan given.from given.to) (is_stage_or_none plan given.stage) (are_wishes plan given.groups 64) (sym is ∙ there))
 
-pub wishes_of_named : (plan : PlanOf) (given : GivenCommands) → is_named plan given ≡ true → (p : ℕ) → p < 64 →
-    is_wish plan p (get_or given.groups p 0) ≡ true
-wishes_of_named plan given named =
-    wishes_below plan given.groups 64
-    (both_true (is_stage_or_none plan given.stage) (are_wishes plan given.groups 64) (later_named plan given named)).1
+-- where those of the stages don't, they don't
+pub none_named : (plan : PlanOf) (given : GivenCommands) (stages : Bool) →
+    stages ≡ (are_stages plan given.from given.to && is_stage_or_none plan given.stage) → stages ≡ false → stages ≡ is_named plan given
+none_named plan given stages is not_there =
+    not_there ∙ sym (and_none (are_stages plan given.from given.to) (is_stage_or_none plan given.stage) (are_wishes plan given.groups 64) (sym is ∙ not_there))
 
--- what was told of all groups is what is told of 64
-pub of_all : (plan : PlanOf) (numbers : List ℕ) (n : ℕ) (all : Bool) → n ≡ 64 → all ≡ are_wishes plan numbers n → all ≡ are_wishes plan numbers 64
-of_all plan numbers n all same is = subst (λ m. all ≡ are_wishes plan numbers m) same is
+-- where nothing is wished of a group those of the stages decide
+pub silent_named : (plan : PlanOf) (given : GivenCommands) (stages : Bool) →
+    stages ≡ (are_stages plan given.from given.to && is_stage_or_none plan given.stage) → are_wishes plan given.groups 64 ≡ true →
+    stages ≡ is_named plan given
+silent_named plan given stages is wishes =
+    is ∙ and_true (are_stages plan given.from given.to) (is_stage_or_none plan given.stage) (are_wishes plan given.groups 64) wishes
 
 until_later : (plan : PlanOf) (orders : List Order) (k n : ℕ) → k ≤ n → Until plan orders k → Until plan orders n
 until_later plan [] k n le until = tt

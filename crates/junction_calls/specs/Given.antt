@@ -1,5 +1,5 @@
 -- The commands that plain numbers give, and a second by them.
-use Rattle.std.specs.Prelude.{◌≡◌, ◌==◌, ◌&&◌, ◌||◌, ◌↔◌, ◌⊎◌, ℕ, zero, suc, pos, Bool, true, false, List, [], ◌∷◌, ◌++◌, is_some, if◌then◌else◌, nat_lt, nat_le, slice_index_or}
+use Rattle.std.specs.Prelude.{◌≡◌, ◌+◌, ◌==◌, ◌&&◌, ◌||◌, ◌↔◌, ◌⊎◌, ℕ, zero, suc, pos, Bool, true, false, List, [], ◌∷◌, ◌++◌, is_some, if◌then◌else◌, nat_lt, nat_le, slice_index_or}
 use Rattle.sig_types.specs.declared.numbers.Command.{Command}
 use Rattle.sig_types.specs.declared.numbers.Command.TheVariants.{Interstage, SgGreen, SgRed}
 use Rattle.sig_types.specs.declared.numbers.StagePlace.{StagePlace}
@@ -34,6 +34,11 @@ is_wish plan group number = (number == 0) || (nat_lt group (groups_in plan) && n
 abbrev pub are_wishes : PlanOf → List ℕ → ℕ → Bool
 are_wishes plan numbers zero = true
 are_wishes plan numbers (suc n) = are_wishes plan numbers n && is_wish plan n (slice_index_or numbers n 0)
+
+-- what the numbers of the groups below n add up to
+abbrev pub sum_below : List ℕ → ℕ → ℕ
+sum_below numbers zero = 0
+sum_below numbers (suc n) = sum_below numbers n + slice_index_or numbers n 0
 
 -- all numbers name what the plan has
 abbrev pub is_named : PlanOf → GivenCommands → Bool
