@@ -1,5 +1,5 @@
 -- Commands for interstages that are given in another stage than the one from which they lead.
-use Rattle.std.specs.Prelude.{ℕ, ℤ, if◌then◌else◌, List, [], ◌∷◌, ◌++◌, Option, Some, None, flat_map}
+use Rattle.std.specs.Prelude.{ℕ, ℤ, Bool, true, false, ◌||◌, if◌then◌else◌, List, [], ◌∷◌, ◌++◌, Option, Some, None, flat_map}
 use Rattle.std.specs.Ordering.{int_eq}
 use Rattle.sig_types.specs.declared.kinds.CommandKind.{CommandKind}
 use Rattle.sig_types.specs.declared.kinds.CommandKind.TheVariants as command
@@ -21,6 +21,32 @@ use Rattle.program_check.specs.Counted.{is_kind_of_command, is_kind_of_reading}
 abbrev pub or_else : Option ℤ → Option ℤ → Option ℤ
 or_else (Some stage) other = Some stage
 or_else None other = other
+
+abbrev mutual
+  -- a label stands in one of a statement's branches
+  pub stmt_labelled : Stmt → Bool
+  stmt_labelled (Stmt.Assign target value) = false
+  stmt_labelled (Stmt.Cell array index value) = false
+  stmt_labelled (Stmt.If test first second) = items_labelled first || items_labelled second
+  stmt_labelled (Stmt.Goto label) = false
+  stmt_labelled (Stmt.Gosub sub) = false
+  stmt_labelled (Stmt.Do kind args) = false
+  stmt_labelled (Stmt.Timer kind timer) = false
+  stmt_labelled Stmt.Trace = false
+
+  -- an item is a label, or has one in it
+  pub item_labelled : Item → Bool
+  item_labelled (Item.Label name line) = true
+  item_labelled (Item.Step line what) = stmt_labelled what
+
+  -- one of these items is a label, or has one in it
+  pub items_labelled : Items → Bool
+  items_labelled Items.none = false
+  items_labelled (Items.next item items) = item_labelled item || items_labelled items
+
+-- the stage that is known to be active in a branch: none where a label stands in it, since a jump may come there from elsewhere
+abbrev pub known_in : Option ℤ → Items → Option ℤ
+known_in active items = if items_labelled items then None else active
 
 -- a command in a statement of this line that leads from the second of these stages, where it is given in the first one
 abbrev pub led_from : ℕ → Option ℤ → Option ℤ → List Warned
@@ -48,12 +74,12 @@ module _ (names : List Entry) where
 
   abbrev mutual
     -- the commands in a statement of this line that lead from another stage than the one that the conditions around them ask for,
-    -- of which this is the one around the statement
+    -- of which this is the one around the statement, and behind no label within these conditions
     pub stmt_led : Option ℤ → ℕ → Stmt → List Warned
     stmt_led active line (Stmt.Assign target value) = []
     stmt_led active line (Stmt.Cell array index value) = []
     stmt_led active line (Stmt.If test first second) =
-        items_led (or_else (stage_in test) active) first ++ items_led active second
+        items_led (known_in (or_else (stage_in test) active) first) first ++ items_led (known_in active second) second
     stmt_led active line (Stmt.Goto label) = []
     stmt_led active line (Stmt.Gosub sub) = []
     stmt_led active line (Stmt.Do kind args) = command_told line active kind args

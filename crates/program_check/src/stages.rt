@@ -46,6 +46,52 @@ fn stage_in(checked: &Checked, e: &Expr) -> Option<i32>
     }
 }
 
+// Whether a label stands in one of a statement's branches.
+#[cycle(labels)]
+fn stmt_labelled(what: &Stmt) -> bool
+    ensures { result ≡ stages.stmt_labelled (stmt_of what.now) }
+{
+    match what {
+        Stmt::If { yes, no, .. } => items_labelled(&yes.0) || items_labelled(&no.0),
+        Stmt::Assign { .. }
+        | Stmt::Cell { .. }
+        | Stmt::Goto { .. }
+        | Stmt::Gosub { .. }
+        | Stmt::Do { .. }
+        | Stmt::Timer { .. }
+        | Stmt::Trace => false,
+    }
+}
+
+#[cycle(labels)]
+fn item_labelled(item: &Item) -> bool
+    ensures { result ≡ stages.item_labelled (item_of item.now) }
+{
+    match item {
+        Item::Label { .. } => true,
+        Item::Step { what, .. } => stmt_labelled(what),
+    }
+}
+
+#[cycle(labels)]
+fn items_labelled(items: &[Item]) -> bool
+    ensures { result ≡ stages.items_labelled (items_of items.now) }
+{
+    for item in items {
+        if item_labelled(item) {
+            return true;
+        }
+    }
+    false
+}
+
+// The stage that is known to be active in a branch: none where a jump may come there from elsewhere.
+fn known_in(active: Option<i32>, items: &[Item]) -> Option<i32>
+    ensures { result ≡ stages.known_in active (items_of items.now) }
+{
+    if items_labelled(items) { None } else { active }
+}
+
 // Warns of a command that leads from another stage than the one in which it is given.
 fn warn_of_way(
     line: u32,
@@ -120,9 +166,9 @@ fn warn_of_stmt(
 {
     match what {
         Stmt::If { test, yes, no } => {
-            let inside = or_else(stage_in(checked, test), active);
+            let inside = known_in(or_else(stage_in(checked, test), active), &yes.0);
             warn_of_items(checked, inside, &yes.0, warned)?;
-            warn_of_items(checked, active, &no.0, warned)
+            warn_of_items(checked, known_in(active, &no.0), &no.0, warned)
         }
         Stmt::Do { kind, args } => warn_of_command(checked, line, active, *kind, args, warned),
         Stmt::Assign { .. }
