@@ -19,7 +19,7 @@ use Rattle.report_seen.specs.Drawn.{AreCovered, AreSaid, IsDrawn}
 use Rattle.report_seen.specs.DiagramForm.{IsWindow}
 use Rattle.report_seen.specs.Gathered.{history_of, places_of}
 use Rattle.report_seen.specs.Notes.{stop_of}
-use Rattle.report_seen.proofs.Covering.{cover_whole}
+use Rattle.report_seen.proofs.Covering.{cover_whole, spans_count}
 
 -- these records were read of a log, and are drawn
 pub record HasDrawn (told : Option Contents) (name : List ℕ) (r : LogRecords) (window : Window) (d : Diagram) : Type 0 where
@@ -99,6 +99,7 @@ draw_whole told name old new window d count window_is named one found given same
         chart = rw past at (drawn.drawn.chart (history_of (length (names_of old)) drawn.records) (λ t le. refl));
         stays = rw past at (drawn.drawn.stays (places_of drawn.records) (λ t le. refl));
         fronts = drawn.drawn.fronts;
+        size = spans_count d.covers.items drawn.covers.size;
         covers = cover_whole drawn.records window.from window.to d.covers.items window_is.order long drawn.covers;
         refusals = drawn.drawn.refusals;
         faults = drawn.drawn.faults;

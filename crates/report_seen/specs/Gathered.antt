@@ -79,6 +79,7 @@ pub record IsGathered (names : List (List ℕ)) (records : List Record) (from to
   pub chart : IsChart (history_of (length names) records) (length names) from (to + 1) s.rows
   pub stays : AreSpans (places_of records) from (to + 1) s.stays
   pub fronts : s.fronts ≡ flat_map fronts_in (window_in from to records)
+  pub size : length s.covers ≡ 64
   pub covers : (p : ℕ) → p < 64 → AreSpans (covered_in records p) from (to + 1) (slice_index_or s.covers p [])
   pub refusals : s.refusals ≡ flat_map refusals_in (window_in from to records)
   pub faults : s.faults ≡ flat_map faults_in (window_in from to records)

@@ -1,5 +1,5 @@
 -- What a call answers.
-use Rattle.std.specs.Prelude.{◌≡◌, ℕ, Bool, List, Option, None, Some, MatchOption, Result, Ok, Err, if◌then◌else◌}
+use Rattle.std.specs.Prelude.{◌≡◌, ℕ, Bool, false, List, [], Option, None, Some, MatchOption, Result, Ok, Err, if◌then◌else◌}
 use Rattle.std.specs.Option.{ForSome}
 use Rattle.std.specs.Io.KnownBytes.{append_known}
 use Rattle.sig_io.specs.Draft.{IsCut}
@@ -9,8 +9,8 @@ use Rattle.report_seen.specs.declared.stop.Status.{Status}
 use Rattle.report_seen.specs.declared.stop.Stop.{Stop}
 use Rattle.report_seen.specs.declared.stop.Stop.TheVariants.{Memory, Words, TooManySeconds, ReadFault, WriteFault, Line, LogEnds}
 use Rattle.report_seen.specs.DiagramCall.{IsNoted, status_by}
-use Rattle.log_read.specs.Fields.{names_in}
-use Rattle.log_read.specs.Log.{line_at}
+use Rattle.log_read.specs.Log.{HasEntries}
+use Rattle.log_read.specs.Readings.{records_by}
 use Rattle.log_read.specs.Watchers.{told_lines}
 use Rattle.log_sums.specs.declared.serves.Serve.{Serve}
 use Rattle.log_sums.specs.declared.sums.LogSums.{LogSums}
@@ -53,18 +53,21 @@ pub record IsOfParts (asked : Asked) (each : ℕ) (file : Contents) (text : List
 abbrev pub IsTextOf : Asked → Contents → List ℕ → Type 0
 IsTextOf asked file text = MatchOption asked.each (IsWhole asked file text) (λ each. IsOfParts asked each file text)
 
--- the header of the log names no such group as detectors are said to serve
+-- the header of the log is accepted, and names no such group as detectors are said to serve
 abbrev pub LacksGroup : List ℕ → List (List ℕ) → Type 0
-LacksGroup bytes serves = (names : List (List ℕ)) × ((names_in (line_at (told_lines bytes) 0) ≡ Some names) × (serves_for names serves ≡ None))
+LacksGroup bytes serves =
+    (names : List (List ℕ)) × (HasEntries (records_by false names) 1 (told_lines bytes) 1 [] × (serves_for names serves ≡ None))
 
--- where a call stops: nothing is written, but where the sink fails while the text is written
+-- where a call stops: nothing is written, but where the sink fails while the text is written; a group that is lacking is told before
+-- a line that is refused
 abbrev pub IsStopped : Asked → Contents → Stop → Option (List ℕ) → Option (List ℕ) → Type 0
 IsStopped asked file Memory old new = new ≡ old
 IsStopped asked file Words old new = (new ≡ old) × LacksGroup (file asked.log) asked.serves
 IsStopped asked file TooManySeconds old new = ⊥
 IsStopped asked file ReadFault old new = new ≡ old
 IsStopped asked file WriteFault old new = (text : List ℕ) × IsTextOf asked file text × ((n : ℕ) × IsCut old new n text)
-IsStopped asked file (Line line why) old new = (new ≡ old) × IsUnsummed (file asked.log) (Line line why)
+IsStopped asked file (Line line why) old new =
+    (new ≡ old) × IsUnsummed (file asked.log) (Line line why) × (LacksGroup (file asked.log) asked.serves → ⊥)
 IsStopped asked file (LogEnds last) old new = ⊥
 
 -- what a call gives that asks for this, of files with these contents

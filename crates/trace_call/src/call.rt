@@ -1,12 +1,14 @@
 // The top call.
-ghost use Rattle.std.specs.Prelude.{◌≡◌, OnErr, map, string_bytes};
+ghost use Rattle.std.specs.Prelude.{◌≡◌, OnErr, map, string_bytes, IfErr, true, false, None};
 ghost use Rattle.std.specs.Option.{ForSome};
 ghost use Rattle.sig_io.specs.Draft.{Puts};
 ghost use Rattle.sig_io.specs.Outside.{Rose};
 ghost use Rattle.sig_io.specs.Seen.{seen};
+ghost use Rattle.junction_run.specs.Answers.{may_write};
 ghost use Rattle.junction_run.specs.Stop.{StopsWith};
 ghost use Rattle.junction_run.specs.declared.status.Status.TheVariants as status;
 ghost use Rattle.trace_call.specs.Call.{IsDone, IsTraced, usage_text, version_text};
+ghost use Rattle.trace_call.specs.Form.{form_of};
 ghost use Rattle.trace_call.specs.FormWords.{asked_in};
 ghost use Rattle.trace_call.specs.Notes.{status_of};
 ghost use Rattle.trace_call.specs.Written.{IsWritten};
@@ -103,6 +105,7 @@ fn do_form<'a, F: Files, O: Sink>(
 ) -> Result<(), Stop<'a>>
     ensures done { ForSome (F.told files.old) (λ file.
         IsDone (asked_in form.entry) file result (O.taken out.old) (O.taken out.new)) }
+    ensures unwritten { IfErr result (λ stop. may_write true (status_of stop) ≡ false → O.taken out.new ≡ O.taken out.old) }
     ensures contents_stay { F.told files.new ≡ F.told files.old }
     ensures read { StopsWith status_of status.ReadFault result → Rose (F.faults files.old) (F.faults files.new) }
     ensures write { StopsWith status_of status.WriteFault result → Rose (O.faults out.old) (O.faults out.new) }
@@ -132,6 +135,8 @@ fn do_form<'a, F: Files, O: Sink>(
 ///   became of each command, what the second changed, and its record; nothing where DETECTORS has fewer seconds.
 /// - `trace PROGRAM PUA TIMES INTERGREENS DETECTORS` writes what the TRACE statements of the program print, a line for each call.
 /// - `--help` and `--version` write how it is called, and the version.
+///
+/// No file is touched where the words are no form, and nothing is written before all files but those of detectors are accepted.
 pub fn trace<F: Files, O: Sink, N: Sink>(
     alloc: Global,
     words: &[String],
@@ -144,6 +149,8 @@ pub fn trace<F: Files, O: Sink, N: Sink>(
         (seen (O.taken out.old) (O.taken out.new) (O.faults out.old) (O.faults out.new))
         (seen (N.taken notes.old) (N.taken notes.new) (N.faults notes.old) (N.faults notes.new))
         result }
+    ensures unread { form_of (map string_bytes words.now) ≡ None → files.new ≡ files.old }
+    ensures unwritten { may_write true result ≡ false → O.taken out.new ≡ O.taken out.old }
     ensures contents_stay { F.told files.new ≡ F.told files.old }
 {
     let form = match form_of(words) {

@@ -1,5 +1,5 @@
 // The form `how-ended`.
-ghost use Rattle.std.specs.Prelude.{◌≡◌, ◌++◌, [], ℕ, List, true};
+ghost use Rattle.std.specs.Prelude.{◌≡◌, ◌++◌, [], ℕ, List, true, IfErr, false};
 ghost use Rattle.std.specs.Option.{ForSome};
 ghost use Rattle.sig_io.specs.Outside.{Rose};
 ghost use Rattle.sig_types.specs.Counts.{Counts};
@@ -7,6 +7,7 @@ ghost use Rattle.controller.specs.Past.{Past};
 ghost use Rattle.controller.specs.Controls.{StandsFor, code_of, logic_of, site_of};
 ghost use Rattle.det_stream.specs.Answers.{Gave, Reads, is_live, name_of, second_of};
 ghost use Rattle.det_stream.specs.Stream.{stream_of};
+ghost use Rattle.junction_run.specs.Answers.{may_write};
 ghost use Rattle.junction_run.specs.Played.{IsPlayed, IsWritten};
 ghost use Rattle.junction_run.specs.Stop.{StopsWith, play_status};
 ghost use Rattle.junction_run.specs.declared.status.Status.TheVariants as status;
@@ -75,6 +76,7 @@ pub(crate) fn how_ended<'a, F: Files, O: Sink>(
 ) -> Result<(), Stop<'a>>
     ensures ends { ForSome (F.told files.old) (λ file.
         IsHowEnded (record { run = run_named run.entry; csv = csv }) file result (O.taken out.old) (O.taken out.new)) }
+    ensures unwritten { IfErr result (λ stop. may_write true (status_of stop) ≡ false → O.taken out.new ≡ O.taken out.old) }
     ensures contents_stay { F.told files.new ≡ F.told files.old }
     ensures read { StopsWith status_of status.ReadFault result → Rose (F.faults files.old) (F.faults files.new) }
     ensures write { StopsWith status_of status.WriteFault result → Rose (O.faults out.old) (O.faults out.new) }

@@ -1,5 +1,5 @@
 // The form `lines`.
-ghost use Rattle.std.specs.Prelude.{◌≡◌, ◌≤◌, ◌∷◌, [], ℕ, List, Ok, OnErr, true, length, map, string_bytes};
+ghost use Rattle.std.specs.Prelude.{◌≡◌, ◌≤◌, ◌∷◌, [], ℕ, List, Ok, OnErr, true, length, map, string_bytes, IfErr, false};
 ghost use Rattle.std.specs.Option.{ForSome};
 ghost use Rattle.sig_io.specs.Draft.{Puts};
 ghost use Rattle.sig_io.specs.Outside.{Rose};
@@ -12,6 +12,7 @@ ghost use Rattle.controller.specs.Past.{Site as SiteOf, Past};
 ghost use Rattle.controller.specs.Controls.{StandsFor, code_of, site_of};
 ghost use Rattle.det_stream.specs.Answers.{Gave, Reads, is_live, name_of, second_of};
 ghost use Rattle.det_stream.specs.Stream.{stream_of};
+ghost use Rattle.junction_run.specs.Answers.{may_write};
 ghost use Rattle.junction_run.specs.FormWords.{site_in};
 ghost use Rattle.junction_run.specs.Loading as loading;
 ghost use Rattle.junction_run.specs.Played.{IsPlayed};
@@ -297,6 +298,7 @@ pub(crate) fn lines<'a, F: Files, O: Sink>(
     ensures lines { ForSome (F.told files.old) (λ file.
         IsLines (record { run = run_named run.entry; style = style; added = files_in (map string_bytes added.now) }) file result
         (O.taken out.old) (O.taken out.new)) }
+    ensures unwritten { IfErr result (λ stop. may_write true (status_of stop) ≡ false → O.taken out.new ≡ O.taken out.old) }
     ensures contents_stay { F.told files.new ≡ F.told files.old }
     ensures read { StopsWith status_of status.ReadFault result → Rose (F.faults files.old) (F.faults files.new) }
     ensures write { StopsWith status_of status.WriteFault result → Rose (O.faults out.old) (O.faults out.new) }

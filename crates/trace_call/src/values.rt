@@ -1,5 +1,5 @@
 // The form `values`.
-ghost use Rattle.std.specs.Prelude.{◌≡◌, ◌≤◌, ◌++◌, [], ℕ, List, true, length, map, string_bytes};
+ghost use Rattle.std.specs.Prelude.{◌≡◌, ◌≤◌, ◌++◌, [], ℕ, List, true, length, map, string_bytes, IfErr, false};
 ghost use Rattle.std.specs.Option.{ForSome};
 ghost use Rattle.sig_io.specs.Outside.{Rose};
 ghost use Rattle.sig_types.specs.Counts.{Counts};
@@ -10,6 +10,7 @@ ghost use Rattle.controller.specs.Past.{Past};
 ghost use Rattle.controller.specs.Controls.{StandsFor, code_of, logic_of, site_of};
 ghost use Rattle.det_stream.specs.Answers.{Gave, Reads, is_live, name_of, second_of};
 ghost use Rattle.det_stream.specs.Stream.{stream_of};
+ghost use Rattle.junction_run.specs.Answers.{may_write};
 ghost use Rattle.junction_run.specs.Played.{IsPlayed, IsWritten};
 ghost use Rattle.junction_run.specs.Stop as stops;
 ghost use Rattle.junction_run.specs.Stop.{StopsWith, play_status};
@@ -152,6 +153,7 @@ fn tell_values<'a, F: Files, O: Sink>(
         IsToldAt site (program_of checked.now.tree) columns.now window.from window.to word.now (stream_of (file word.now))
         result (O.taken out.old) (O.taken out.new)) }
     ensures valid { Valid site.code }
+    ensures unwritten { IfErr result (λ stop. may_write true (stops.status_of stop) ≡ false → O.taken out.new ≡ O.taken out.old) }
     ensures contents_stay { F.told files.new ≡ F.told files.old }
     ensures read { StopsWith stops.status_of status.ReadFault result → Rose (F.faults files.old) (F.faults files.new) }
     ensures write { StopsWith stops.status_of status.WriteFault result → Rose (O.faults out.old) (O.faults out.new) }
@@ -201,6 +203,7 @@ pub(crate) fn values<'a, F: Files, O: Sink>(
     ensures values { ForSome (F.told files.old) (λ file.
         IsValues (record { run = run_named run.entry; names = map string_bytes names.now; first = window.from; last = window.to })
         file result (O.taken out.old) (O.taken out.new)) }
+    ensures unwritten { IfErr result (λ stop. may_write true (status_of stop) ≡ false → O.taken out.new ≡ O.taken out.old) }
     ensures contents_stay { F.told files.new ≡ F.told files.old }
     ensures read { StopsWith status_of status.ReadFault result → Rose (F.faults files.old) (F.faults files.new) }
     ensures write { StopsWith status_of status.WriteFault result → Rose (O.faults out.old) (O.faults out.new) }
