@@ -24,7 +24,8 @@ use Rattle.junction_run.specs.Loading.{AfterSite, IsSource, Playing, Unloaded, p
 use Rattle.junction_run.specs.Records.{records_of}
 use Rattle.junction_run.specs.SafeLogs.{WrittenLogsAreJudgedSafe}
 use Rattle.junction_run.proofs.LoadedRuns.{at_site, site_sound, there}
-use Rattle.laws.specs.AuditAndBreaches.{BothReadTheSame, RunsHaveNoBreach, SafeLogsHaveNoBreach, by_part}
+use Rattle.log_protocol.specs.Came.{unknown_past}
+use Rattle.laws.specs.AuditAndBreaches.{BothReadTheSame, RunsHaveNoBreach, SafeLogsHaveNoBreach}
 
 -- ---- the first second
 
@@ -84,7 +85,7 @@ safe_logs_have_no_breach form none words file site bytes pictures seconds tolera
     let history : IsHistory site.rules.count h =
     subst (λ n. IsHistory n h) (sym sound.count) (log_history groups pictures (sized form site.plan.names (fed_lines bytes) pictures is.0)) in
     let part : drop 1 (take (length h) h) ≡ pictures = ap (drop 1) (take_all (length h) h (omega arith)) in
-    ap (breaches site.rules (by_part tolerance)) (sym part) ∙ none site.rules h 1 (length h) tolerance history safe.0
+    ap (breaches site.rules (unknown_past tolerance)) (sym part) ∙ none site.rules h 1 (length h) tolerance history safe.0
 
 -- ---- a run
 

@@ -47,3 +47,10 @@ mod AuditAndBreaches
 mod WorstCases
 mod LongestRuns
 mod NeighbouringParts
+mod OneShown
+mod OneSums
+mod OneSummed
+mod OneComparison
+mod OneRecord
+mod OneSiteDiagram
+mod CheckAndRun

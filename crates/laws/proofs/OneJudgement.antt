@@ -23,7 +23,7 @@ use Rattle.report_words.specs.declared.stop.JudgeStop.TheVariants as stop
 use Rattle.report_words.specs.Notes.{line_note, note_of, stop_note}
 use Rattle.report_judged.specs.BreachCall as breach
 use Rattle.report_judged.specs.BreachForm as breach_form
-use Rattle.report_judged.specs.BreachesFound.{unknown_past}
+use Rattle.log_protocol.specs.Came.{unknown_past}
 use Rattle.report_judged.specs.BreachesFound as breach_found
 use Rattle.report_judged.specs.RefusalCall as refusal
 use Rattle.report_judged.specs.RefusalForm as refusal_form
@@ -42,11 +42,11 @@ abbrev pub AreAlike : (status other : Status) (note other_note new other_new : O
 AreAlike status other note other_note new other_new = (status ≡ other) × (note ≡ other_note) × (new ≡ other_new)
 
 -- how a call ends whose site is not taken, and its note
-abbrev unsited_status : Unloaded → Status
+abbrev pub unsited_status : Unloaded → Status
 unsited_status (loading.TooLong word) = status.TooLong
 unsited_status (loading.Refused word line reason) = status.Refused
 
-abbrev unsited_note : Unloaded → List ℕ
+abbrev pub unsited_note : Unloaded → List ℕ
 unsited_note (loading.TooLong word) = note_of (word ++ codes ": TooLong")
 unsited_note (loading.Refused word line reason) = line_note word line reason
 
@@ -72,13 +72,13 @@ pub record IsSettled (form : Form) : Type 0 where
   pub apart : (at : Site) (e : Status) (a : List ℕ) (line : ℕ) (why : LogWhy) → form.IsTold at e a → form.IsRefused at line why → ⊥
   pub line : (at : Site) (k l : ℕ) (v w : LogWhy) → form.IsRefused at k v → form.IsRefused at l w → (k ≡ l) × (v ≡ w)
 
-same_site : (o : Result Site Unloaded) (a b : Site) → o ≡ Ok a → o ≡ Ok b → a ≡ b
+pub same_site : (o : Result Site Unloaded) (a b : Site) → o ≡ Ok a → o ≡ Ok b → a ≡ b
 same_site o a b x y = let is : Ok a ≡ Ok b = sym x ∙ y in cc
 
-same_unsited : (o : Result Site Unloaded) (u v : Unloaded) → o ≡ Err u → o ≡ Err v → u ≡ v
+pub same_unsited : (o : Result Site Unloaded) (u v : Unloaded) → o ≡ Err u → o ≡ Err v → u ≡ v
 same_unsited o u v x y = let is : Err u ≡ Err v = sym x ∙ y in cc
 
-sited_or_not : (o : Result Site Unloaded) (a : Site) (u : Unloaded) → o ≡ Ok a → o ≡ Err u → ⊥
+pub sited_or_not : (o : Result Site Unloaded) (a : Site) (u : Unloaded) → o ≡ Ok a → o ≡ Err u → ⊥
 sited_or_not o a u x y = let is : Ok a ≡ Err u = sym x ∙ y in cc
 
 module _ (form : Form) (file : Contents) (settled : IsSettled form) (end other : Status) (note other_note old other_old new other_new : Option (List ℕ))

@@ -1,11 +1,14 @@
 -- What `protocol` tells of a log is one thing.
-use Rattle.std.proofs.Common.{◌≡◌, ◌∙◌, ℕ, Bool, true, false, not, ◌&&◌, if◌then◌else◌, nat_lt, decimal, List, [], ◌∷◌, ◌++◌, codes, length, Option, None, Some, Result, Ok, Err, refl, sym, ap, subst, arith}
+use Rattle.std.proofs.Common.{◌≡◌, ◌∙◌, ℕ, Bool, true, false, not, ◌&&◌, if◌then◌else◌, nat_lt, List, [], ◌∷◌, ◌++◌, codes, length, Option, None, Some, Result, Ok, Err, refl, sym, ap, subst, arith}
 use Rattle.sig_io.specs.Outside.{Contents}
 use Rattle.sig_types.specs.Rules.{Rules}
 use Rattle.sig_types.specs.Turns.{Picture}
 use Rattle.log_judge.specs.declared.protocol.Extremes.{Extremes}
 use Rattle.log_judge.specs.declared.protocol.Kind.{Kind}
 use Rattle.log_judge.specs.declared.protocol.Kind.TheVariants.{Green, Red, RedAmber, Amber}
+use Rattle.judge_text.specs.declared.tick.Tick.{Tick}
+use Rattle.judge_text.specs.declared.tick.Tick.TheVariants.{Second}
+use Rattle.judge_text.specs.Ticks.{ticks_text}
 use Rattle.log_protocol.specs.Came.{came_in, gather}
 use Rattle.log_protocol.specs.declared.text.Style.{Style}
 use Rattle.log_protocol.specs.declared.text.Style.TheVariants.{Lines, Table}
@@ -33,15 +36,15 @@ use Rattle.laws.proofs.OneJudgement.{AreAlike, Ending, Form, IsNoPicture, IsOwn,
 -- ---- a page of no second
 
 -- numbers of what never came
-no_numbers : (style : Style) (first other : ℕ) (x : Extremes) → x.count ≡ 0 → numbers_text style first x ≡ numbers_text style other x
+no_numbers : (tick : Tick) (style : Style) (first other : ℕ) (x : Extremes) → x.count ≡ 0 → numbers_text tick style first x ≡ numbers_text tick style other x
 unfolding numbers_text
-no_numbers Table first other x none = rw none refl
-no_numbers Lines first other x none = rw none refl
+no_numbers tick Table first other x none = rw none refl
+no_numbers tick Lines first other x none = rw none refl
 
-no_rest : (style : Style) (first other needed : ℕ) (x : Extremes) → x.count ≡ 0 → rest_text style first needed x ≡ rest_text style other needed x
+no_rest : (tick : Tick) (style : Style) (first other needed : ℕ) (x : Extremes) → x.count ≡ 0 → rest_text tick style first needed x ≡ rest_text tick style other needed x
 unfolding rest_text
-no_rest Table first other needed x none = ap (λ t. codes "," ++ decimal needed ++ codes "," ++ t ++ codes "\n") (no_numbers Table first other x none)
-no_rest Lines first other needed x none = ap (λ t. codes ": " ++ t ++ codes "; " ++ decimal needed ++ codes " s in the table\n") (no_numbers Lines first other x none)
+no_rest tick Table first other needed x none = ap (λ t. codes "," ++ ticks_text tick needed ++ codes "," ++ t ++ codes "\n") (no_numbers tick Table first other x none)
+no_rest tick Lines first other needed x none = ap (λ t. codes ": " ++ t ++ codes "; " ++ ticks_text tick needed ++ codes " s in the table\n") (no_numbers tick Lines first other x none)
 
 -- nothing came in a log of no second
 no_runs : (kind : Kind) (g : ℕ) → ((came_in []).runs kind g).count ≡ 0
@@ -50,49 +53,49 @@ no_runs kind g = refl
 no_changes : (to from : ℕ) → ((came_in []).changes to from).count ≡ 0
 no_changes to from = refl
 
-no_run_text : (style : Style) (first other : ℕ) (r : Rules) (name : List ℕ) (g : ℕ) (kind : Kind) →
-    run_text style first (came_in []) r name g kind ≡ run_text style other (came_in []) r name g kind
+no_run_text : (tick : Tick) (style : Style) (first other : ℕ) (r : Rules) (name : List ℕ) (g : ℕ) (kind : Kind) →
+    run_text tick style first (came_in []) r name g kind ≡ run_text tick style other (came_in []) r name g kind
 unfolding run_text
-no_run_text style first other r name g kind =
-    ap (λ t. run_label style kind name ++ t) (no_rest style first other (time_of r kind g) ((came_in []).runs kind g) (no_runs kind g))
+no_run_text tick style first other r name g kind =
+    ap (λ t. run_label style kind name ++ t) (no_rest tick style first other (time_of r kind g) ((came_in []).runs kind g) (no_runs kind g))
 
-no_group_text : (style : Style) (first other : ℕ) (r : Rules) (name : List ℕ) (g : ℕ) →
-    group_text style first (came_in []) r name g ≡ group_text style other (came_in []) r name g
+no_group_text : (tick : Tick) (style : Style) (first other : ℕ) (r : Rules) (name : List ℕ) (g : ℕ) →
+    group_text tick style first (came_in []) r name g ≡ group_text tick style other (came_in []) r name g
 unfolding group_text
-no_group_text style first other r name g = λ j.
-    no_run_text style first other r name g Green j ++ no_run_text style first other r name g Red j
-    ++ no_run_text style first other r name g RedAmber j ++ no_run_text style first other r name g Amber j
+no_group_text tick style first other r name g = λ j.
+    no_run_text tick style first other r name g Green j ++ no_run_text tick style first other r name g Red j
+    ++ no_run_text tick style first other r name g RedAmber j ++ no_run_text tick style first other r name g Amber j
 
-no_change_text : (style : Style) (first other : ℕ) (names : List (List ℕ)) (to from : ℕ) (needed : Option ℕ) →
-    change_text style first (came_in []) names to from needed ≡ change_text style other (came_in []) names to from needed
+no_change_text : (tick : Tick) (style : Style) (first other : ℕ) (names : List (List ℕ)) (to from : ℕ) (needed : Option ℕ) →
+    change_text tick style first (came_in []) names to from needed ≡ change_text tick style other (came_in []) names to from needed
 unfolding change_text
-no_change_text style first other names to from None = refl
-no_change_text style first other names to from (Some needed) =
+no_change_text tick style first other names to from None = refl
+no_change_text tick style first other names to from (Some needed) =
     ap (λ t. change_label style (name_at names to) (name_at names from) ++ t)
-    (no_rest style first other needed ((came_in []).changes to from) (no_changes to from))
+    (no_rest tick style first other needed ((came_in []).changes to from) (no_changes to from))
 
 never_all : (c d : Bool) (x y : List ℕ) → (if c && d && not true then x else []) ≡ (if c && d && not true then y else [])
 never_all true true x y = refl
 never_all true false x y = refl
 never_all false d x y = refl
 
-no_greens_text : (style : Style) (first other : ℕ) (names : List (List ℕ)) (r : Rules) (g i : ℕ) →
-    greens_text style first (came_in []) names r g i ≡ greens_text style other (came_in []) names r g i
+no_greens_text : (tick : Tick) (style : Style) (first other : ℕ) (names : List (List ℕ)) (r : Rules) (g i : ℕ) →
+    greens_text tick style first (came_in []) names r g i ≡ greens_text tick style other (came_in []) names r g i
 unfolding greens_text
-no_greens_text style first other names r g i = never_all (nat_lt g i) (is_unlisted r g i) _ _
+no_greens_text tick style first other names r g i = never_all (nat_lt g i) (is_unlisted r g i) _ _
 
-no_head : (style : Style) (first other : ℕ) → head_text style 0 first ≡ head_text style 0 other
+no_head : (tick : Tick) (style : Style) (first other : ℕ) → head_text tick style 0 first ≡ head_text tick style 0 other
 unfolding head_text
-no_head Table first other = refl
-no_head Lines first other = refl
+no_head tick Table first other = refl
+no_head tick Lines first other = refl
 
-empty_page : (style : Style) (first other : ℕ) (names : List (List ℕ)) (r : Rules) → page_text style first names r [] ≡ page_text style other names r []
+empty_page : (tick : Tick) (style : Style) (first other : ℕ) (names : List (List ℕ)) (r : Rules) → page_text tick style first names r [] ≡ page_text tick style other names r []
 unfolding page_text came_text
-empty_page style first other names r = λ j.
-    no_head style first other j
-    ++ (gather (λ g. no_group_text style first other r (name_at names g) g j) (length names)
-    ++ gather (λ to. gather (λ from. no_change_text style first other names to from (r.between from to) j) (length names)) (length names)
-    ++ gather (λ g. gather (λ i. no_greens_text style first other names r g i j) (length names)) (length names))
+empty_page tick style first other names r = λ j.
+    no_head tick style first other j
+    ++ (gather (λ g. no_group_text tick style first other r (name_at names g) g j) (length names)
+    ++ gather (λ to. gather (λ from. no_change_text tick style first other names to from (r.between from to) j) (length names)) (length names)
+    ++ gather (λ g. gather (λ i. no_greens_text tick style first other names r g i j) (length names)) (length names))
 
 -- ---- a page
 
@@ -102,7 +105,7 @@ record IsPage (asked : protocol_form.Asked) (file : Contents) (at : Site) (end :
   pub log : IsPictures Anywhere at.plan.names (file asked.log) pictures None
   pub first : ℕ
   pub first_is : IsFirst Anywhere (file asked.log) pictures first
-  pub text_is : text ≡ page_text asked.style first at.plan.names at.rules pictures
+  pub text_is : text ≡ page_text Second asked.style first at.plan.names at.rules pictures
   pub end_is : end ≡ status.Done
 
 abbrev protocol_by : protocol_form.Asked → Contents → Form
@@ -111,17 +114,17 @@ protocol_by asked file = record { words = asked.site; log = asked.log; IsTold = 
 -- the number of the first second is one where there is a second, and has no part in the page where there is none
 same_page : (asked : protocol_form.Asked) (file : Contents) (at : Site) (pictures : List Picture) (first other : ℕ) →
     IsFirst Anywhere (file asked.log) pictures first → IsFirst Anywhere (file asked.log) pictures other →
-    page_text asked.style first at.plan.names at.rules pictures ≡ page_text asked.style other at.plan.names at.rules pictures
-same_page asked file at [] first other x y = empty_page asked.style first other at.plan.names at.rules
+    page_text Second asked.style first at.plan.names at.rules pictures ≡ page_text Second asked.style other at.plan.names at.rules pictures
+same_page asked file at [] first other x y = empty_page Second asked.style first other at.plan.names at.rules
 same_page asked file at (p ∷ ps) first other x y =
-    ap (λ n. page_text asked.style n at.plan.names at.rules (p ∷ ps)) (x (omega arith) ∙ sym (y (omega arith)))
+    ap (λ n. page_text Second asked.style n at.plan.names at.rules (p ∷ ps)) (x (omega arith) ∙ sym (y (omega arith)))
 
 protocol_settled : OnePictures → (asked : protocol_form.Asked) (file : Contents) → IsSettled (protocol_by asked file)
 protocol_settled one asked file = record {
   one = λ at e f a b x y.
       (let same = one Anywhere at.plan.names (file asked.log) x.pictures y.pictures None None x.log y.log in (
         x.end_is ∙ sym y.end_is,
-        x.text_is ∙ ap (page_text asked.style x.first at.plan.names at.rules) same.0
+        x.text_is ∙ ap (page_text Second asked.style x.first at.plan.names at.rules) same.0
             ∙ same_page asked file at y.pictures x.first y.first (subst (λ ps. IsFirst Anywhere (file asked.log) ps x.first) same.0 x.first_is) y.first_is
             ∙ sym y.text_is,
       ));

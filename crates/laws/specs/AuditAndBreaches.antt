@@ -1,5 +1,5 @@
 -- What `audit` and the form `breaches` say of one log.
-use Rattle.std.specs.Prelude.{◌≡◌, ℕ, false, List, [], ◌∷◌, replicate, Option, None, Ok}
+use Rattle.std.specs.Prelude.{◌≡◌, ℕ, List, [], ◌∷◌, replicate, Option, None, Ok}
 use Rattle.std.specs.Io.KnownBytes.{append_known}
 use Rattle.sig_io.specs.Outside.{Contents}
 use Rattle.sig_types.specs.declared.aspect.Aspect.TheVariants.{Red}
@@ -8,8 +8,8 @@ use Rattle.pua_model.specs.Plan.{groups_in}
 use Rattle.controller.specs.Past.{Site}
 use Rattle.log_read.specs.declared.begin.Begin.TheVariants.{Anywhere, AtOne}
 use Rattle.log_read.specs.Readings.{IsPictures}
-use Rattle.log_judge.specs.declared.find.Terms.{Terms}
 use Rattle.log_judge.specs.Breaches.{breaches}
+use Rattle.log_protocol.specs.Came.{unknown_past}
 use Rattle.sig_audit.specs.declared.verdict.Verdict.TheVariants.{Safe}
 use Rattle.sig_audit.specs.Verdict.{IsVerdict}
 use Rattle.junction_run.specs.declared.status.Status.{Status}
@@ -17,10 +17,6 @@ use Rattle.junction_run.specs.Answer.{Meets}
 use Rattle.junction_run.specs.Form.{Play, SiteWords, Source}
 use Rattle.junction_run.specs.Loading.{LoadsSource, Playing, site_of}
 use Rattle.junction_run.specs.SafeLogs.{CameToAnEnd}
-
--- how the form judges: nothing is known of what was before, and an amber may differ by the tolerance
-abbrev pub by_part : ℕ → Terms
-by_part tolerance = record { rested = false; tolerance = tolerance }
 
 -- a log that `audit` reads to its end the form reads to its end, as the same pictures: wherever logs may begin, it begins with
 -- second 1
@@ -35,7 +31,7 @@ SafeLogsHaveNoBreach =
     (words : SiteWords) (file : Contents) (site : Site) (bytes : List ℕ) (pictures : List Picture) (seconds tolerance : ℕ) →
     site_of words file ≡ Ok site → IsPictures AtOne site.plan.names bytes pictures None →
     IsVerdict site.rules (replicate (groups_in site.plan) Red ∷ pictures) (Safe seconds) →
-    breaches site.rules (by_part tolerance) pictures ≡ []
+    breaches site.rules (unknown_past tolerance) pictures ≡ []
 
 -- so it finds none in what `run` and `exec` write up to the end of the detector file or its first refused line: it reads it to its
 -- end, and the pictures that it reads have no breach
@@ -46,4 +42,4 @@ RunsHaveNoBreach =
     (playing : Playing) × LoadsSource source words file (Ok playing)
     × ((text : List ℕ) × (new ≡ append_known old text)
     × ((pictures : List Picture) × IsPictures Anywhere playing.site.plan.names text pictures None
-    × (breaches playing.site.rules (by_part tolerance) pictures ≡ [])))
+    × (breaches playing.site.rules (unknown_past tolerance) pictures ≡ [])))

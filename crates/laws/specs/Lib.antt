@@ -22,3 +22,7 @@ pub mod AuditAndBreaches
 pub mod WorstCases
 pub mod LongestRuns
 pub mod NeighbouringParts
+pub mod OneShown
+pub mod OneRecord
+pub mod OneSiteDiagram
+pub mod CheckAndRun

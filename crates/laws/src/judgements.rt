@@ -1,5 +1,6 @@
 //! What the forms of `log_report` that judge a log answer is settled by their words and their files.
 ghost use Rattle.laws.specs.OneJudgement.{BreachesHaveOneAnswer, ProtocolHasOneAnswer, RefusalsHaveOneAnswer};
+ghost use Rattle.laws.specs.OneRecord.{RecordsHaveOneAnswer};
 
 use log_read::laws::a_log_has_one_answer;
 
@@ -12,3 +13,8 @@ pub fn judgements_are_one()
 {
     a_log_has_one_answer();
 }
+
+/// So they do of `breaches` and `protocol` of a record in tenths of a second.
+pub fn record_judgements_are_one()
+    ensures { RecordsHaveOneAnswer }
+{}
