@@ -7,7 +7,7 @@ of `cases` beside this script are run. A WORD is a file of cases, or =NAME for t
 must_fail.txt have to fail.
 
 Left out, and told in the last line, is what a program can't be made to do from outside: calls of the library, an output of few
-bytes, and reads and writes that fail, which `tools/test_all.py cases` has."""
+bytes, reads and writes that fail, and how often and in which order it reads and writes, which `tools/test_all.py cases` has."""
 import argparse
 import os
 import re
@@ -23,7 +23,9 @@ OWN = HERE / "cases"
 PROGRAMS = {b"check": "junction_check", b"report": "log_report", b"trace": "junction_trace"}
 WISHES = ("out", "begin", "end", "part", "same")
 # no program can be made to do these from outside
-INNER = {b"calls", b"driven"}
+INNER = {b"calls", b"driven", b"by_live", b"by_net"}
+# parts of which they are not told
+UNSEEN = (b"each", b"asked", b"calls", b"writes")
 FAILING = "must_fail.txt"
 ORDER = "args"
 SECONDS = 120
@@ -71,14 +73,16 @@ def unescaped(line):
 
 
 def lines_told(line):
-    """The bytes of a line of an escaped part: `\\*N LINE` stands for so many lines, with `\\#` for the number of each."""
-    many = re.match(rb"\\\*(\d+) ", line)
+    """The bytes of a line of an escaped part: `\\*N LINE` stands for so many lines, with `\\#` for the number of each, from 0, and
+    `\\+` for the same from 1."""
+    many = re.match(rb"\\\*(\d+)(?: |\Z)", line)
     if not many:
         return unescaped(line)
     line, count = line[many.end() :], int(many[1])
-    if b"\\#" not in line:
+    if not re.search(rb"\\[#+]", line):
         return unescaped(line) * count
-    return b"".join(unescaped(line.replace(b"\\#", str(number).encode())) for number in range(count))
+    numbered = lambda number: line.replace(b"\\#", b"%d" % number).replace(b"\\+", b"%d" % (number + 1))
+    return b"".join(unescaped(numbered(number)) for number in range(count))
 
 
 def files_in(folder):
@@ -117,8 +121,8 @@ def program_of(words):
 
 def is_left_out(case):
     words = case.words()
-    is_by_faults = case.file == FAILING and case.part(b"each") is not None
-    return is_by_faults or case.part(b"room") is not None or bool(words and words[0] in INNER)
+    is_unseen = case.file == FAILING and any(case.part(word) is not None for word in UNSEEN)
+    return is_unseen or case.part(b"room") is not None or bool(words and words[0] in INNER)
 
 
 def first_difference(told, wanted):

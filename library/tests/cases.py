@@ -11,10 +11,10 @@ import sys
 
 
 def texts(repository):
-    """the byte strings of crates/test_texts"""
+    """the byte strings of crates/test_cases"""
     found = {}
     for name in ("programs", "sites"):
-        source = (repository / f"crates/test_texts/src/{name}.rt").read_text()
+        source = (repository / f"crates/test_cases/src/{name}.rt").read_text()
         for constant, text in re.findall(r'pub const (\w+): &\[u8\] = b"(.*?)";', source, re.S):
             text = re.sub(r"\\\n\s*", "", text)
             found[constant] = re.sub(

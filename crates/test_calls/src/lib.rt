@@ -1,9 +1,4 @@
-//! What another program's calls add up to: a log, which the tests compare with the one that `run` writes, and the program
-//! `test_examples` with those of the examples.
+//! What another program's calls add up to: a log, which the cases of `test_told` compare with the one that `run` writes.
 #![tactic(auto)]
 
 pub mod logs;
-#[cfg(test)]
-mod refusals;
-#[cfg(test)]
-mod runs;

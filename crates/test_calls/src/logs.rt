@@ -1,5 +1,5 @@
 // The log that calls add up to.
-ghost use Rattle.std.specs.Prelude.{◌≡◌};
+ghost use Rattle.std.specs.Prelude.{◌≡◌, None};
 ghost use Rattle.junction_run.specs.Form.{word_of};
 ghost use Rattle.junction_run.specs.FormWords.{source_in};
 ghost use Rattle.junction_calls.specs.Loads.{source_name};
@@ -259,6 +259,13 @@ fn play<F: Files>(
     Ok(None)
 }
 
+/// Frees what a handle holds.
+pub fn let_go(alloc: Global, handle: &mut Junction)
+    ensures { handle.new.value ≡ None }
+{
+    let _held = take(handle, alloc);
+}
+
 /// The log of a detector file by calls. None where a text or a line of the detector file is refused.
 pub fn told_log<F: Files>(
     alloc: Global,
@@ -284,7 +291,7 @@ pub fn told_log<F: Files>(
         return Ok(None);
     }
     let log = play(alloc, &mut handle, detectors, files);
-    let _ended = take(&mut handle, alloc);
+    let_go(alloc, &mut handle);
     log
 }
 
@@ -296,8 +303,8 @@ pub fn text_of<F: Files>(alloc: Global, files: &mut F, name: &str) -> Vec<u8> {
     }
 }
 
-/// Whether the log by calls, of a program, a PUA file, times, intergreens and a detector file, is the log that the last file
-/// holds.
+/// Whether the log by calls, of a program or a code, a PUA file, times, intergreens and a detector file, is the log that the last
+/// file holds.
 pub fn tells_log<F: Files>(
     alloc: Global,
     names: &[String],
@@ -310,7 +317,7 @@ pub fn tells_log<F: Files>(
             let times = text_of(alloc, files, times.as_str());
             let intergreens = text_of(alloc, files, intergreens.as_str());
             let texts = Texts {
-                is_code: false,
+                is_code: program.starts_with(b"VAPCODE "),
                 program: &program,
                 plan: &plan,
                 times: &times,

@@ -1,8 +1,9 @@
-//! What the tests of whole runs share: cases over files in memory, files and sinks that watch how they are called or note
-//! their calls in order, and gates in which the actors of a live run wait for one another.
+//! What the tests of whole runs share: programs, plans and tables, cases over them in memory, files and sinks that watch how they are
+//! called, and gates in which the actors of a live run wait for one another.
 #![tactic(auto)]
 
 pub mod cases;
 pub mod gates;
-pub mod noted;
+pub mod programs;
+pub mod sites;
 pub mod watched;

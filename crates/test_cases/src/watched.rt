@@ -14,8 +14,6 @@ pub struct WatchedFiles {
     pub files: MemFiles,
     /// What was noted.
     pub asked: Vec<u8>,
-    /// How many calls there were.
-    pub calls: u32,
 }
 
 impl Files for WatchedFiles {
@@ -24,7 +22,6 @@ impl Files for WatchedFiles {
     ghost faults = { λ m. ⟦<MemFiles as Files>⟧.faults m.files };
 
     fn read_at(&mut self, name: &str, place: u64, buf: &mut [u8]) -> Result<usize, Failed> {
-        self.calls = self.calls.saturating_add(1);
         let first = name.as_bytes().first().copied();
         if let Some(byte) = first
             && self.asked.last().copied() != first
@@ -92,7 +89,6 @@ pub fn failing(
     let files = WatchedFiles {
         files: MemFiles::new(files(alloc, case)?, reads, 1),
         asked: Vec::new(alloc),
-        calls: 0,
     };
     let out = WatchedSink {
         sink: MemSink::new(alloc, case.room, writes)?,

@@ -1,16 +1,16 @@
-//! Tests of the top call over files and sinks in memory that no file of cases can hold: long runs and logs, files of the greatest
-//! size, compiled code, each read and each write failing in turn, and the order of the calls; the system's files, and what is
-//! written in pieces.
+//! Tests of what no file of cases can hold: live runs and several junctions whose actors wait for one another, what differs from run
+//! to run, and each of its calls failing in turn; calls of the library that do nothing; the board of detectors and the cell of
+//! pictures by one thread; files and sinks that never fail, the system's files, and what is written in pieces.
 #![tactic(auto)]
 
 #[cfg(test)]
-mod audits;
+mod boards;
 #[cfg(test)]
-mod codes;
+mod cells;
 #[cfg(test)]
-mod faults;
+mod live_runs;
 #[cfg(test)]
-mod long_logs;
+mod nets;
 #[cfg(test)]
 mod never_failing;
 #[cfg(test)]
@@ -18,8 +18,8 @@ mod outside;
 #[cfg(test)]
 mod pieces;
 #[cfg(test)]
-mod runs;
+mod refusals;
 #[cfg(test)]
-mod samples;
+mod sums;
 #[cfg(test)]
-mod steps;
+mod watched_runs;

@@ -1,76 +1,80 @@
 // The call of a case: its words, its files and what it told.
-ghost use Rattle.std.specs.Prelude.{◌≤◌, None};
-
 use crate::case::{Case, Part, part_of, title_of};
 use crate::programs::call;
-use sig_io::{DiskFiles, Failed, Files, MemFiles, MemSink};
+use crate::watched::{CaseFiles, CaseSink, note_call};
+use sig_io::{DiskFiles, MemFiles, MemSink};
 use std::alloc::{AllocError, Global};
+use std::mem;
+use std::sync::atomic::{AtomicU64, Ordering};
+use std::thread::Threads;
 
-// How many bytes the output takes, and how many a read gives, where a case doesn't say.
+// How many bytes the output takes, and how many a read gives and a write takes, where a case doesn't say.
 const ROOM: usize = 1 << 20;
 
 const PIECE: usize = 65536;
 
+const WHOLE: usize = 1 << 30;
+
 // How many bytes of notes are taken.
 const NOTES: usize = 4096;
 
-/// How a call is made: how many bytes a read gives at most, how many the output takes, and which read or write fails.
+/// The number of a read or a write that never comes.
+pub const NEVER: u64 = u64::MAX;
+
+/// How a call is made: how many bytes a read gives and a write takes at most, how many the output takes, in how many writes the notes
+/// come, which read or write fails, and of which file the reads are counted.
 #[derive(Clone, Copy)]
-pub struct How {
+pub struct How<'a> {
     pub most: usize,
+    pub takes: usize,
     pub room: usize,
-    pub read: Option<u64>,
-    pub write: Option<u64>,
+    pub said: usize,
+    pub read: u64,
+    pub write: u64,
+    pub counted: &'a str,
+    pub reads: &'a AtomicU64,
 }
 
-// The number behind the word of a part.
-fn number_of(parts: &[Part], word: &str, left_out: usize) -> usize {
+/// The number behind the word of a part.
+pub fn number_of(parts: &[Part], word: &str, left_out: usize) -> usize {
     match part_of(parts, word) {
         Some((number, _)) => number.parse::<usize>().unwrap_or(0),
         None => left_out,
     }
 }
 
-/// How the call of a case is made.
-pub fn how_of(case: &Case) -> How {
+/// How the call of a case is made, with a place for the count of reads.
+pub fn how_of<'a>(case: &'a Case, reads: &'a AtomicU64) -> How<'a> {
     How {
         most: number_of(&case.parts, "pieces", PIECE),
+        takes: number_of(&case.parts, "takes", WHOLE),
         room: number_of(&case.parts, "room", ROOM),
-        read: None,
-        write: None,
+        said: number_of(&case.parts, "notes", 1).max(1),
+        read: NEVER,
+        write: NEVER,
+        counted: part_of(&case.parts, "calls").unwrap_or(("", b"")).0,
+        reads,
     }
 }
 
-// The files of a case, and those of the system where a name is none of them.
+/// What a call told: its exit status, what it wrote, its notes, and the files that it asked for.
 #[derive(Drop)]
-struct CaseFiles<'a> {
-    own: MemFiles,
-    disk: DiskFiles<'a, HostRuntime>,
-}
-
-impl<'a> Files for CaseFiles<'a> {
-    ghost told = { λ m. None };
-
-    ghost faults = { λ m. ⟦<DiskFiles<'a, HostRuntime> as Files>⟧.faults m.disk };
-
-    fn read_at(&mut self, name: &str, place: u64, buf: &mut [u8]) -> Result<usize, Failed> {
-        match self.own.read_at(name, place, buf) {
-            Ok(count) => Ok(count),
-            Err(_) => self.disk.read_at(name, place, buf),
-        }
-    }
-}
-
-/// What a call told: its exit status, what it wrote, and its notes.
-#[derive(Drop)]
-pub struct Told {
+pub struct Told<'a> {
     pub status: u8,
-    pub out: MemSink,
+    pub out: CaseSink<'a>,
     pub notes: MemSink,
+    pub asked: String,
+}
+
+impl<'a> Told<'a> {
+    /// What was written.
+    pub fn text(&self) -> &[u8] {
+        self.out.sink.bytes()
+    }
 }
 
 /// Frees what a call told.
-pub fn free_told(_told: Told) {}
+pub fn free_told(_told: Told<'_>) {}
 
 // Frees what a call was given.
 fn free_given(_words: Vec<String>, _files: CaseFiles<'_>) {}
@@ -88,12 +92,10 @@ fn add_files(
     Ok(())
 }
 
-// The numbers of the calls that fail.
-fn failing(alloc: Global, number: Option<u64>) -> Result<Vec<u64>, AllocError> {
+// The number of the one call that fails.
+fn failing(alloc: Global, number: u64) -> Result<Vec<u64>, AllocError> {
     let mut numbers = Vec::new(alloc);
-    if let Some(number) = number {
-        numbers.push(number)?;
-    }
+    numbers.push(number)?;
     Ok(numbers)
 }
 
@@ -102,7 +104,7 @@ fn files_of<'a>(
     rt: &'a HostRuntime,
     base: &Case,
     case: &Case,
-    how: &How,
+    how: &How<'a>,
 ) -> Result<CaseFiles<'a>, AllocError> {
     let alloc = rt.alloc();
     let reads = failing(alloc, how.read)?;
@@ -112,6 +114,9 @@ fn files_of<'a>(
     Ok(CaseFiles {
         own: MemFiles::new(files, reads, how.most.max(1)),
         disk: DiskFiles::new(rt),
+        asked: String::new(alloc),
+        counted: how.counted,
+        reads: how.reads,
     })
 }
 
@@ -139,31 +144,59 @@ fn words_of(alloc: Global, base: &Case, case: &Case) -> Result<Vec<String>, Allo
 }
 
 // A sink of so many bytes, of which the write of that number fails.
-fn sink(alloc: Global, room: usize, number: Option<u64>) -> Result<MemSink, AllocError> {
+fn sink(alloc: Global, room: usize, number: u64) -> Result<MemSink, AllocError> {
     match MemSink::new(alloc, room, failing(alloc, number)?) {
         Ok(sink) => Ok(sink),
         Err(_) => Err(AllocError),
     }
 }
 
-// What these words tell over these files. A note is given to its sink at once: a second write of it fails.
-fn answer(
+// The output of a call of this manner.
+fn watched_sink<'a>(alloc: Global, how: &How<'a>) -> Result<CaseSink<'a>, AllocError> {
+    Ok(CaseSink {
+        sink: sink(alloc, how.room, how.write)?,
+        most: how.takes,
+        writes: 0,
+        has_failed: false,
+        is_late: false,
+        is_noted: !how.counted.is_empty(),
+        calls: Vec::new(alloc),
+        reads: how.reads,
+    })
+}
+
+// What these words tell over these files. A note is given to its sink at once: one write more than the notes fails.
+fn answer<'a, R: Threads + Sync>(
+    threads: &R,
     alloc: Global,
     words: &[String],
     files: &mut CaseFiles<'_>,
-    how: &How,
-) -> Result<Told, AllocError> {
-    let mut out = sink(alloc, how.room, how.write)?;
-    let mut notes = sink(alloc, NOTES, Some(1))?;
-    let status = call(alloc, words, files, &mut out, &mut notes);
-    Ok(Told { status, out, notes })
+    how: &How<'a>,
+) -> Result<Told<'a>, AllocError> {
+    let mut out = watched_sink(alloc, how)?;
+    let mut notes = sink(alloc, NOTES, how.said as u64)?;
+    let status = call(threads, alloc, words, files, &mut out, &mut notes);
+    let _ = note_call(&mut out.calls, how.reads.load(Ordering::SeqCst), b"reads\n");
+    let asked = mem::replace(&mut files.asked, String::new(alloc));
+    Ok(Told {
+        status,
+        out,
+        notes,
+        asked,
+    })
 }
 
 /// What the call of a case tells. What the case leaves out is taken of the base.
-pub fn told_by(rt: &HostRuntime, base: &Case, case: &Case, how: &How) -> Result<Told, AllocError> {
+pub fn told_by<'a, R: Threads + Sync>(
+    rt: &'a HostRuntime,
+    threads: &R,
+    base: &Case,
+    case: &Case,
+    how: &How<'a>,
+) -> Result<Told<'a>, AllocError> {
     let words = words_of(rt.alloc(), base, case)?;
     let mut files = files_of(rt, base, case, how)?;
-    let told = answer(rt.alloc(), &words, &mut files, how);
+    let told = answer(threads, rt.alloc(), &words, &mut files, how);
     free_given(words, files);
     told
 }

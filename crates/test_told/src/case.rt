@@ -7,24 +7,35 @@
 //   words WORDS   the words of the call, further ones on the lines below, one a line: `check` and those of `junction_check`, `report` and
 //                 those of `log_report`, `trace` and those of `junction_trace`, `calls`, the files of a run and a log that the calls of
 //                 the library have to add up to, `driven`, a program, the files of its site and a line for each second that a caller
-//                 decides (`second`, `list`), of which the log is written and the masks that are asked for, or those of `junction`
+//                 decides (`second`, `list`), of which the log is written and the masks that are asked for, `by_live` and `by_net` and
+//                 any words for the calls of these names, or those of `junction`
 //   out STATUS    the exit status, and the whole text that has to be written
 //   begin STATUS, end STATUS, part STATUS
 //                 the exit status, and a text with which what is written has to begin or to end, or that has to stand in it, where
 //                 its last line end doesn't count
 //   same STATUS FILE
 //                 the exit status, and the file with the whole text that has to be written
-//   notes         the whole text of the notes, which is empty where this part is left out
+//   notes, notes N
+//                 the whole text of the notes, which is empty where this part is left out; they come in N writes at most, in one where
+//                 N isn't told
+//   asked NAMES   the files that are asked for, in their order, each once while it is asked for on and on, with a `!` behind it for
+//                 each read that fails
+//   calls FILE    how the call reads and writes: for each write the number of reads of FILE before it, a blank and the text, and at
+//                 the end the number of all these reads, as `9 reads`
+//   writes N      how many writes there are at most
 //   room N        how many bytes the output takes
 //   pieces N      how many bytes a read gives at most
+//   takes N       how many bytes a write takes at most
 //   each read fails STATUS, each write fails STATUS
 //                 the exit status that the call has to end with, whichever one of its reads or writes fails, and a note of it: what is
-//                 written until then is a front of the text of `out`
+//                 written until then is a front of the text of `out`. Behind a status of reads `unwritten` says that nothing is
+//                 written; the files of `asked` are then asked for up to the one that the note of `junction` names, and whole lines are
+//                 written. After a write that failed there is none, and less than all is written; the part's text is the whole note
 //   any other     a file of this name
 //
 // A file that a call asks for and that is none of these is read from the folder. A part whose title begins with a backslash has `\HH`
 // for the byte with these two digits, and a backslash at the end of a line for no line end. There a line `\*N LINE` stands for so
-// many lines, with `\#` for the number of each, from 0.
+// many lines, with `\#` for the number of each, from 0, and `\+` for the same from 1, and `\*N` for so many empty ones.
 use itoa::Buffer;
 use std::alloc::{AllocError, Global};
 
@@ -55,6 +66,11 @@ fn add_escaped(text: &mut Vec<u8>, line: &[u8], number: u32) -> Result<(), Alloc
         match piece {
             [b'#', rest @ ..] if !is_first => {
                 text.extend_from_slice(Buffer::new().format(number).as_bytes())?;
+                text.extend_from_slice(rest)?;
+            }
+            [b'+', rest @ ..] if !is_first => {
+                let next = number.wrapping_add(1);
+                text.extend_from_slice(Buffer::new().format(next).as_bytes())?;
                 text.extend_from_slice(rest)?;
             }
             [high, low, rest @ ..] if !is_first => {

@@ -9,7 +9,7 @@ use junction_calls::{Junction, empty, keep, load_into, take, tell_mask};
 use sig_io::{Files, GrowSink, put_all};
 use signal_log::write_header;
 use std::alloc::{AllocError, Global};
-use test_calls::logs::{NO_REFUSAL, source_of, text_of};
+use test_calls::logs::{NO_REFUSAL, let_go, source_of, text_of};
 
 // Puts the mask of what a handle holds.
 fn put_next(alloc: Global, handle: &mut Junction, told: &mut GrowSink) -> Result<(), AllocError>
@@ -129,7 +129,7 @@ pub fn tell_driven<F: Files>(
     }
     let lines = text_of(alloc, files, lines.as_str());
     let played = play(alloc, &mut handle, &lines, told);
-    let _ended = take(&mut handle, alloc);
+    let_go(alloc, &mut handle);
     played?;
     Ok(true)
 }

@@ -16,6 +16,7 @@ mod masks;
 mod programs;
 mod second;
 mod texts;
+mod watched;
 
 use case::{Case, read_cases};
 use judge::is_met;
@@ -23,13 +24,15 @@ use sig_io::{DiskFiles, OutSink, put_all, read_whole};
 use std::alloc::AllocError;
 use std::env;
 use std::process::ExitCode;
+use std::thread::Threads;
 
 // No file of cases has more bytes.
 const MOST: usize = 1 << 20;
 
 // Runs each case that is asked for, tells of it, and answers how many passed and how many failed.
-fn run(
+fn run<R: Threads + Sync>(
     rt: &HostRuntime,
+    threads: &R,
     cases: &[Case],
     only: &str,
     told: &mut String,
@@ -44,7 +47,7 @@ fn run(
             base = case;
         }
         if case.name.as_str().starts_with(only) {
-            if is_met(rt, base, case, told)? {
+            if is_met(rt, threads, base, case, told)? {
                 passed = passed.saturating_add(1);
             } else {
                 failed = failed.saturating_add(1);
@@ -87,8 +90,9 @@ fn read_all<'a>(
 }
 
 // Reads the cases of the files that the words name, and runs them. Answers whether none failed.
-fn run_words(
+fn run_words<R: Threads + Sync>(
     rt: &HostRuntime,
+    threads: &R,
     words: &[String],
     cases: &mut Vec<Case>,
     told: &mut String,
@@ -96,7 +100,7 @@ fn run_words(
     let Some(only) = read_all(rt, words, cases, told)? else {
         return Ok(false);
     };
-    let (passed, failed) = run(rt, cases, only, told)?;
+    let (passed, failed) = run(rt, threads, cases, only, told)?;
     write!(told, "{passed} passed, {failed} failed\n")?;
     Ok(failed == 0)
 }
@@ -105,14 +109,18 @@ fn run_words(
 fn free_read(_words: Vec<String>, _cases: Vec<Case>) {}
 
 // Runs the cases that the words of the program ask for. Answers whether none failed.
-fn run_all(rt: &HostRuntime, told: &mut String) -> Result<bool, AllocError> {
+fn run_all<R: Threads + Sync>(
+    rt: &HostRuntime,
+    threads: &R,
+    told: &mut String,
+) -> Result<bool, AllocError> {
     let Ok(args) = env::args(rt) else {
         write!(told, "the words can't be read\n")?;
         return Ok(false);
     };
     let words: Vec<String> = args.skip(1).collect(rt.alloc())?;
     let mut cases = Vec::new(rt.alloc());
-    let none_failed = run_words(rt, &words, &mut cases, told);
+    let none_failed = run_words(rt, threads, &words, &mut cases, told);
     free_read(words, cases);
     none_failed
 }
@@ -120,7 +128,7 @@ fn run_all(rt: &HostRuntime, told: &mut String) -> Result<bool, AllocError> {
 fn main(rt: HostRuntime) -> ExitCode {
     let stdout = rt.stdout();
     let mut told = String::new(rt.alloc());
-    let are_met = run_all(&rt, &mut told);
+    let are_met = run_all(&rt, &rt, &mut told);
     let put = put_all(&mut OutSink::new(&stdout), told.as_bytes());
     match (are_met, put) {
         (Ok(true), Ok(())) => ExitCode::from(0),

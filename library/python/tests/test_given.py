@@ -278,6 +278,9 @@ class ManySeconds(unittest.TestCase):
             while worker.is_alive():
                 try:
                     c.step()
+                    if busy:
+                        # the seconds are made, and the worker reads them
+                        break
                 except Busy:
                     busy += 1
             worker.join()

@@ -4,10 +4,10 @@ use junction_run::Status;
 use sig_io::FreeGate;
 use sig_types::text::{cut_at, number, strip};
 use std::test::Fail;
-use test_cases::cases::{Case, DONE, REARS_AHEAD_RUN};
+use test_cases::cases::{Case, DONE};
 use test_cases::gates::{Call, PairGate};
+use test_cases::sites::TWO_STAGES;
 use test_cases::watched::{Side, failing_calls};
-use test_texts::sites::TWO_STAGES;
 
 // The words of a live run with these watchers.
 const fn watched(watchers: &'static str) -> [&'static str; 7] {
@@ -36,44 +36,6 @@ fn a_watcher_tells_a_second_of_the_log(rt: HostRuntime) -> Result<(), Fail> {
     assert_eq!(rt; status, Status::Done);
     assert!(rt; matches!(sight_in(lines, 2), Some((_, b"RR\n"))));
     assert!(rt; notes.bytes().is_empty());
-    Ok(())
-}
-
-// Without a line of the detector file no second is made while the watchers look.
-#[test]
-fn eight_watchers_see_the_second_before_the_first(rt: HostRuntime) -> Result<(), Fail> {
-    let (status, out, _notes) = play_by(&rt, rt.alloc(), &watched("8"), &DONE, &FreeGate)?;
-    assert_eq!(rt; status, Status::Done);
-    assert!(rt;
-        out.bytes()
-            == b"VAPLOG 1 K1 K2\n1|S1|RR|-|-|-\nWATCH 1 0 RR\nWATCH 2 0 RR\nWATCH 3 0 RR\nWATCH 4 0 RR\nWATCH 5 0 RR\nWATCH 6 0 RR\nWATCH 7 0 RR\nWATCH 8 0 RR\n".as_slice()
-    );
-    Ok(())
-}
-
-#[test]
-fn other_numbers_of_watchers_are_no_form(rt: HostRuntime) -> Result<(), Fail> {
-    for watchers in ["0", "9", "01", "x"] {
-        let (status, out, notes) = play_by(&rt, rt.alloc(), &watched(watchers), &DONE, &FreeGate)?;
-        assert_eq!(rt; status, Status::Words);
-        assert!(rt; out.bytes().is_empty());
-        assert!(rt; notes.bytes() == b"junction: Words\n".as_slice());
-    }
-    Ok(())
-}
-
-#[test]
-fn a_refused_line_writes_nothing_for_watchers(rt: HostRuntime) -> Result<(), Fail> {
-    let (status, out, notes) = play_by(
-        &rt,
-        rt.alloc(),
-        &watched("1"),
-        &REARS_AHEAD_RUN,
-        &FreeGate,
-    )?;
-    assert_eq!(rt; status, Status::RefusedLine);
-    assert!(rt; out.bytes().is_empty());
-    assert!(rt; notes.bytes() == REARS_AHEAD_RUN.note);
     Ok(())
 }
 

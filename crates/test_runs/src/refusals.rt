@@ -1,11 +1,11 @@
-// What calls answer that do nothing.
-use crate::logs::{NO_REFUSAL, source_of};
+// What calls of the library answer that do nothing.
 use junction_calls::{
     DetectorCounts, NamesOf, Refusal, RefusedStage, Told, empty, group_name, load_into,
-    make_second, refused_stage, take, tell_names, variable_value,
+    make_second, refused_stage, tell_names, variable_value,
 };
 use std::alloc::Global;
 use std::test::Fail;
+use test_calls::logs::{NO_REFUSAL, let_go, source_of};
 use test_cases::cases::{Case, DONE, TIMER_RUN};
 
 // So many fronts and rears of detector 1.
@@ -56,18 +56,18 @@ fn loaded(alloc: Global, is_code: bool, case: &Case<'_>) -> (u32, [u8; 40], Refu
         &mut note,
         &mut refusal,
     );
-    let _ended = take(&mut handle, alloc);
+    let_go(alloc, &mut handle);
     (status, note, refusal)
 }
 
+// No program.
 const NO_PROGRAM: Case<'static> = Case {
-    name: "no program",
     program: b"PROGRAM nothing;",
     ..DONE
 };
 
+// No plan, whose note is cut.
 const NO_PLAN: Case<'static> = Case {
-    name: "no plan, whose note is cut",
     plan: b"$SIGNAL_GROUPS\nK1 1\nK1 2\n",
     ..DONE
 };
@@ -135,7 +135,7 @@ fn nothing_is_told_of_what_is_not_there(rt: HostRuntime) -> Result<(), Fail> {
         Some(false)
     );
     assert_eq!(rt; told.second, 77);
-    let _ended = take(&mut handle, alloc);
+    let_go(alloc, &mut handle);
     assert_eq!(rt;
         make_second(&mut handle, alloc, &rears_ahead, &mut told),
         None
@@ -200,6 +200,6 @@ fn variables_are_told(rt: HostRuntime) -> Result<(), Fail> {
     assert_eq!(rt; value, 2);
     assert_eq!(rt; variable_value(&mut handle, alloc, 1, &mut value), 0);
     assert_eq!(rt; value, 7);
-    let _ended = take(&mut handle, alloc);
+    let_go(alloc, &mut handle);
     Ok(())
 }

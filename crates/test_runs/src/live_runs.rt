@@ -6,10 +6,7 @@ use sig_io::{Files, FreeGate, Gate, MemFiles, MemSink, Sink};
 use std::alloc::{AllocError, Global};
 use std::test::Fail;
 use std::thread::Threads;
-use test_cases::cases::{
-    CUT_RUN, Case, DECIMAL_RUN, DONE, FOUR_ARMS_RUN, ONE_WAY_RUN, REARS_AHEAD_RUN, RUN, files,
-    is_log, texts,
-};
+use test_cases::cases::{Case, DONE, FOUR_ARMS_RUN, files, texts};
 use test_cases::gates::{Call, CountGate, PairGate};
 use test_cases::watched::{Side, failing, failing_calls};
 
@@ -122,73 +119,6 @@ fn four_arms_keep_the_sums_of_an_hour(rt: HostRuntime) -> Result<(), Fail> {
     assert_eq!(rt; lines, 3602);
     assert!(rt; sums == file_sums(&traffic));
     assert!(rt; notes.bytes().is_empty());
-    Ok(())
-}
-
-// What is refused, before the header is written.
-const REFUSALS: [(&str, Case<'static>); 4] = [
-    ("a decimal number", DECIMAL_RUN),
-    ("intergreens of one way", ONE_WAY_RUN),
-    (
-        "a rear ahead of its front",
-        Case {
-            records: None,
-            ..REARS_AHEAD_RUN
-        },
-    ),
-    (
-        "a detector that isn't there",
-        Case {
-            detectors: b"65:0:0\n",
-            status: Status::RefusedLine,
-            records: None,
-            note: b"junction: d.txt:1: Unknown\n",
-            ..DONE
-        },
-    ),
-];
-
-// Whether a live run of a case answers otherwise than it must.
-fn fails_live<R: Threads + Sync>(rt: &R, alloc: Global, case: &Case<'_>) -> Result<bool, Fail> {
-    let (status, out, notes) = play(rt, alloc, case, &FreeGate)?;
-    Ok(status != case.status || !is_log(out.bytes(), case.records) || notes.bytes() != case.note)
-}
-
-#[test]
-fn refusals_write_nothing(rt: HostRuntime) -> Result<(), Fail> {
-    for (name, case) in REFUSALS {
-        assert!(rt; !fails_live(&rt, rt.alloc(), &case)?, "{name}");
-    }
-    Ok(())
-}
-
-#[test]
-fn a_log_is_cut_where_the_sink_has_no_room(rt: HostRuntime) -> Result<(), Fail> {
-    assert!(rt; !fails_live(&rt, rt.alloc(), &CUT_RUN)?);
-    Ok(())
-}
-
-// Words that are no form over no files, and the words over all files but the last one.
-const FEW_FILES: [(&[&str], usize, Status, &[u8]); 4] = [
-    (RUN, 0, Status::Words, b"junction: Words\n"),
-    (&["live", "a"], 0, Status::Words, b"junction: Words\n"),
-    (&[], 0, Status::Words, b"junction: Words\n"),
-    (LIVE, 4, Status::ReadFault, b"junction: d.txt: ReadFault\n"),
-];
-
-#[test]
-fn words_are_judged_and_missing_files_told(rt: HostRuntime) -> Result<(), Fail> {
-    let alloc = rt.alloc();
-    for (words, count, wanted, note) in FEW_FILES {
-        let mut held = files(alloc, &DONE)?;
-        held.truncate(count);
-        let mut held = MemFiles::new(held, Vec::new(alloc), 50);
-        let mut out = MemSink::new(alloc, 10, Vec::new(alloc))?;
-        let (status, notes) = live_answer(&rt, alloc, words, &mut held, &mut out, &FreeGate)?;
-        assert_eq!(rt; status, wanted);
-        assert!(rt; out.bytes().is_empty());
-        assert_eq!(rt; notes.bytes(), note);
-    }
     Ok(())
 }
 

@@ -30,31 +30,11 @@ $END\n";
 /// Two groups, which are red in the one stage.
 pub const DARK: &[u8] = b"$SIGNAL_GROUPS\nK1 1\nK2 2\n$STAGES\nS0\n$STARTING_STAGE\nS0\n$END\n";
 
-/// The same with a row of an interstage in which K1 is green too late.
-pub const WRONG_ROWS: &[u8] = b"\
-$SIGNAL_GROUPS\n\
-K1 1\n\
-K2 2\n\
-$STAGES\n\
-S1 K1\n\
-S2 K1 K2\n\
-$STARTING_STAGE\n\
-S1\n\
-$INTERSTAGE\n\
-to_stage 2\n\
-LENGTH 6\n\
-From Stage = S1\n\
-K1 5 127\n\
-k2 4 127\n";
-
 /// The times of two groups.
 pub const TIMES: &[u8] = b"group,min_green,red_amber,amber\nK1,10,1,3\nK2,8,1,3\n";
 
 /// The intergreens of two groups.
 pub const INTERGREENS: &[u8] = b"from,to,seconds\nK1,K2,5\nK2,K1,4\n";
-
-/// Intergreens that lack the way back.
-pub const ONE_WAY: &[u8] = b"from,to,seconds\nK1,K2,5\n";
 
 /// Four arms of two groups each, a stage for each arm, and an interstage of six seconds from each to each other.
 pub const FOUR_ARMS_PLAN: &[u8] = b"\

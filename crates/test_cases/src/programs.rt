@@ -3,53 +3,6 @@
 /// A program without a statement.
 pub const EMPTY: &[u8] = b"PROGRAM e;\nPROG_ENDE: .\n";
 
-/// Green for two groups in conflict, in the fourth second alone.
-pub const BOTH_GREEN: &[u8] = b"\
-PROGRAM c;\n\
-n := n + 1;\n\
-IF n = 4 THEN Sg_green(1); Sg_green(2); END;\n\
-PROG_ENDE: .\n";
-
-/// Green for the one group in the first second, and then for the other.
-pub const TURNS: &[u8] = b"\
-PROGRAM z;\n\
-n := n + 1;\n\
-IF n = 1 THEN Sg_green(1); ELSE Sg_green(2); END;\n\
-PROG_ENDE: .\n";
-
-/// A jump into a branch, with an interstage after it.
-pub const JUMP: &[u8] = b"\
-PROGRAM v; /* a jump into a branch */\n\
-VAP_FREQUENCY 1;\n\
-CONST go = 14;\n\
-S00Z001: n := n + 1;\n\
-S00Z002: IF n = go THEN\n\
-S01Z002:   GOTO S02Z003\n\
-\x20        ELSE\n\
-S01Z003:   IF n > 100 THEN\n\
-S02Z003:     Interstage(1, 2)\n\
-\x20          END\n\
-\x20        END;\n\
-S00Z005: IF n = go THEN\n\
-S01Z005:   INTERSTAGE(1, 2)\n\
-\x20        END;\n\
-PROG_ENDE:   .\n";
-
-/// A fault of each kind but one, each by a detector.
-pub const FAULTS: &[u8] = b"\
-PROGRAM f;\n\
-ARRAY a[2] = [1, 2];\n\
-n := n + 1;\n\
-IF Detection(1) THEN x := 2147483647 + 1; END;\n\
-IF Detection(2) THEN x := 1 / 0; END;\n\
-IF Detection(3) THEN x := a[0]; END;\n\
-IF Detection(4) THEN x := Detection(65); END;\n\
-IF n = 2 THEN Interstage(1, 1); END;\n\
-PROG_ENDE: .\n";
-
-/// A decimal number that is not whole.
-pub const DECIMAL: &[u8] = b"PROGRAM d;\nIF Headway(1) > 2.5 THEN END;\nPROG_ENDE: .\n";
-
 /// A timer that two fronts start.
 pub const TIMER: &[u8] = b"\
 PROGRAM t;\n\
