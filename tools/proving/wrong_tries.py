@@ -9,6 +9,8 @@ import time
 from proving.wrong_edits import PARTS
 from proving.wrong_runs import BAD, NAMES_GONE, REFUSED, SURVIVED, TAKEN_AWAY, UNCLEAR, WEAK, Run
 
+# What is said of a declaration that stands on a refused one.
+PASSED_ON = re.compile(r"\A\d+ declarations? that depends? on ")
 LIMIT = re.compile(r"antt ran out of|outgrew the memory limit|stopped at the step limit")
 
 
@@ -108,6 +110,8 @@ class Tries:
                     name = f"{function.name}_wrong{number}" if number else f"{function.name}_as_is"
                     body = edit.body if edit else text[function.start : function.end]
                     body = re.sub(rf"\bfn {function.name}\b", f"fn {name}", body, count=1)
+                    # (a copy calls into the cycle, and nothing in the cycle calls it)
+                    body = re.sub(r"#\[cycle\([^)]*\)\]\s*", "", body)
                     line = "".join(out).count("\n") + 3
                     out.append(f"\n\n{body}")
                     key = edit.name if edit else (path, function.start)
@@ -262,6 +266,11 @@ class Tries:
                 other, goals = ran.judged(self.crate.name, short)
                 if other == REFUSED:
                     return REFUSED, short, goals
+        if verdict != REFUSED and not edit.function:
+            # (a definition that was changed: the lemmas that speak of it are the crate's own)
+            lemmas = [it for it in ran.errors() if it[0].startswith("proofs/") and not PASSED_ON.search(it[2]) and not NAMES_GONE.search(it[2])]
+            named = [(it[0], re.match(r"`([^`]*)`: ", it[2])) for it in lemmas]
+            return next(((REFUSED, file[7:-5], lemma[1]) for file, lemma in named if lemma), (verdict, full, goal))
         return verdict, full, goal
 
     def all(self, edits, until):
