@@ -159,13 +159,15 @@ class Acceptance(unittest.TestCase):
     def test_without_a_breach(self):
         answers = self.folder / "answers"
         answers.mkdir()
-        shutil.copy(GERMAN / "protocol.csv", answers)
+        came = (GERMAN / "protocol.csv").read_text(encoding="ascii")
+        (answers / "protocol.csv").write_text(came + "unknown,,,,2,0.1,9.5,3.0\n", encoding="ascii")
         head = (GERMAN / "breaches.csv").read_text(encoding="ascii").split("\n")[0]
         (answers / "breaches.csv").write_text(head + "\n", encoding="ascii")
         status, note, file = self.report("report.html", program=self.stand_in(answers=answers))
         self.assertEqual((status, note), (0, ""))
         text = file.read_text(encoding="utf-8")
         self.assertIn("<strong>No breach of the tables.</strong>", text)
+        self.assertIn("Nothing is known in 2 stretches: the shortest has 0.1 s and was over at 9.5 s, the longest has 3.0 s.", text)
         self.assertNotIn("<figure>", text)
 
     def test_what_the_program_refuses_is_told(self):

@@ -66,6 +66,18 @@ log_report 0.1.0
 --- out 0
 b
 --- each read fails 3
+=== report: lines with their numbers, and empty ones
+--- \f
+\*2 \+ of 2
+\*1
+--- words report show f
+--- notes
+shown
+--- asked f
+--- \out 5
+1 of 2
+2 of 2
+
 === report: little room
 --- room 1
 --- out 0
@@ -120,8 +132,8 @@ class Cases(unittest.TestCase):
         return done.returncode, done.stdout, done.stderr
 
     def test_all_pass_as_they_must(self):
-        self.assertEqual(self.call(), (0, "12 passed, 0 failed, 3 left out\n", ""))
-        self.assertEqual(self.call("one"), (0, "8 passed, 0 failed, 2 left out\n", ""))
+        self.assertEqual(self.call(), (0, "13 passed, 0 failed, 3 left out\n", ""))
+        self.assertEqual(self.call("one"), (0, "9 passed, 0 failed, 2 left out\n", ""))
         self.assertEqual(self.call("one.txt", "=report: a"), (0, "4 passed, 0 failed, 0 left out\n", ""))
 
     def test_what_differs_is_told(self):
@@ -135,7 +147,7 @@ class Cases(unittest.TestCase):
             status, told, _ = self.call("one")
             self.assertEqual(status, 1, old)
             self.assertIn(said, told)
-            self.assertTrue(told.endswith("\n7 passed, 1 failed, 2 left out\n"), told)
+            self.assertTrue(told.endswith("\n8 passed, 1 failed, 2 left out\n"), told)
 
     def test_a_case_that_must_fail_and_passes_is_told(self):
         (self.room / "cases" / "must_fail.txt").write_text(FAILING.replace("--- out 1", "--- out 0"), encoding="utf-8")

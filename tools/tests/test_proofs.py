@@ -248,7 +248,7 @@ class AllTests(unittest.TestCase):
     def test_each_crate_of_tests_is_found(self):
         below = test_all.crates_in((test_all.TOP / "crates.txt").read_text(encoding="utf-8"))
         tested = [name for name in below if test_all.has_tests(test_all.CRATES / name)]
-        self.assertGreaterEqual(len(tested), 2)
+        self.assertTrue(tested)
         for name in tested:
             self.assertIn("test_", name)
 
