@@ -269,7 +269,7 @@ class Pages(unittest.TestCase):
         self.assertEqual({str(page.relative_to(TOP)) for page in self.PAGES if page.resolve() not in reached}, set())
 
     # The words of pages, as `wc -w` counts them; all of them are those of docs/, of the examples and of the top. They only fall.
-    WORDS = {"README.md": 2400, "docs/DECISIONS.md": 5000, "docs/proved.md": 5000, "": 73000}
+    WORDS = {"README.md": 2400, "docs/DECISIONS.md": 5000, "docs/proved.md": 5000, "": 64600}
 
     def test_pages_are_short(self):
         self.assertLessEqual((TOP / "README.md").read_text(encoding="utf-8").count("\n"), 160)
